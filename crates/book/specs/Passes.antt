@@ -1,0 +1,41 @@
+-- Passes, and Definition 1 of source document 002 over them.
+use Prim.Native.Nat.{ℕ, _+_}
+use mathlib.Core.List.{List, [], _∷_}
+use mathlib.Core.Bool.{Bool, true, false, cond, _&&_}
+use lib.Dec.{leb, ltb}
+
+-- "its end or open"
+pub data End : Type 0 where
+  stillOpen : End
+  endedAt : ℕ → End
+
+-- "A pass is one bat going by: a key, a weight, a life."
+pub record Pass : Type 0 where
+  pub key : ℕ
+  pub weight : ℕ
+  pub start : ℕ
+  pub end : End
+
+-- "either open or e > t1"
+abbrev pub endsAfter : ℕ → End → Bool
+endsAfter t1 stillOpen = true
+endsAfter t1 (endedAt e) = ltb t1 e
+
+-- Definition 1: records "whose keys are in R and whose time intervals intersect I". "It counts the passes with k1 ≤ key < k2, s < t2, and either open or e > t1"
+abbrev pub meets : ℕ → ℕ → ℕ → ℕ → Pass → Bool
+meets k1 k2 t1 t2 p = leb k1 (p .key) && (ltb (p .key) k2 && (ltb (p .start) t2 && endsAfter t1 (p .end)))
+
+-- The sum of a number over the items that pass a test
+unfoldable pub sumWhere : {A : Type 0} → (A → ℕ) → (A → Bool) → List A → ℕ
+sumWhere f test [] = 0
+sumWhere f test (x ∷ xs) = cond (test x) (f x) 0 + sumWhere f test xs
+
+abbrev pub countWhere : {A : Type 0} → (A → Bool) → List A → ℕ
+countWhere {A} test xs = sumWhere (λ (x : A). 1) test xs
+
+-- "counts the passes .. and sums their weights"
+abbrev pub questionCount : ℕ → ℕ → ℕ → ℕ → List Pass → ℕ
+questionCount k1 k2 t1 t2 passes = countWhere (meets k1 k2 t1 t2) passes
+
+abbrev pub questionSum : ℕ → ℕ → ℕ → ℕ → List Pass → ℕ
+questionSum k1 k2 t1 t2 passes = sumWhere (λ (p : Pass). p .weight) (meets k1 k2 t1 t2) passes

@@ -1,0 +1,1 @@
+// The pass book of document 01, as definitions alone: see specs/.

@@ -1,0 +1,2 @@
+-- Theorems about the command program.
+pub mod StreamLaws

@@ -1,0 +1,3 @@
+-- The command program: document 01, "Commands".
+pub mod Bytes
+pub mod Stream

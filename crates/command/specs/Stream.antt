@@ -1,0 +1,84 @@
+-- The command program, from its whole input to its whole output: document 01, "Commands".
+use Prim.Native.Nat.{ℕ, zero, suc, _+_, _*_}
+use mathlib.Core.List.{List, [], _∷_, _++_}
+use mathlib.Core.Bool.{Bool, cond}
+use lib.ListN.{length, take, drop, replicate}
+use lib.Dec.{ltb, eqb}
+use Rattle.page.specs.Row.{pageWords}
+use Rattle.store.specs.declared.types.Answer.{Answer}
+use Rattle.store.specs.declared.types.Answer.the-variants.{Refused, Opened, Started, Ended, Totals}
+use Rattle.store.specs.Head.{Lent, Store, openedHead}
+use Rattle.store.specs.Answers.{Answered}
+use Rattle.store.specs.Writing.{openStore}
+use Rattle.store.specs.Calls.{Call, start, end, question, perform}
+use Rattle.command.specs.Bytes.{bytesOf, operand}
+
+-- A command byte and how many operand bytes follow it
+pub data Kind : Type 0 where
+  unknown : Kind
+  command : ℕ → (List ℕ → Call) → Kind
+
+-- "01h start: tick 4 bytes, key 2, weight 2."
+abbrev pub startCommand : List ℕ → Call
+startCommand b = start (operand b 0 4) (operand b 4 2) (operand b 6 2)
+
+-- "02h end: tick 4, pass number 4."
+abbrev pub endCommand : List ℕ → Call
+endCommand b = end (operand b 0 4) (operand b 4 4)
+
+-- "03h question: k1 2, k2 2, t1 4, t2 4."
+abbrev pub questionCommand : List ℕ → Call
+questionCommand b = question (operand b 0 2) (operand b 2 2) (operand b 4 4) (operand b 8 4)
+
+abbrev pub kindOf : ℕ → Kind
+kindOf byte =
+    cond (eqb byte 1) (command 8 startCommand) (cond (eqb byte 2) (command 8 endCommand) (cond (eqb byte 3) (command 12 questionCommand) unknown))
+
+-- What a command writes: "00h, pass number 4"; "00h"; "00h, count 8, sum 8, pages opened 1". "A refusal writes its number as one byte."
+abbrev pub written : Answer → List ℕ
+written (Refused n) = bytesOf 1 n
+written Opened = 0 ∷ []
+written (Started n) = 0 ∷ bytesOf 4 n
+written Ended = 0 ∷ []
+written (Totals count sum pages) = 0 ∷ (bytesOf 8 count ++ (bytesOf 8 sum ++ bytesOf 1 pages))
+
+abbrev pub unknownCommand : List ℕ
+unknownCommand = 6 ∷ []
+
+abbrev pub cutShort : List ℕ
+cutShort = 7 ∷ []
+
+-- A command's output, then that of the rest of the input
+abbrev pub thenRest : (Store → List ℕ → List ℕ) → List ℕ → Answered → List ℕ
+thenRest onward rest a = written (a .answer) ++ onward (a .store) rest
+
+abbrev pub runCommand : (Store → List ℕ → List ℕ) → Store → List ℕ → Kind → List ℕ
+runCommand onward s bytes unknown = unknownCommand
+runCommand onward s bytes (command n call) = cond (ltb (length bytes) n) cutShort (thenRest onward (drop n bytes) (perform s (call bytes)))
+
+-- "Input that ends between commands ends the run, with nothing written." "After 6 or 7 nothing more is read."
+-- The first number bounds the commands; an input has no more of them than bytes (StreamLaws).
+unfoldable pub runFor : ℕ → Store → List ℕ → List ℕ
+runFor zero s bytes = []
+runFor (suc n) s [] = []
+runFor (suc n) s (b ∷ bytes) = runCommand (λ (s′ : Store) (rest : List ℕ). runFor n s′ rest) s bytes (kindOf b)
+
+-- "the program's own tables hold 12 pages a tree and 12 roots": all zero, and opened
+abbrev pub programPages : ℕ
+programPages = 12
+
+unfoldable pub programLent : Lent
+programLent =
+    record {
+      startTable = replicate (programPages * pageWords) 0;
+      startRoots = replicate programPages 0;
+      endTable = replicate (programPages * pageWords) 0;
+      endRoots = replicate programPages 0;
+    }
+
+unfoldable pub programStore : Store
+programStore = openStore (record { head = openedHead; lent = programLent }) .store
+
+-- The whole input to the whole output
+unfoldable pub output : List ℕ → List ℕ
+output input = runFor (length input) programStore input

@@ -1,0 +1,1 @@
+// The command program's stream, as definitions alone until the store runs: see specs/.

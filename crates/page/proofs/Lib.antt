@@ -1,0 +1,20 @@
+-- Laws and theorems about one page.
+pub mod Lists
+pub mod Sorted
+pub mod KeyOrderLaws
+pub mod Walk
+pub mod Places
+pub mod Tiling
+pub mod Holding
+pub mod OrderTotals
+pub mod TrueValueSums
+pub mod TrueValueUpTo
+pub mod Tests
+pub mod OrderLaws
+pub mod InsertLaws
+pub mod EntryLaws
+pub mod OrderRowLaws
+pub mod EntryWalks
+pub mod PageReadings
+pub mod EditLaws
+pub mod FreshLaws

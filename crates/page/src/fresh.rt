@@ -1,0 +1,118 @@
+// A page as a value: what a call builds before it writes a page whole.
+use crate::edit::put_row;
+use crate::row::Row;
+use words::Value;
+ghost use mathlib.Core.Path.{_≡_};
+ghost use Prim.Native.Nat.{_+_, _-_, _≤_, _<_};
+ghost use lib.ListN.{length};
+ghost use Rattle.words.specs.Overwrite.{overwrite};
+ghost use Rattle.page.specs.Row.{pageWords, rowLimit};
+ghost use Rattle.page.specs.Fresh.{zeros, newRow, emptyPage, withRow, twoRowRoot, encodePage};
+
+// A page: its header, and the rows in its first `count` places.
+pub struct Page {
+    pub level: u64,
+    pub low: u16,
+    pub high: u16,
+    pub birth: u32,
+    pub count: usize,
+    pub rows: [Row; 64],
+}
+
+// A row born at `birth` and open.
+pub fn new_row(birth: u32, low: u16, high: u16, child: u32, value: Value) -> Row
+    ensures { λ r. ⌜ r ≡ newRow birth low high child value ⌝ }
+{
+    Row {
+        low,
+        high,
+        child,
+        birth,
+        end: 4294967295,
+        value,
+    }
+}
+
+impl Page {
+    // The rows that a page holds.
+    pub const ROWS: usize = 64;
+
+    // The live rows that one new page takes; more go to two pages.
+    pub const COPIED: usize = 40;
+
+    // A page with no row yet.
+    pub fn empty(level: u64, low: u16, high: u16, birth: u32) -> Page
+        ensures { λ r. ⌜ r ≡ emptyPage level low high birth ⌝ }
+    {
+        let none = Row {
+            low: 0,
+            high: 0,
+            child: 0,
+            birth: 0,
+            end: 0,
+            value: Value::zero(),
+        };
+        Page {
+            level,
+            low,
+            high,
+            birth,
+            count: 0,
+            rows: [none; 64],
+        }
+    }
+
+    // The page with one row more.
+    pub fn with_row(mut self, row: Row) -> Page
+        requires { ⌜ self .count < rowLimit ⌝ }
+        ensures { λ r. ⌜ r ≡ withRow self row ⌝ }
+    {
+        let at = self.count;
+        self.rows[at] = row;
+        self.count = at + 1;
+        self
+    }
+
+    // A root over two halves: two rows of value zero, which meet at `middle`.
+    pub fn two_row_root(level: u64, birth: u32, middle: u16, lower: u32, upper: u32) -> Page
+        ensures { λ r. ⌜ r ≡ twoRowRoot level birth middle lower upper ⌝ }
+    {
+        let below = new_row(birth, 0, middle, lower, Value::zero());
+        let above = new_row(birth, middle, 30000, upper, Value::zero());
+        Page::empty(level, 0, 30000, birth)
+            .with_row(below)
+            .with_row(above)
+    }
+
+    // Writes the page whole into the words of its own that it is lent; the words past its rows become zero.
+    pub fn write(self, words: &mut [u64])
+        requires { ⌜ length (now words) ≡ pageWords ⌝ }
+        requires { ⌜ self .count ≤ rowLimit ⌝ }
+        ensures { λ _. ⌜ now (words .exit) ≡ encodePage self ⌝ }
+    {
+        let count = self.count;
+        words[0] = self.level;
+        words[1] = count as u64;
+        words[2] = words::key_range(self.low, self.high);
+        words[3] = self.birth as u64;
+        let mut place: usize = 0;
+        while place < count {
+            let row = self.rows[place];
+            put_row(words, place, row);
+            place += 1;
+        }
+        clear_from(words, 4 + 4 * count);
+    }
+}
+
+// Sets the words from a place on to zero.
+fn clear_from(words: &mut [u64], from: usize)
+    requires { ⌜ from ≤ length (now words) ⌝ }
+    ensures { λ _. ⌜ now (words .exit) ≡ overwrite (now (words .entry)) from (zeros (length (now (words .entry)) - from)) ⌝ }
+{
+    let mut at = from;
+    while at < words.len() {
+        words[at] = 0;
+        at += 1;
+    }
+}

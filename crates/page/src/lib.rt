@@ -1,0 +1,25 @@
+// One page, on its own words: its rows, their key order at a tick, the test of refusal 26, true values, edits of rows, fresh pages.
+// A function here is lent the words of one page and sees no other page.
+mod edit;
+mod fresh;
+mod held;
+mod order;
+mod row;
+mod test;
+
+pub use edit::append_row;
+pub use edit::end_row;
+pub use edit::put_row;
+pub use fresh::Page;
+pub use fresh::new_row;
+pub use held::Held;
+pub use held::read_page;
+pub use order::Place;
+pub use order::find_holding;
+pub use order::holds_each_key_once;
+pub use order::key_order;
+pub use row::Row;
+pub use row::is_live;
+pub use row::row_at;
+pub use test::header_fits;
+pub use test::page_is_sound;

@@ -1,0 +1,43 @@
+// A row of a page: four words, taken apart.
+use words::Value;
+ghost use mathlib.Core.Path.{_≡_};
+ghost use mathlib.Core.Bool.{_&&_};
+ghost use Prim.Native.Nat.{_+_, _*_, _≤_};
+ghost use lib.ListN.{length};
+ghost use lib.Dec.{leb, ltb};
+ghost use Rattle.words.specs.Words.{birthOf, endOf};
+ghost use Rattle.page.specs.Row.{rowStart, rowWords, rowAt};
+
+pub struct Row {
+    pub low: u16,
+    pub high: u16,
+    pub child: u32,
+    pub birth: u32,
+    pub end: u32,
+    pub value: Value,
+}
+
+// The row at a place of the page.
+pub fn row_at(page: &[u64], place: usize) -> Row
+    requires { ⌜ rowStart place + rowWords ≤ length (now page) ⌝ }
+    ensures { λ r. ⌜ r ≡ rowAt (now (page .entry)) (rowStart place) ⌝ }
+{
+    let at = 4 + 4 * place;
+    let keys = page[at];
+    let life = page[at + 1];
+    Row {
+        low: words::low_key(keys),
+        high: words::high_key(keys),
+        child: words::child_page(keys),
+        birth: words::birth_of(life),
+        end: words::end_of(life),
+        value: Value::read(page, at + 2),
+    }
+}
+
+// Whether a row with this word 1 is live at t.
+pub fn is_live(life: u64, t: u32) -> bool
+    ensures { λ r. ⌜ r ≡ (leb (birthOf life) t && ltb t (endOf life)) ⌝ }
+{
+    words::birth_of(life) <= t && t < words::end_of(life)
+}

@@ -1,0 +1,32 @@
+-- Answers in document 01's numbers: "each call ends with a result or a numbered refusal"; "A refusal returns its number and no other field".
+use Prim.Native.Nat.{ℕ, zero, suc}
+use mathlib.Core.List.{List, [], _∷_}
+use Rattle.store.specs.declared.types.Answer.{Answer}
+use Rattle.store.specs.declared.types.Answer.the-variants.{Refused, Opened, Started, Ended, Totals}
+use Rattle.store.specs.Head.{Store}
+
+-- The refusal's number, or 0
+abbrev pub refusalOf : Answer → ℕ
+refusalOf (Refused n) = n
+refusalOf Opened = 0
+refusalOf (Started n) = 0
+refusalOf Ended = 0
+refusalOf (Totals count sum pages) = 0
+
+-- The fields that an answer returns beside that
+abbrev pub fieldsOf : Answer → List ℕ
+fieldsOf (Refused n) = []
+fieldsOf Opened = []
+fieldsOf (Started n) = n ∷ []
+fieldsOf Ended = []
+fieldsOf (Totals count sum pages) = count ∷ (sum ∷ (pages ∷ []))
+
+-- What a call answers and leaves
+pub record Answered : Type 0 where
+  pub answer : Answer
+  pub store : Store
+
+-- Refused, "every lent word and the head are as before", or else as the call does; 0 is no refusal
+abbrev pub unlessRefused : ℕ → Store → Answered → Answered
+unlessRefused zero s done = done
+unlessRefused (suc n) s done = record { answer = Refused (suc n); store = s }

@@ -1,0 +1,96 @@
+-- The head, what the firmware lends, and refusal 20.
+use Prim.Native.Nat.{ℕ, _+_, _*_}
+use mathlib.Core.List.{List, [], _∷_}
+use mathlib.Core.Bool.{Bool, true, _&&_}
+use lib.ListN.{length, take, replicate}
+use lib.Dec.{leb, ltb}
+use Rattle.words.specs.Words.{keyLimit}
+use Rattle.tree.specs.declared.types.TreeUse.{TreeUse}
+use Rattle.tree.specs.Tree.{Tree, wholePages, pageLimit}
+use Rattle.store.specs.declared.types.OpenPass.{OpenPass}
+use Rattle.store.specs.declared.types.Head.{Head}
+
+-- The lent slices: "one tree of starts and one of ends", each a page table and a root list
+pub record Lent : Type 0 where
+  pub startTable : List ℕ
+  pub startRoots : List ℕ
+  pub endTable : List ℕ
+  pub endRoots : List ℕ
+
+-- What a call is handed and what it leaves
+pub record Store : Type 0 where
+  pub head : Head
+  pub lent : Lent
+
+abbrev pub startsTree : Store → Tree
+startsTree s = record { table = s .lent .startTable; roots = s .lent .startRoots; used = s .head .starts }
+
+abbrev pub endsTree : Store → Tree
+endsTree s = record { table = s .lent .endTable; roots = s .lent .endRoots; used = s .head .ends }
+
+-- "Passes are numbered 0, 1, 2 and on as starts are accepted, at most 1,000,000. At most 64 are open together."
+abbrev pub passLimit : ℕ
+passLimit = 1000000
+
+abbrev pub openLimit : ℕ
+openLimit = 64
+
+-- "Weight: .. 1 to 10,000"
+abbrev pub weightLimit : ℕ
+weightLimit = 10000
+
+-- "the open passes in order of opening (number, key, weight, start; unused places zero)"
+abbrev pub openPasses : Head → List OpenPass
+openPasses h = take (h .count) (h .passes)
+
+abbrev pub noPass : OpenPass
+noPass = record { number = 0; key = 0; weight = 0; start = 0 }
+
+-- 20: "an open key or weight beyond its range", open numbers that "reach the number started", "an open start after the last tick"
+abbrev pub passFits : Head → OpenPass → Bool
+passFits h p = ltb (p .key) keyLimit && (leb 1 (p .weight) && (leb (p .weight) weightLimit && (ltb (p .number) (h .started) && leb (p .start) (h .last))))
+
+unfoldable pub passesFit : Head → List OpenPass → Bool
+passesFit h [] = true
+passesFit h (p ∷ ps) = passFits h p && passesFit h ps
+
+-- 20: "open numbers that don't rise"
+abbrev pub risesTo : ℕ → List OpenPass → Bool
+risesTo n [] = true
+risesTo n (p ∷ ps) = ltb n (p .number)
+
+unfoldable pub numbersRise : List OpenPass → Bool
+numbersRise [] = true
+numbersRise (p ∷ ps) = risesTo (p .number) ps && numbersRise ps
+
+-- 20: "no pages or roots used, over 1,000,000 pages used, more pages than the table holds, more roots than pages used or than list words"
+abbrev pub useFits : Tree → Bool
+useFits t =
+    leb 1 (t .used .pages)
+    && (leb 1 (t .used .roots)
+    && (leb (t .used .pages) pageLimit
+    && (leb (t .used .pages) (wholePages (t .table))
+    && (leb (t .used .roots) (t .used .pages)
+    && leb (t .used .roots) (length (t .roots))))))
+
+-- The head fits what is lent with it: no ground for 20
+unfoldable pub headFits : Store → Bool
+headFits s =
+    leb (s .head .count) openLimit
+    && (passesFit (s .head) (openPasses (s .head))
+    && (numbersRise (openPasses (s .head))
+    && (leb (s .head .started) passLimit
+    && (useFits (startsTree s)
+    && useFits (endsTree s)))))
+
+-- The head that opening returns: "the last tick (0 at opening)", no pass started, none open, page 0 and the first root entry of each tree
+abbrev pub openedHead : Head
+openedHead =
+    record {
+      last = 0;
+      started = 0;
+      count = 0;
+      passes = replicate openLimit noPass;
+      starts = record { pages = 1; roots = 1 };
+      ends = record { pages = 1; roots = 1 };
+    }

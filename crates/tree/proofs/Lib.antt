@@ -1,0 +1,2 @@
+-- Theorems about one tree.
+pub mod PathLength

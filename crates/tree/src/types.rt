@@ -1,0 +1,33 @@
+// What a tree's calls take and give.
+use words::Value;
+
+// The pages and the roots that a tree uses.
+pub struct TreeUse {
+    pub pages: u32,
+    pub roots: u32,
+}
+
+// The page of the root for a tick.
+pub enum Root {
+    At(u32),
+    Missing,
+}
+
+// A lookup's answer: the total and the pages opened, or a spoiled page (26).
+pub enum Lookup {
+    Spoiled,
+    Found { value: Value, pages: u32 },
+}
+
+// What entering a point does to the root list.
+pub enum RootChange {
+    Kept,
+    Added,
+    Replaced,
+}
+
+// What entering a point would do: meet a spoiled page (26), or make so many pages and change the root list.
+pub enum Plan {
+    Spoiled,
+    Ready { made: u32, root: RootChange },
+}

@@ -1,0 +1,3 @@
+-- P1 to P8 of document 01, proved of the definitions.
+pub mod Opened
+pub mod Table

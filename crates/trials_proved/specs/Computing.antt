@@ -1,0 +1,42 @@
+-- One name for every shut definition that a trial runs through: a proof that says `unfolding computing` computes with all of them.
+use Rattle.words.specs.Overwrite.{overwrite}
+use Rattle.words.specs.Value.{plus, minus}
+use Rattle.page.specs.Row.{rowsFrom, encodeRows}
+use Rattle.page.specs.KeyOrder.{livePlaced, insertBy, sortBy}
+use Rattle.page.specs.PageTest.{eachKeyOnce}
+use Rattle.page.specs.TrueValue.{totalWhere, first}
+use Rattle.page.specs.Edit.{withRows}
+use Rattle.page.specs.Fresh.{zeros, freshPage}
+use Rattle.tree.specs.Tree.{rootFor}
+use Rattle.tree.specs.Lookup.{lookupFrom, lookup}
+use Rattle.tree.specs.RowSteps.{gainRows, leafRows, relinkRow}
+use Rattle.tree.specs.Overflow.{finishPage}
+use Rattle.tree.specs.Enter.{enterFrom, enterRoot}
+use Rattle.tree.specs.Plan.{descentSound, plan, enter}
+use Rattle.store.specs.Head.{passesFit, numbersRise, headFits}
+use Rattle.store.specs.Refusals.{firstMet}
+use Rattle.store.specs.Writing.{openingRefusal, openStore, startRefusal, startPass, findPass, endRefusal, endPass}
+use Rattle.store.specs.Reading.{lookupRefusal, lookUpStarts, lookUpEnds, questionRefusal, askQuestion}
+use Rattle.store.specs.Calls.{performAll, storeAfter}
+use Rattle.command.specs.Bytes.{numberOf, bytesOf}
+use Rattle.command.specs.Stream.{runFor, programLent, programStore, output}
+
+unfoldable pub pages : Unit {0}
+unfolding overwrite plus minus rowsFrom encodeRows livePlaced insertBy sortBy eachKeyOnce totalWhere first withRows zeros freshPage
+pages = tt
+
+unfoldable pub trees : Unit {0}
+unfolding pages rootFor lookupFrom lookup gainRows leafRows relinkRow finishPage enterFrom enterRoot descentSound plan enter
+trees = tt
+
+unfoldable pub refusals : Unit {0}
+unfolding passesFit numbersRise headFits firstMet openingRefusal startRefusal endRefusal lookupRefusal questionRefusal
+refusals = tt
+
+unfoldable pub calls : Unit {0}
+unfolding trees refusals openStore startPass findPass endPass lookUpStarts lookUpEnds askQuestion performAll storeAfter
+calls = tt
+
+unfoldable pub computing : Unit {0}
+unfolding calls numberOf bytesOf runFor programLent programStore output
+computing = tt

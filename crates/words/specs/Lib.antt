@@ -1,0 +1,5 @@
+-- Words and values: document 01, "Pages and rows".
+pub mod Words
+pub mod Lists
+pub mod Overwrite
+pub mod Value

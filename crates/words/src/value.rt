@@ -1,0 +1,51 @@
+// What a row and a point carry, added modulo 2^64.
+ghost use mathlib.Core.Path.{_≡_};
+ghost use Prim.Native.Nat.{_+_, _≤_};
+ghost use lib.ListN.{length};
+ghost use Rattle.words.specs.Value.{zero, plus, valueAt, encodeValue, valueWords};
+ghost use Rattle.words.specs.Overwrite.{overwrite};
+
+// A count and a weight sum. Whoever uses a value knows only that it has a zero and a sum.
+pub struct Value {
+    pub count: u64,
+    pub sum: u64,
+}
+
+impl Value {
+    // The value of nothing.
+    pub fn zero() -> Value
+        ensures { λ r. ⌜ r ≡ zero ⌝ }
+    {
+        Value { count: 0, sum: 0 }
+    }
+
+    // Both values together.
+    pub fn plus(self, other: Value) -> Value
+        ensures { λ r. ⌜ r ≡ plus self other ⌝ }
+    {
+        Value {
+            count: std::num::wrapping_add_u64(self.count, other.count),
+            sum: std::num::wrapping_add_u64(self.sum, other.sum),
+        }
+    }
+
+    // The value in the words from `at` on.
+    pub fn read(words: &[u64], at: usize) -> Value
+        requires { ⌜ at + valueWords ≤ length (now words) ⌝ }
+        ensures { λ r. ⌜ r ≡ valueAt (now (words .entry)) at ⌝ }
+    {
+        Value {
+            count: words[at],
+            sum: words[at + 1],
+        }
+    }
+
+    // Writes the value into the words from `at` on.
+    pub fn write(self, words: &mut [u64], at: usize)
+        requires { ⌜ at + valueWords ≤ length (now words) ⌝ }
+        ensures { λ _. ⌜ now (words .exit) ≡ overwrite (now (words .entry)) at (encodeValue self) ⌝ }
+    {
+        words[at] = self.count;
+        words[at + 1] = self.sum;
+    }
+}
