@@ -1,2 +1,4 @@
--- Theorems about one tree.
+-- Laws and theorems about one tree.
 pub mod PathLength
+pub mod RootLaws
+pub mod LookupLaws

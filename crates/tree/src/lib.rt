@@ -1,6 +1,10 @@
-// One tree in a lent page table and a lent root list: what its calls take and give. The code comes with the tree's landing.
+// One tree in a lent page table and a lent root list: what its calls take and give, and its lookup.
+mod descent;
+mod roots;
 mod types;
 
+pub use descent::lookup;
+pub use roots::find_root;
 pub use types::Lookup;
 pub use types::Plan;
 pub use types::Root;
