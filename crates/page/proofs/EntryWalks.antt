@@ -1,26 +1,24 @@
 -- What the loops over the entries of an order say of the page's rows.
-use Prim.Native.Nat.{ℕ, suc, _≤_, _<_, _+_}
+use Prim.Native.Nat.{ℕ, _≤_, _+_}
 use native.Mathlib.Omega.{arith}
+use native.Mathlib.Decide.{decLe}
 use mathlib.Core.Path.{_≡_, refl, ap, ap₂, sym, _∙_}
 use mathlib.Core.Bool.{Bool, true, false, cond, _&&_}
-use mathlib.Core.List.{List, [], _∷_, _++_, map}
+use mathlib.Core.List.{List, [], _∷_, map}
 use lib.Dec.{leb, ltb}
-use lib.ListN.{length, take, drop}
-use lib.Seq.{drop-at, length-take-le}
-use borrow.Author.Tests.{leb-true, leb-false, le-ltb, lt-ltb}
+use borrow.Author.Tests.{leb-true, leb-false, le-ltb, lt-ltb, le-leb, lt-leb}
 use Rattle.words.specs.declared.value.Value.{Value}
 use Rattle.words.specs.Value.{zero, plus, valueAt}
 use Rattle.words.proofs.ValueLaws.{Stored, plus-stored, plus-zero, zero-plus, plus-assoc}
-use Rattle.page.specs.declared.row.Row.{Row}
-use Rattle.page.specs.Row.{rowStart, rowsFrom, headerWords, live, holds, rowLimit}
-use Rattle.page.specs.KeyOrder.{Placed, placedLow, placedHigh, keepIf, livePlaced, sortBy, keyOrder}
-use Rattle.page.specs.PageTest.{eachKeyOnce, fitsNext, nextKey, rowsTile}
-use Rattle.page.specs.TrueValue.{Search, none, one, first, totalWhere, rowValue, lowerAt, holdingRow}
-use Rattle.page.specs.Entries.{orderSize, entryOf, entryLow, entryHigh, entryPlace, entryHolds, addUntil, InPage}
+use Rattle.page.specs.Row.{rowStart}
+use Rattle.page.specs.KeyOrder.{Placed, placedLow}
+use Rattle.page.specs.PageTest.{eachKeyOnce, fitsNext, nextKey}
+use Rattle.page.specs.TrueValue.{Search, none, one, first, totalWhere, rowValue}
+use Rattle.page.specs.Entries.{orderSize, entryOf, entryLow, entryHigh, entryPlace, entryCovers, entryHolds, entryAround, addUntil}
 use Rattle.page.proofs.Lists.{All, all-map}
 use Rattle.page.proofs.Sorted.{Sorted}
 use Rattle.page.proofs.OrderTotals.{placedValue}
-use Rattle.page.proofs.EntryLaws.{Seated, seated-low, seated-high, seated-place, order-seated}
+use Rattle.page.proofs.EntryLaws.{Seated, seated-low, seated-place}
 
 -- Where items and their images have the same key ranges, the walk over them is the same
 module _ {A B : Type 0} (lowA highA : A → ℕ) (lowB highB : B → ℕ) (f : A → B) where
@@ -49,6 +47,33 @@ first-map {A} {B} f testA testB (x ∷ xs) h = rw (h .0) (go (testA x) (first-ma
     go : (b : Bool) → first testB (map f xs) ≡ mapSearch f (first testA xs) → cond b (one (f x)) (first testB (map f xs)) ≡ mapSearch f (cond b (one x) (first testA xs))
     go true ih = refl
     go false ih = ih
+
+-- Two tests that agree find the same item
+pub first-same : {A : Type 0} (f g : A → Bool) → ((x : A) → f x ≡ g x) → (xs : List A) → first f xs ≡ first g xs
+first-same f g h xs = ap (λ (test : (_ : _) → Bool). first test xs) (λ i. λ x. h x i)
+
+-- The bounds with which the one search does the work of two
+less-next : (a b : ℕ) → ltb a (b + 1) ≡ leb a b
+less-next a b = go (decLe a b)
+  where
+    go : Dec (a ≤ b) → ltb a (b + 1) ≡ leb a b
+    go (yes h) = lt-ltb a (b + 1) (omega arith) ∙ sym (le-leb a b h)
+    go (no h) = le-ltb a (b + 1) (omega arith) ∙ sym (lt-leb a b (omega arith))
+
+next-at-most : (a b : ℕ) → leb (a + 1) b ≡ ltb a b
+next-at-most a b = go (decLe (a + 1) b)
+  where
+    go : Dec (a + 1 ≤ b) → leb (a + 1) b ≡ ltb a b
+    go (yes h) = le-leb (a + 1) b h ∙ sym (lt-ltb a b (omega arith))
+    go (no h) = lt-leb (a + 1) b (omega arith) ∙ sym (le-ltb a b (omega arith))
+
+pub covers-holds : (k : ℕ) (es : List ℕ) → first (entryCovers (k + 1) (k + 1)) es ≡ first (entryHolds k) es
+covers-holds k es =
+    first-same (entryCovers (k + 1) (k + 1)) (entryHolds k) (λ e. ap₂ _&&_ (less-next (entryLow e) k) (next-at-most k (entryHigh e))) es
+
+pub covers-around : (k : ℕ) (es : List ℕ) → first (entryCovers k (k + 1)) es ≡ first (entryAround k) es
+covers-around k es =
+    first-same (entryCovers k (k + 1)) (entryAround k) (λ e. ap (_&&_ (ltb (entryLow e) k)) (next-at-most k (entryHigh e))) es
 
 -- What a search finds has what all items have
 pub first-has : {A : Type 0} (Q : A → Type 0) (test : A → Bool) (xs : List A) {x : A} → All Q xs → first test xs ≡ one x → Q x

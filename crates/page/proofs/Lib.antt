@@ -18,3 +18,5 @@ pub mod EntryWalks
 pub mod PageReadings
 pub mod EditLaws
 pub mod FreshLaws
+pub mod PageCodec
+pub mod WithRows

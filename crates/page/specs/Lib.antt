@@ -6,3 +6,4 @@ pub mod TrueValue
 pub mod Edit
 pub mod Fresh
 pub mod Entries
+pub mod Survey

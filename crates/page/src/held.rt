@@ -3,11 +3,9 @@ use crate::order::Place;
 use crate::order::entry_low;
 use crate::order::entry_place;
 use crate::order::find_holding;
-use crate::order::holds_each_key_once;
-use crate::order::key_order;
 use crate::row::Row;
 use crate::row::row_at;
-use crate::test::header_fits;
+use crate::test::order_tested;
 use words::Value;
 ghost use mathlib.Core.Path.{_≡_};
 ghost use Prim.Native.Nat.{_+_, _≤_};
@@ -79,13 +77,10 @@ pub fn read_page(page: &[u64], level: u64, low: u16, high: u16, t: u32, k: u16) 
     requires { ⌜ length (now page) ≡ pageWords ⌝ }
     ensures { λ r. ⌜ r ≡ heldIn t k level low high (now (page .entry)) ⌝ }
 {
-    if header_fits(page, level, low, high) {
-        let rows = page[1] as usize;
-        let mut order = [0u64; 67];
-        let start = key_order(page, rows, t, &mut order);
-        if holds_each_key_once(&order, start, low, high) {
-            return held_row(page, &order, start, k);
-        }
+    let mut order = [0u64; 67];
+    let tested = order_tested(page, level, low, high, t, &mut order);
+    match tested {
+        Place::Missing => Held::Spoiled,
+        Place::At(start) => held_row(page, &order, start, k),
     }
-    Held::Spoiled
 }

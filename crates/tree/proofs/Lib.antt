@@ -2,3 +2,6 @@
 pub mod PathLength
 pub mod RootLaws
 pub mod LookupLaws
+pub mod EditSizes
+pub mod EditedRows
+pub mod StepRows

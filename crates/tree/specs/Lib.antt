@@ -6,3 +6,4 @@ pub mod RowSteps
 pub mod Overflow
 pub mod Enter
 pub mod Plan
+pub mod PageEdits

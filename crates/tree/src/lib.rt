@@ -1,5 +1,7 @@
 // One tree in a lent page table and a lent root list: what its calls take and give, and its lookup.
 mod descent;
+mod edits;
+mod entry;
 mod roots;
 mod types;
 
