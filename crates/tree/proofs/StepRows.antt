@@ -66,6 +66,12 @@ found-within t page test = go (first test (keyOrder t (rowsOf page))) refl
     go none e = tt
     go (one x) e = found-seen t page test e .inside
 
+-- The key range of the first new child fits its words
+abbrev pub ChildrenFit : Became → Type 0
+ChildrenFit stays = Unit {0}
+ChildrenFit (copied c) = (c .low < 65536) × (c .high < 65536)
+ChildrenFit (halved c d) = (c .low < 65536) × (c .high < 65536)
+
 module _ (p : Point) (small : p .tick < 4294967296) (narrow : p .key < 65536) (page : List ℕ) where
   module _ (room : rowStart (word page 1 + 1) ≤ length page) where
     gain-go : (s : Search Placed) → rowFrom p (rowsOf page) ≡ s → gainWords (p .tick) (p .value) page (placeFound s) ≡ withRows page (gainIn p (rowsOf page) s)
@@ -159,12 +165,6 @@ module _ (p : Point) (small : p .tick < 4294967296) (narrow : p .key < 65536) (p
     pub after-gain : AfterGain (gainRows p (rowsOf page))
     unfolding gainRows
     after-gain = after-go (rowFrom p (rowsOf page)) refl
-
-  -- Key ranges of children that fit
-  pub ChildrenFit : Became → Type 0
-  ChildrenFit stays = Unit {0}
-  ChildrenFit (copied c) = (c .low < 65536) × (c .high < 65536)
-  ChildrenFit (halved c d) = (c .low < 65536) × (c .high < 65536)
 
   -- Step 7, after step 3
   module _ (room : rowStart (word page 1 + 3) ≤ length page) (x : Placed) (found : rowAround p (rowsOf page) ≡ one x) where
