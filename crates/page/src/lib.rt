@@ -16,6 +16,7 @@ pub use fresh::new_row;
 pub use held::Held;
 pub use held::read_page;
 pub use order::Place;
+pub use order::entry_place;
 pub use order::find_around;
 pub use order::find_from;
 pub use order::find_holding;

@@ -11,7 +11,11 @@ use Rattle.page.specs.declared.row.Row.{Row}
 use Rattle.page.specs.Row.{word, rowAt, rowStart, rowWords}
 use Rattle.page.specs.Edit.{putRow, endRow, appendRow, ended, bornAt}
 use Rattle.page.proofs.PageCodec.{put-length, put-before}
-use Rattle.tree.specs.PageEdits.{replaceWords}
+use Rattle.words.specs.declared.value.Value.{Value}
+use Rattle.page.specs.declared.order.Place.{Place}
+use Rattle.page.specs.declared.order.Place.the-variants.{At, Missing}
+use Rattle.tree.specs.RowSteps.{gained}
+use Rattle.tree.specs.PageEdits.{replaceWords, gainWords, Within, rowIn}
 
 module _ (page : List ℕ) (r : Row) (room : rowStart (word page 1 + 1) ≤ length page) where
   put-fits : rowStart (word page 1) + rowWords ≤ length page
@@ -62,3 +66,9 @@ module _ (page : List ℕ) (place : ℕ) (inside : place < word page 1) (room : 
             rows = omega (arith, end-count t);
             least = omega (arith, end-count t);
           }
+
+-- Step 3 adds at most one row
+pub gain-grown : (t : ℕ) (v : Value) (page : List ℕ) (gain : Place) → Within (word page 1) gain → rowStart (word page 1 + 1) ≤ length page →
+    Grown page (gainWords t v page gain)
+gain-grown t v page Missing inside room = record { size = refl; rows = omega arith; least = omega arith }
+gain-grown t v page (At place) inside room = replace-grown page place inside room t (rowIn page place) (gained v (rowIn page place))

@@ -76,6 +76,16 @@ module _ (t : ℕ) (page : List ℕ) (place : ℕ) (old : Row) (inside : place <
           let l = length-append (set (rowsOf page) place (ended t old)) (bornAt t new ∷ []) in
           omega (arith, length-set (rowsOf page) place (ended t old), count-rows)
 
+  pub replaced-most : (new : Row) (further : List Row) → length (replaceRow t (placedIn place old) new further (rowsOf page)) ≤ word page 1 + 1 + length further
+  replaced-most new further = go (eqb (old .birth) t)
+    where
+      go : (b : Bool) →
+          length (cond b (set (rowsOf page) place new ++ further) (set (rowsOf page) place (ended t old) ++ (bornAt t new ∷ further))) ≤ word page 1 + 1 + length further
+      go true = let l = length-append (set (rowsOf page) place new) further in omega (arith, length-set (rowsOf page) place new, count-rows)
+      go false =
+          let l = length-append (set (rowsOf page) place (ended t old)) (bornAt t new ∷ further) in
+          omega (arith, length-set (rowsOf page) place (ended t old), count-rows)
+
   -- Step 4
   pub replace-is-with : (new : Row) → replaceWords t page place old new ≡ withRows page (replaceRow t (placedIn place old) new [] (rowsOf page))
   replace-is-with new = go (eqb (old .birth) t)

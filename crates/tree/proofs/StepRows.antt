@@ -28,7 +28,7 @@ use Rattle.tree.specs.declared.entry.Became as outcome
 use Rattle.tree.specs.declared.entry.Became.the-variants.{Stays, Copied, Halved}
 use Rattle.tree.specs.RowSteps.{Point, Child, Became, stays, copied, halved, gained, cutAt, linkedTo, replaceRow, rowAround, rowFrom, gainIn, gainRows, cutIn, leafRows, relinkRow}
 use Rattle.tree.specs.PageEdits.{becameOf, childOf, Within, rowIn, replaceWords, gainWords, cutWords, leafWords, linkWords}
-use Rattle.tree.proofs.EditedRows.{placedIn, replace-is-with, replace-and-add, replaced-fits, replaced-length}
+use Rattle.tree.proofs.EditedRows.{placedIn, replace-is-with, replace-and-add, replaced-fits, replaced-length, replaced-most}
 
 -- A row that a search in the key order of a page finds: it stands at its place, and passes the test
 pub record Seen (t : ℕ) (page : List ℕ) (test : Placed → Bool) (x : Placed) : Type 0 where
@@ -66,11 +66,19 @@ found-within t page test = go (first test (keyOrder t (rowsOf page))) refl
     go none e = tt
     go (one x) e = found-seen t page test e .inside
 
--- The key range of the first new child fits its words
+-- The key ranges of new children fit their words
+abbrev pub ChildFits : Child → Type 0
+ChildFits c = (c .low < 65536) × (c .high < 65536)
+
 abbrev pub ChildrenFit : Became → Type 0
 ChildrenFit stays = Unit {0}
-ChildrenFit (copied c) = (c .low < 65536) × (c .high < 65536)
-ChildrenFit (halved c d) = (c .low < 65536) × (c .high < 65536)
+ChildrenFit (copied c) = ChildFits c
+ChildrenFit (halved c d) = ChildFits c × ChildFits d
+
+-- Rows that fit, and are not too many
+pub record RowsFit (most : ℕ) (rows : List Row) : Type 0 where
+  pub fit : All Fits rows
+  pub few : length rows ≤ most
 
 module _ (p : Point) (small : p .tick < 4294967296) (narrow : p .key < 65536) (page : List ℕ) where
   module _ (room : rowStart (word page 1 + 1) ≤ length page) where
@@ -248,5 +256,48 @@ module _ (p : Point) (small : p .tick < 4294967296) (narrow : p .key < 65536) (p
         ∙ over (linkedTo (childOf c) (x .row)) [] (omega arith)
     link-is-with (Halved c d) f =
         replace-and-add (p .tick) mid (x .place) (x .row) mid-inside mid-same (mid-room 1 (omega arith)) (linkedTo (childOf c) (x .row))
-        (newRow (p .tick) (d .low) (d .high) (d .page) zero) small (record { low = f .0; high = f .1; birth = old-fits .birth }) (mid-room 2 (omega arith))
+        (newRow (p .tick) (d .low) (d .high) (d .page) zero) small (record { low = f .0 .0; high = f .0 .1; birth = old-fits .birth }) (mid-room 2 (omega arith))
         ∙ over (linkedTo (childOf c) (x .row)) (newRow (p .tick) (d .low) (d .high) (d .page) zero ∷ []) (omega arith)
+
+    -- what step 7 leaves fits
+    pub link-fits : (became : Became) → ChildrenFit became → RowsFit (word page 1 + 3) (relinkRow (p .tick) x became (gainRows p (rowsOf page)))
+    unfolding relinkRow mid after
+    link-fits stays f = record { fit = gain .fit; few = omega (arith, gain .most) }
+    link-fits (copied c) f =
+        let new : Row = linkedTo c (x .row) in
+        let n : Fits new = record { low = f .0; high = f .1; birth = old-fits .birth } in
+        let a = replaced-fits (p .tick) mid (x .place) (x .row) mid-inside mid-same (mid-room 1 (omega arith)) new [] small n tt in
+        let b = replaced-most (p .tick) mid (x .place) (x .row) mid-inside mid-same (mid-room 1 (omega arith)) new [] in
+        let same = ap (replaceRow (p .tick) x new []) mid-rows in
+        record { fit = rw same at a; few = omega (arith, ap (λ (rs : List Row). length rs) same, mid-count, gain .most) }
+    link-fits (halved c d) f =
+        let new : Row = linkedTo c (x .row) in
+        let second : Row = newRow (p .tick) (d .low) (d .high) (d .page) zero in
+        let n : Fits new = record { low = f .0 .0; high = f .0 .1; birth = old-fits .birth } in
+        let m : Fits second = record { low = f .1 .0; high = f .1 .1; birth = small } in
+        let a = replaced-fits (p .tick) mid (x .place) (x .row) mid-inside mid-same (mid-room 1 (omega arith)) new (second ∷ []) small n (m, tt) in
+        let b = replaced-most (p .tick) mid (x .place) (x .row) mid-inside mid-same (mid-room 1 (omega arith)) new (second ∷ []) in
+        let same = ap (replaceRow (p .tick) x new (second ∷ [])) mid-rows in
+        record { fit = rw same at a; few = omega (arith, ap (λ (rs : List Row). length rs) same, mid-count, gain .most) }
+
+  -- what steps 2 and 3 leave fits
+  pub gain-fits : rowStart (word page 1 + 1) ≤ length page → RowsFit (word page 1 + 1) (gainRows p (rowsOf page))
+  gain-fits room = record { fit = after-gain room .fit; few = after-gain room .most }
+
+  pub leaf-fits : rowStart (word page 1 + 2) ≤ length page → RowsFit (word page 1 + 2) (leafRows p (rowsOf page))
+  unfolding leafRows
+  leaf-fits room = go (rowAround p (rowsOf page)) refl
+    where
+      go : (s : Search Placed) → rowAround p (rowsOf page) ≡ s → RowsFit (word page 1 + 2) (cutIn p (rowsOf page) s)
+      go none e = let g = after-gain (omega arith) in record { fit = g .fit; few = omega (arith, g .most) }
+      go (one x) e =
+          let s = found-seen (p .tick) page (isAround (p .key)) e in
+          let old : Fits (x .row) = rw (← s .same) (row-fits page (rowStart (x .place))) in
+          let new : Row = cutAt (p .key) (x .row) in
+          let upper : Row = newRow (p .tick) (p .key) (x .row .high) 0 (p .value) in
+          let n : Fits new = record { low = old .low; high = narrow; birth = old .birth } in
+          let u : Fits upper = record { low = narrow; high = old .high; birth = small } in
+          record {
+            fit = replaced-fits (p .tick) page (x .place) (x .row) (s .inside) (s .same) (omega arith) new (upper ∷ []) small n (u, tt);
+            few = omega (arith, replaced-most (p .tick) page (x .place) (x .row) (s .inside) (s .same) (omega arith) new (upper ∷ []));
+          }

@@ -6,4 +6,7 @@ pub mod RowSteps
 pub mod Overflow
 pub mod Enter
 pub mod Plan
+pub mod PlanSteps
 pub mod PageEdits
+pub mod SplitWords
+pub mod EnterWords

@@ -13,14 +13,14 @@ ghost use Rattle.tree.specs.RowSteps.{gained, cutAt, linkedTo};
 ghost use Rattle.tree.specs.PageEdits.{replaceWords, gainWords, cutWords, leafWords, linkWords, childOf, Within};
 
 // The row, born at t and open.
-fn born_at(row: Row, t: u32) -> Row
+pub fn born_at(row: Row, t: u32) -> Row
     ensures { λ r. ⌜ r ≡ bornAt t row ⌝ }
 {
     page::new_row(t, row.low, row.high, row.child, row.value)
 }
 
 // The row with a point's value added.
-fn gained_row(row: Row, value: Value) -> Row
+pub fn gained_row(row: Row, value: Value) -> Row
     ensures { λ r. ⌜ r ≡ gained value row ⌝ }
 {
     let own = row.value;
@@ -130,7 +130,10 @@ fn link_halves(page: &mut [u64], place: usize, old: Row, lower: Child, upper: Ch
     ensures { λ _. ⌜ now (page .exit) ≡ linkWords t (now (page .entry)) place old (Became.Halved lower upper) ⌝ }
 {
     replace_row(page, place, old, linked_row(old, lower), t);
-    page::append_row(page, page::new_row(t, upper.low, upper.high, upper.page, Value::zero()));
+    page::append_row(
+        page,
+        page::new_row(t, upper.low, upper.high, upper.page, Value::zero()),
+    );
 }
 
 pub fn link_row(page: &mut [u64], place: usize, old: Row, became: Became, t: u32)

@@ -1,11 +1,15 @@
 // One tree in a lent page table and a lent root list: what its calls take and give, and its lookup.
 mod descent;
 mod edits;
+mod entering;
 mod entry;
+mod planning;
 mod roots;
+mod split;
 mod types;
 
 pub use descent::lookup;
+pub use planning::plan;
 pub use roots::find_root;
 pub use types::Lookup;
 pub use types::Plan;

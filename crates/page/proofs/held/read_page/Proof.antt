@@ -23,18 +23,21 @@ slice-aggregate-held-row c = search needs
 
 held-row-requires : tie.Need-held-row-requires
 held-row-requires c κs = let a = c .before .before .before .before .before .before .before .before .args in
-    let s = tested-sound (a .t) (a .level) (a .low) (a .high) (a .page .now) _ (c .before .before .tested .given .1) (c .before .before .before .before .before .order-tested .ensures) in
+    let s = tested-sound (a .t) (a .level) (a .low) (a .high) (a .page .now) _ (c .before .before .tested .given .1)
+    (c .before .before .before .before .before .order-tested .ensures) in
     let few = sound-few (a .t) (a .level) (a .low) (a .high) (a .page .now) (s .0) in
     let entries-in = in-page (a .page .now) (a .t) (word (a .page .now) 1) (omega (arith, few)) _ (s .1 .entries) (omega (arith, few)) in
     (search needs, (omega (arith, s .1 .room), entries-in))
 
 returns : tie.Need-returns
 returns c = let a = c .before .before .before .before .before .before .args in
-    rw (tested-spoiled (a .t) (a .level) (a .low) (a .high) (a .page .now) _ (c .enum-told .given .1) (c .before .before .before .order-tested .ensures))
+    rw (tested-spoiled (a .t) (a .level) (a .low) (a .high) (a .page .now) _ (c .enum-told .given .1)
+    (c .before .before .before .order-tested .ensures))
 
 returns-2 : tie.Need-returns-2
 returns-2 c = let a = c .before .before .before .before .before .before .before .before .before .args in
-    let s = tested-sound (a .t) (a .level) (a .low) (a .high) (a .page .now) _ (c .before .before .before .tested .given .1) (c .before .before .before .before .before .before .order-tested .ensures) in
+    let s = tested-sound (a .t) (a .level) (a .low) (a .high) (a .page .now) _ (c .before .before .before .tested .given .1)
+    (c .before .before .before .before .before .before .order-tested .ensures) in
     let few = sound-few (a .t) (a .level) (a .low) (a .high) (a .page .now) (s .0) in
     rw (s .0)
     (c .held-row .ensures ∙ held-says (a .page .now) (a .t) (word (a .page .now) 1) (omega (arith, few)) _ (s .1 .entries) (a .k))

@@ -23,7 +23,8 @@ returns : tie.Need-returns
 returns c = let a = c .before .before .before .before .before .before .before .args in
     c .survey-order .ensures
     ∙ survey-says (a .t) (a .k) (a .page .now) _ (c .before .before .before .key-order .result) (search needs)
-    (ordered-by (a .t) (a .page .now) (search needs) _ _ (c .before .before .before .key-order .result) (search needs) (c .before .before .before .key-order .ensures .0) (c .before .before .before .key-order .ensures .1))
+    (ordered-by (a .t) (a .page .now) (search needs) _ _ (c .before .before .before .key-order .result) (search needs)
+    (c .before .before .before .key-order .ensures .0) (c .before .before .before .key-order .ensures .1))
 
 pub survey-page-spec : {M : Type 1} → statement M
 survey-page-spec =

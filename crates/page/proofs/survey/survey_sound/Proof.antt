@@ -26,16 +26,19 @@ slice-aggregate-survey-order c = search needs
 
 survey-order-requires : tie.Need-survey-order-requires
 survey-order-requires c κs = let a = c .before .before .before .before .before .before .before .before .before .args in
-    let s = tested-sound (a .t) (a .level) (a .low) (a .high) (a .page .now) _ (c .before .before .before .tested .given .1) (c .before .before .before .before .before .before .order-tested .ensures) in
+    let s = tested-sound (a .t) (a .level) (a .low) (a .high) (a .page .now) _ (c .before .before .before .tested .given .1)
+    (c .before .before .before .before .before .before .order-tested .ensures) in
     (search needs, omega (arith, s .1 .room))
 
 returns : tie.Need-returns
 returns c = let a = c .before .before .before .before .before .before .args in
-    rw (tested-spoiled (a .t) (a .level) (a .low) (a .high) (a .page .now) _ (c .enum-told .given .1) (c .before .before .before .order-tested .ensures))
+    rw (tested-spoiled (a .t) (a .level) (a .low) (a .high) (a .page .now) _ (c .enum-told .given .1)
+    (c .before .before .before .order-tested .ensures))
 
 returns-2 : tie.Need-returns-2
 returns-2 c = let a = c .before .before .before .before .before .before .before .before .before .before .args in
-    let s = tested-sound (a .t) (a .level) (a .low) (a .high) (a .page .now) _ (c .before .before .before .before .tested .given .1) (c .before .before .before .before .before .before .before .order-tested .ensures) in
+    let s = tested-sound (a .t) (a .level) (a .low) (a .high) (a .page .now) _ (c .before .before .before .before .tested .given .1)
+    (c .before .before .before .before .before .before .before .order-tested .ensures) in
     let few = sound-few (a .t) (a .level) (a .low) (a .high) (a .page .now) (s .0) in
     rw (s .0) (ap Sound (c .survey-order .ensures ∙ survey-says (a .t) (a .k) (a .page .now) _ _ few (s .1)))
 

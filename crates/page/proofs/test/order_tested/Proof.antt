@@ -15,7 +15,8 @@ shared-slice-read-rows c = search needs
 
 key-order-requires : tie.Need-key-order-requires
 key-order-requires c κs = let a = c .before .before .before .before .before .before .args in
-    let fits : headerFits (a .level) (a .low) (a .high) (a .page .now) ≡ true = sym (c .before .before .before .header-fits .ensures) ∙ c .before .before .if1 .taken in
+    let fits : headerFits (a .level) (a .low) (a .high) (a .page .now) ≡ true = sym (c .before .before .before .header-fits .ensures)
+    ∙ c .before .before .if1 .taken in
     let few = few (a .t) (a .level) (a .low) (a .high) (a .page .now) fits in
     (search needs, (omega (arith, few), omega (arith, few)))
 
@@ -27,9 +28,18 @@ same-length c = search needs
 
 returns : tie.Need-returns
 returns c = let a = c .before .before .before .before .before .before .before .before .before .before .before .before .args in
-    let fits : headerFits (a .level) (a .low) (a .high) (a .page .now) ≡ true = sym (c .before .before .before .before .before .before .before .before .before .header-fits .ensures) ∙ c .before .before .before .before .before .before .before .before .if1 .taken in (
-      sym (walked (a .t) (a .level) (a .low) (a .high) (a .page .now) fits (a .order .now) _ (c .before .before .before .before .before .key-order .result) (search needs) (c .before .before .before .before .before .key-order .ensures .0) (c .before .before .before .before .before .key-order .ensures .1)) ∙ sym (c .before .holds-each-key-once .ensures) ∙ c .if2 .taken,
-      ordered (a .t) (a .level) (a .low) (a .high) (a .page .now) fits (a .order .now) _ (c .before .before .before .before .before .key-order .result) (search needs) (c .before .before .before .before .before .key-order .ensures .0) (c .before .before .before .before .before .key-order .ensures .1),
+    let fits : headerFits (a .level) (a .low) (a .high) (a .page .now) ≡ true = sym
+    (c .before .before .before .before .before .before .before .before .before .header-fits .ensures)
+    ∙ c .before .before .before .before .before .before .before .before .if1 .taken in (
+      sym (walked (a .t) (a .level) (a .low) (a .high) (a .page .now) fits (a .order .now) _
+          (c .before .before .before .before .before .key-order .result) (search needs)
+          (c .before .before .before .before .before .key-order .ensures .0)
+          (c .before .before .before .before .before .key-order .ensures .1)) ∙ sym (c .before .holds-each-key-once .ensures)
+          ∙ c .if2 .taken,
+      ordered (a .t) (a .level) (a .low) (a .high) (a .page .now) fits (a .order .now) _
+          (c .before .before .before .before .before .key-order .result) (search needs)
+          (c .before .before .before .before .before .key-order .ensures .0)
+          (c .before .before .before .before .before .key-order .ensures .1),
     )
 
 same-length-2 : tie.Need-same-length-2
@@ -37,8 +47,13 @@ same-length-2 c = search needs
 
 returns-2 : tie.Need-returns-2
 returns-2 c = let a = c .before .before .before .before .before .before .before .before .before .before .before .before .args in
-    let fits : headerFits (a .level) (a .low) (a .high) (a .page .now) ≡ true = sym (c .before .before .before .before .before .before .before .before .before .header-fits .ensures) ∙ c .before .before .before .before .before .before .before .before .if1 .taken in
-    sym (walked (a .t) (a .level) (a .low) (a .high) (a .page .now) fits (a .order .now) _ (c .before .before .before .before .before .key-order .result) (search needs) (c .before .before .before .before .before .key-order .ensures .0) (c .before .before .before .before .before .key-order .ensures .1)) ∙ sym (c .before .holds-each-key-once .ensures) ∙ c .if2 .left
+    let fits : headerFits (a .level) (a .low) (a .high) (a .page .now) ≡ true = sym
+    (c .before .before .before .before .before .before .before .before .before .header-fits .ensures)
+    ∙ c .before .before .before .before .before .before .before .before .if1 .taken in
+    sym (walked (a .t) (a .level) (a .low) (a .high) (a .page .now) fits (a .order .now) _
+    (c .before .before .before .before .before .key-order .result) (search needs)
+    (c .before .before .before .before .before .key-order .ensures .0)
+    (c .before .before .before .before .before .key-order .ensures .1)) ∙ sym (c .before .holds-each-key-once .ensures) ∙ c .if2 .left
 
 returns-3 : tie.Need-returns-3
 returns-3 c = let a = c .before .before .before .before .args in

@@ -18,11 +18,13 @@ enum-told-2 c = search needs
 
 returns : tie.Need-returns
 returns c = let a = c .before .before .before .before .before .before .args in
-    sym (tested-spoiled (a .t) (a .level) (a .low) (a .high) (a .page .now) _ (c .enum-told .given .1) (c .before .before .before .order-tested .ensures))
+    sym (tested-spoiled (a .t) (a .level) (a .low) (a .high) (a .page .now) _ (c .enum-told .given .1)
+    (c .before .before .before .order-tested .ensures))
 
 returns-2 : tie.Need-returns-2
 returns-2 c = let a = c .before .before .before .before .before .before .args in
-    sym (tested-sound (a .t) (a .level) (a .low) (a .high) (a .page .now) _ (c .enum-told2 .given .1) (c .before .before .before .order-tested .ensures) .0)
+    sym (tested-sound (a .t) (a .level) (a .low) (a .high) (a .page .now) _ (c .enum-told2 .given .1)
+    (c .before .before .before .order-tested .ensures) .0)
 
 pub page-is-sound-spec : {M : Type 1} → statement M
 page-is-sound-spec =
