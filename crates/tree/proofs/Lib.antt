@@ -14,6 +14,7 @@ pub mod FinishFacts
 pub mod EnterFacts
 pub mod EnterLaws
 pub mod EnterSteps
+pub mod EnterRootLaws
 pub mod RowCounts
 pub mod ShapeLaws
 pub mod PlanLaws

@@ -10,3 +10,4 @@ pub mod PlanSteps
 pub mod PageEdits
 pub mod SplitWords
 pub mod EnterWords
+pub mod EnterRoot

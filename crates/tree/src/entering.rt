@@ -139,7 +139,7 @@ fn enter_above(
 }
 
 // Enters the point from a page down: the call goes to the child page first, the level falling, and edits this page when it comes back.
-fn enter_from(
+pub fn enter_from(
     table: &mut [u64],
     used: TreeUse,
     level: u64,

@@ -1,14 +1,16 @@
-// One tree in a lent page table and a lent root list: what its calls take and give, and its lookup.
+// One tree in a lent page table and a lent root list: root search, lookup, the plan of an entry, and entering a point.
 mod descent;
 mod edits;
 mod entering;
 mod entry;
+mod growing;
 mod planning;
 mod roots;
 mod split;
 mod types;
 
 pub use descent::lookup;
+pub use growing::enter;
 pub use planning::plan;
 pub use roots::find_root;
 pub use types::Lookup;

@@ -65,7 +65,7 @@ fn gain_first(mut page: Page, value: Value) -> Page
 }
 
 // Writes a page into its own part of the table.
-fn put_page(table: &mut [u64], number: u32, page: Page)
+pub fn put_page(table: &mut [u64], number: u32, page: Page)
     requires { ⌜ (number + 1) * pageWords ≤ length (now table) ⌝ }
     requires { ⌜ page .count ≤ rowLimit ⌝ }
     ensures { λ _. ⌜ now (table .exit) ≡ putPage (now (table .entry)) number (encodePage page) ⌝ }
