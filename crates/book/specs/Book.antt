@@ -1,5 +1,5 @@
 -- The book: "a last tick and a list of passes, each with key, weight, start, and its end or open". It "sees neither head nor slices".
-use Prim.Native.Nat.{ℕ, zero, suc, _+_}
+use Prim.Native.Nat.{ℕ, zero, suc}
 use mathlib.Core.List.{List, [], _∷_, _++_}
 use mathlib.Core.Bool.{Bool, true, false, cond, _||_, not}
 use lib.ListN.{length, getD}

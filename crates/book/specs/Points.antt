@@ -5,7 +5,7 @@ use mathlib.Core.Bool.{Bool, _&&_}
 use lib.Dec.{leb}
 use Rattle.tree.specs.RowSteps.{Point}
 use Rattle.store.specs.Writing.{pointOf}
-use Rattle.book.specs.Passes.{End, stillOpen, endedAt, Pass, sumWhere, countWhere}
+use Rattle.book.specs.Passes.{End, stillOpen, endedAt, Pass, sumWhere}
 
 abbrev pub startPoint : Pass → Point
 startPoint p = pointOf (p .start) (p .key) (p .weight)

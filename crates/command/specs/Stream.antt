@@ -1,8 +1,8 @@
 -- The command program, from its whole input to its whole output: document 01, "Commands".
-use Prim.Native.Nat.{ℕ, zero, suc, _+_, _*_}
+use Prim.Native.Nat.{ℕ, zero, suc, _*_}
 use mathlib.Core.List.{List, [], _∷_, _++_}
-use mathlib.Core.Bool.{Bool, cond}
-use lib.ListN.{length, take, drop, replicate}
+use mathlib.Core.Bool.{cond}
+use lib.ListN.{length, drop, replicate}
 use lib.Dec.{ltb, eqb}
 use Rattle.page.specs.Row.{pageWords}
 use Rattle.store.specs.declared.types.Answer.{Answer}

@@ -1,10 +1,9 @@
 -- A row written, ended or added in a page's words, in the terms of the stores that the code makes.
-use Prim.Native.Nat.{ℕ, zero, suc, _+_, _*_, _/_, _%_, _≤_, _<_}
+use Prim.Native.Nat.{ℕ, suc, _+_, _≤_, _<_}
 use native.Mathlib.Numerals.{add-one}
-use native.Mathlib.Nat.{add-zero}
 use native.Mathlib.Omega.{arith}
 use mathlib.Core.Path.{_≡_, refl, ap, ap₂, sym, _∙_}
-use mathlib.Core.List.{List, [], _∷_, _++_}
+use mathlib.Core.List.{List, [], _∷_}
 use lib.ListN.{length, getD, set, length-set}
 use lib.Seq.{set-getD, getD-set-other}
 use Rattle.words.specs.Words.{rowKeys, lowKey, highKey, childPage, lifeWord, birthOf}
@@ -12,7 +11,7 @@ use Rattle.words.specs.Value.{encodeValue, valueAt, valueWords}
 use Rattle.words.specs.Overwrite.{overwrite}
 use Rattle.words.proofs.OverwriteLaws.{overwrite-sets, overwrite-more, overwrite-one}
 use Rattle.page.specs.declared.row.Row.{Row}
-use Rattle.page.specs.Row.{word, rowAt, rowStart, rowWords, encodeRow}
+use Rattle.page.specs.Row.{word, rowAt, rowStart, rowWords}
 use Rattle.page.specs.Edit.{ended, putRow, endRow, putCount, appendRow}
 
 -- the two words of keys and life, then the value's

@@ -1,18 +1,14 @@
 -- The key order as numbers: an entry gives back the low key, the high key and the place that it was made of, and sorting entries is sorting rows.
-use Prim.Native.Nat.{ℕ, zero, suc, _≤_, _<_, _+_, _-_, _*_}
-use native.Mathlib.Numerals.{sub-one}
+use Prim.Native.Nat.{ℕ, zero, suc, _≤_, _<_, _+_}
 use native.Mathlib.Omega.{arith}
-use mathlib.Core.Path.{_≡_, refl, ap, ap₂, sym, _∙_}
+use mathlib.Core.Path.{_≡_, refl, ap}
 use mathlib.Core.Bool.{Bool, true, false, cond}
-use mathlib.Core.List.{List, [], _∷_, _++_, map}
+use mathlib.Core.List.{List, [], _∷_, map}
 use lib.Dec.{leb}
-use lib.ListN.{length, take, drop, length-map}
-use lib.Seq.{take-at, drop-at, take-append-le, take-take, length-take-le}
-use Rattle.page.specs.declared.row.Row.{Row}
 use Rattle.page.specs.Row.{rowAt, rowStart, rowWords, rowsFrom, live}
 use Rattle.page.specs.KeyOrder.{Placed, placedLow, placedHigh, keepIf, livePlaced, insertBy, sortBy}
-use Rattle.page.specs.Entries.{orderSize, entryOf, entryLow, entryHigh, entryPlace, inserted, orderedStart, orderedRow, placedAt}
-use Rattle.page.proofs.Lists.{All, all-map}
+use Rattle.page.specs.Entries.{orderSize, entryOf, entryLow, entryHigh, entryPlace, placedAt}
+use Rattle.page.proofs.Lists.{All}
 use Rattle.page.proofs.Sorted.{sort-all}
 
 -- A row of a page together with its place, which is below n

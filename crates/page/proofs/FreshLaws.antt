@@ -1,17 +1,17 @@
 -- A page written whole: its header, its rows one behind the other, and zeros up to its end.
-use Prim.Native.Nat.{ℕ, zero, suc, _+_, _-_, _*_, _≤_, _<_}
+use Prim.Native.Nat.{ℕ, _+_, _-_, _*_, _≤_, _<_}
 use native.Mathlib.Numerals.{add-one}
 use native.Mathlib.Omega.{arith}
-use mathlib.Core.Path.{_≡_, refl, ap, ap₂, sym, _∙_}
+use mathlib.Core.Path.{_≡_, refl, ap, sym, _∙_}
 use mathlib.Core.List.{List, [], _∷_, _++_, append-assoc, append-nil}
-use lib.ListN.{length, getD, set, take, replicate, length-append, length-replicate, replicate-append-replicate}
+use lib.ListN.{length, getD, set, take, length-append, length-replicate, replicate-append-replicate}
 use lib.Seq.{take-suc, length-take-le}
 use Rattle.words.specs.Words.{keyRange}
 use Rattle.words.specs.Overwrite.{overwrite}
 use Rattle.words.proofs.OverwriteLaws.{overwrite-none, overwrite-one, overwrite-sets, overwrite-more, overwrite-all, overwrite-length}
 use Rattle.page.specs.declared.row.Row.{Row}
 use Rattle.page.specs.declared.fresh.Page.{Page}
-use Rattle.page.specs.Row.{headerWords, rowWords, rowLimit, rowStart, pageWords, encodeRow, encodeRows}
+use Rattle.page.specs.Row.{rowWords, rowLimit, rowStart, pageWords, encodeRow, encodeRows}
 use Rattle.page.specs.Edit.{putRow}
 use Rattle.page.specs.Fresh.{zeros, freshPage, pageRows, encodePage}
 

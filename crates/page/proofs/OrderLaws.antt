@@ -1,7 +1,7 @@
 -- One law for each way through a loop over the entries of an order, in the loop's own terms: `drop at order` is what is still to be seen.
-use Prim.Native.Nat.{ℕ, _≤_, _<_, _+_, _-_}
+use Prim.Native.Nat.{ℕ, _≤_, _<_, _+_}
 use native.Mathlib.Numerals.{add-one}
-use mathlib.Core.Path.{_≡_, refl, ap, sym, _∙_}
+use mathlib.Core.Path.{_≡_, ap, sym, _∙_}
 use mathlib.Core.Bool.{Bool, true, false}
 use mathlib.Core.List.{List, [], _∷_}
 use lib.Dec.{leb}
@@ -14,7 +14,7 @@ use Rattle.words.specs.Value.{plus, valueAt}
 use Rattle.page.specs.Row.{rowStart}
 use Rattle.page.specs.Entries.{entryLow, entryPlace, addUntil}
 use Rattle.page.specs.PageTest.{fitsNext, nextKey, eachKeyOnce}
-use Rattle.page.specs.TrueValue.{Search, none, one, first}
+use Rattle.page.specs.TrueValue.{none, one, first}
 
 module _ (l : List ℕ) (at : ℕ) where
   pub drop-here : at < length l → drop at l ≡ getD l at 0 ∷ drop (at + 1) l

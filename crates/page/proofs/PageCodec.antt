@@ -1,19 +1,17 @@
 -- Rows written into the words of a page are read back as they were, where their keys and their birth fit their parts of a word.
 -- Rows that were read from words always fit.
-use Prim.Native.Nat.{ℕ, zero, suc, _+_, _*_, _-_, _/_, _%_, _≤_, _<_}
+use Prim.Native.Nat.{ℕ, zero, suc, _+_, _*_, _/_, _%_, _≤_, _<_}
 use native.Mathlib.Omega.{arith}
-use mathlib.Core.Path.{_≡_, refl, sym, ap, ap₂, _∙_}
-use mathlib.Core.List.{List, [], _∷_, _++_, append-assoc}
-use lib.ListN.{length, getD, take, drop, set, length-append, length-replicate, length-take, length-drop, take-append-drop, List·getD-append}
-use lib.Seq.{getD-append-add, getD-take, getD-drop, take-all, take-append-le, length-take-le}
+use mathlib.Core.Path.{_≡_, refl, ap, ap₂, _∙_}
+use mathlib.Core.List.{List, [], _∷_, _++_}
+use lib.ListN.{length, getD}
+use lib.Seq.{getD-append-add}
 use Rattle.words.specs.Lists.{All}
-use Rattle.words.specs.Words.{keyRange}
 use Rattle.words.specs.Overwrite.{overwrite}
 use Rattle.words.proofs.OverwriteLaws.{overwrite-length, word-inside, word-before, word-behind}
 use Rattle.page.specs.declared.row.Row.{Row}
-use Rattle.page.specs.Row.{word, rowAt, rowStart, rowWords, rowsFrom, rowsOf, encodeRow, encodeRows, headerWords, rowLimit, pageWords}
+use Rattle.page.specs.Row.{word, rowAt, rowStart, rowWords, rowsFrom, rowsOf, encodeRow, encodeRows, headerWords}
 use Rattle.page.specs.Edit.{withRows, putRow}
-use Rattle.page.specs.Fresh.{zeros, freshPage}
 use Rattle.page.proofs.FreshLaws.{encode-length}
 
 -- A row whose keys and birth fit

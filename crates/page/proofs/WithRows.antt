@@ -1,20 +1,17 @@
 -- A row written over, or added, in a page's words is the page with that row list.
-use Prim.Native.Nat.{ℕ, zero, suc, _+_, _*_, _-_, _/_, _%_, _≤_, _<_}
+use Prim.Native.Nat.{ℕ, zero, suc, _+_, _*_, _/_, _%_, _≤_, _<_}
 use native.Mathlib.Decide.{decLe, decLt, ℕ-discrete}
 use native.Mathlib.Nat.{add-zero}
 use native.Mathlib.Omega.{arith}
-use mathlib.Core.Path.{_≡_, refl, sym, ap, ap₂, _∙_}
+use mathlib.Core.Path.{_≡_, refl, sym, ap, _∙_}
 use mathlib.Core.List.{List, [], _∷_, _++_}
-use mathlib.Core.Logic.{_⊎_, inl, inr}
 use lib.ListN.{length, getD, set, length-set, length-append, List·getD-append}
 use lib.Seq.{ext-getD, getD-append-add, getD-set-same, getD-set-other}
-use Rattle.words.specs.Lists.{All}
-use Rattle.words.specs.Overwrite.{overwrite}
 use Rattle.words.proofs.OverwriteLaws.{overwrite-length, word-inside, word-before, word-behind}
 use Rattle.page.specs.declared.row.Row.{Row}
-use Rattle.page.specs.Row.{word, rowAt, rowStart, rowWords, rowsFrom, rowsOf, encodeRow, encodeRows, headerWords}
-use Rattle.page.specs.Edit.{withRows, putRow, putCount, appendRow}
-use Rattle.page.proofs.FreshLaws.{encode-length, encode-append}
+use Rattle.page.specs.Row.{word, rowAt, rowStart, rowWords, rowsOf, encodeRow, encodeRows, headerWords}
+use Rattle.page.specs.Edit.{withRows, putRow, appendRow}
+use Rattle.page.proofs.FreshLaws.{encode-length}
 use Rattle.page.proofs.PageCodec.{rows-length, row-at-place, put-length, put-before, with-length, with-level, with-count, with-range, with-birth, with-row-words, with-behind}
 
 -- A row read from words and written again is the same words

@@ -6,7 +6,7 @@ use lib.Dec.{leb, ltb, eqb}
 use Rattle.words.specs.Words.{keyRange}
 use Rattle.page.specs.declared.row.Row.{Row}
 use Rattle.page.specs.Row.{word, rowsOf, rowLimit}
-use Rattle.page.specs.KeyOrder.{Placed, placedLow, placedHigh, keyOrder}
+use Rattle.page.specs.KeyOrder.{placedLow, placedHigh, keyOrder}
 
 -- One walk over items in the order of their low keys decides whether no item is empty and each key from `low` up to `high` lies in exactly one of them.
 -- `next` is the lowest key from `low` on that no item so far held. An item outside the range is passed over; any other must start at `next`,

@@ -4,7 +4,7 @@ use mathlib.Core.List.{List, [], _∷_, _++_}
 use mathlib.Core.Bool.{Bool, _&&_}
 use lib.ListN.{getD}
 use lib.Dec.{leb, ltb}
-use Rattle.words.specs.Words.{lowKey, highKey, childPage, birthOf, endOf, rowKeys, lifeWord, openEnd}
+use Rattle.words.specs.Words.{lowKey, highKey, childPage, birthOf, endOf, rowKeys, lifeWord}
 use Rattle.words.specs.Value.{valueAt, encodeValue, valueWords}
 use Rattle.page.specs.declared.row.Row.{Row}
 

@@ -6,8 +6,6 @@ use lib.Dec.{ltb}
 use Rattle.words.specs.declared.value.Value.{Value}
 use Rattle.words.specs.Value.{zero, plus}
 use Rattle.page.specs.declared.row.Row.{Row}
-use Rattle.page.specs.declared.order.Place.{Place}
-use Rattle.page.specs.declared.order.Place.the-variants.{At, Missing}
 use Rattle.page.specs.declared.held.Held.{Held}
 use Rattle.page.specs.declared.held.Held.the-variants.{Spoiled, Found}
 use Rattle.page.specs.Row.{live, holds, rowsOf}

@@ -1,6 +1,6 @@
 -- The calls that only read: question, lookup of starts, lookup of ends.
 use Prim.Native.Nat.{ℕ, _+_, _-_}
-use mathlib.Core.List.{List, [], _∷_}
+use mathlib.Core.List.{[], _∷_}
 use mathlib.Core.Bool.{Bool, true, false, cond, _||_, not}
 use lib.Dec.{leb, ltb, eqb}
 use Rattle.words.specs.Words.{keyLimit, openEnd}
@@ -8,10 +8,9 @@ use Rattle.words.specs.declared.value.Value.{Value}
 use Rattle.words.specs.Value.{zero, plus, minus}
 use Rattle.tree.specs.declared.types.Lookup.{Lookup}
 use Rattle.tree.specs.declared.types.Lookup.the-variants.{Spoiled, Found}
-use Rattle.tree.specs.Tree.{Tree}
 use Rattle.tree.specs.Lookup.{lookup}
 use Rattle.store.specs.declared.types.Answer.{Answer}
-use Rattle.store.specs.declared.types.Answer.the-variants.{Refused, Totals}
+use Rattle.store.specs.declared.types.Answer.the-variants.{Totals}
 use Rattle.store.specs.Head.{Store, startsTree, endsTree, headFits}
 use Rattle.store.specs.Refusals.{_gives_, firstMet}
 use Rattle.store.specs.Answers.{Answered, unlessRefused}

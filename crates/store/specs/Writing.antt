@@ -1,8 +1,8 @@
 -- The calls that write: opening, start, end.
 use Prim.Native.Nat.{ℕ, _+_, _-_}
 use mathlib.Core.List.{List, [], _∷_, _++_}
-use mathlib.Core.Bool.{Bool, true, false, cond, _&&_, _||_, not}
-use lib.ListN.{length, take, drop, set, getD}
+use mathlib.Core.Bool.{Bool, true, false, cond, _||_, not}
+use lib.ListN.{length, take, drop, set}
 use lib.Dec.{leb, ltb, eqb}
 use Rattle.words.specs.Words.{keyLimit, openEnd, rootEntry}
 use Rattle.words.specs.Overwrite.{overwrite}
@@ -12,7 +12,6 @@ use Rattle.page.specs.Fresh.{freshPage, newRow}
 use Rattle.page.specs.TrueValue.{Search, none, one}
 use Rattle.tree.specs.declared.types.Plan.{Plan}
 use Rattle.tree.specs.declared.types.Plan.the-variants as planned
-use Rattle.tree.specs.declared.types.RootChange.{RootChange}
 use Rattle.tree.specs.declared.types.RootChange.the-variants.{Kept, Added, Replaced}
 use Rattle.tree.specs.Tree.{Tree, pagesLeft}
 use Rattle.tree.specs.RowSteps.{Point}

@@ -1,18 +1,17 @@
 -- The steps of an entry on a page's words leave the page with the rows that the steps say: one law a step.
 use Prim.Native.Nat.{ℕ, zero, suc, _+_, _≤_, _<_}
 use native.Mathlib.Omega.{arith}
-use mathlib.Core.Path.{_≡_, refl, sym, ap, ap₂, _∙_}
+use mathlib.Core.Path.{_≡_, sym, ap, _∙_}
 use mathlib.Core.Bool.{Bool, true, false, cond}
 use mathlib.Core.List.{List, [], _∷_, _++_, append-assoc, append-nil}
 use lib.Dec.{eqb}
-use lib.ListN.{length, getD, set, length-set, length-append, List·getD-append}
-use lib.Seq.{getD-set-other}
+use lib.ListN.{length, set, length-set, length-append}
 use Rattle.words.specs.Lists.{All}
 use Rattle.page.specs.declared.row.Row.{Row}
-use Rattle.page.specs.Row.{word, rowAt, rowStart, rowWords, rowsOf, headerWords}
+use Rattle.page.specs.Row.{word, rowStart, rowsOf, headerWords}
 use Rattle.page.specs.KeyOrder.{Placed}
 use Rattle.page.specs.Edit.{ended, bornAt, putRow, endRow, appendRow, withRows}
-use Rattle.page.proofs.PageCodec.{Fits, row-fits, rows-fit, rows-length, row-at-place, with-length, with-count, with-rows}
+use Rattle.page.proofs.PageCodec.{Fits, row-fits, rows-fit, rows-length, with-length, with-count, with-rows}
 use Rattle.page.proofs.WithRows.{put-is-with, append-is-with, with-with}
 use Rattle.tree.specs.RowSteps.{replaceRow}
 use Rattle.tree.specs.PageEdits.{replaceWords, rowIn}

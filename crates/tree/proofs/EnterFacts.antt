@@ -1,20 +1,20 @@
 -- Entering a point from a page down writes pages of that level and below, and new ones: every other page in use keeps its words.
 use Prim.Native.Nat.{ℕ, zero, suc, _+_, _*_, _≤_, _<_}
 use native.Mathlib.Omega.{arith}
-use mathlib.Core.Path.{_≡_, refl, sym, ap, ap₂, _∙_}
-use mathlib.Core.Bool.{Bool, true, false, _&&_, and-eq-true-iff}
-use mathlib.Core.List.{List, [], _∷_, _++_}
+use mathlib.Core.Path.{_≡_, refl, sym, ap, _∙_}
+use mathlib.Core.Bool.{Bool, true, and-eq-true-iff}
+use mathlib.Core.List.{List}
 use lib.ListN.{length}
 use borrow.Author.Tests.{ltb-true}
 use Rattle.page.specs.declared.row.Row.{Row}
 use Rattle.page.specs.Row.{word, rowStart, rowsOf, pageWords, rowLimit}
 use Rattle.page.specs.KeyOrder.{Placed}
 use Rattle.page.specs.TrueValue.{Search, none, one}
-use Rattle.page.proofs.PageReadings.{header-facts, HeaderFacts}
-use Rattle.tree.specs.Tree.{Tree, pageAt, putPage, levelOf, metAt}
-use Rattle.tree.specs.RowSteps.{Point, Became, stays, rowAround, gainRows, leafRows, relinkRow}
+use Rattle.page.proofs.PageReadings.{header-facts}
+use Rattle.tree.specs.Tree.{Tree, pageAt, levelOf, metAt}
+use Rattle.tree.specs.RowSteps.{Point, Became, rowAround, gainRows, leafRows, relinkRow}
 use Rattle.tree.specs.Overflow.{Written, finishPage}
-use Rattle.tree.specs.Enter.{unwritten, enterAbove, enterBelow, enterFrom}
+use Rattle.tree.specs.Enter.{unwritten, enterBelow, enterFrom}
 use Rattle.tree.specs.Plan.{soundBelow, descentSound}
 use Rattle.page.specs.Fresh.{zeros}
 use Rattle.tree.specs.EnterWords.{loaded}

@@ -1,34 +1,28 @@
 -- One page of an entry: the edited copy, settled, is what the definition says of the page, in a leaf, in a lowest page above it, and above that.
-use Prim.Native.Nat.{ℕ, zero, suc, _+_, _*_, _≤_, _<_}
+use Prim.Native.Nat.{ℕ, suc, _+_, _*_, _≤_, _<_}
 use native.Mathlib.Omega.{arith}
 use mathlib.Core.Path.{_≡_, refl, sym, ap, ap₂, _∙_}
-use mathlib.Core.Bool.{Bool, true, false}
-use mathlib.Core.List.{List, [], _∷_, _++_}
+use mathlib.Core.List.{List, _++_}
 use lib.ListN.{length}
-use Rattle.words.specs.declared.value.Value.{Value}
 use Rattle.page.specs.declared.row.Row.{Row}
-use Rattle.page.specs.declared.order.Place.{Place}
 use Rattle.page.specs.Row.{word, rowStart, rowsOf, pageWords, rowLimit}
 use Rattle.page.specs.KeyOrder.{Placed}
-use Rattle.page.specs.TrueValue.{Search, none, one}
-use Rattle.page.specs.Survey.{placeFound, surveyOf, isAround, startsFrom}
+use Rattle.page.specs.TrueValue.{none, one}
+use Rattle.page.specs.Survey.{placeFound, isAround}
 use Rattle.page.specs.Edit.{withRows}
 use Rattle.page.specs.Fresh.{zeros}
 use Rattle.page.proofs.PageCodec.{with-length, with-count}
-use Rattle.tree.specs.declared.types.TreeUse.{TreeUse}
 use Rattle.tree.specs.declared.entry.Done.{Done}
-use Rattle.tree.specs.declared.entry.Became as outcome
-use Rattle.tree.specs.Tree.{Tree, pageAt, levelOf, topLevel}
-use Rattle.tree.specs.RowSteps.{Point, Became, stays, rowAround, rowFrom, gainRows, leafRows, relinkRow}
+use Rattle.tree.specs.Tree.{Tree, pageAt}
+use Rattle.tree.specs.RowSteps.{Point, Became, rowAround, rowFrom, gainRows, leafRows, relinkRow}
 use Rattle.tree.specs.Overflow.{Written, finishPage}
-use Rattle.tree.specs.Enter.{unwritten, enterAbove, enterBelow, enterFrom}
-use Rattle.tree.specs.Plan.{descentSound}
-use Rattle.tree.specs.PageEdits.{becameOf, leafWords, gainWords, linkWords, rowIn}
-use Rattle.tree.specs.EnterWords.{loaded, useOf, madeSo, settled, CanSettle, CanEnter, DoneAs, leafEdited, gainEdited, linkEdited, pointAt}
-use Rattle.tree.proofs.SettleLaws.{settled-is-finished, loaded-count}
-use Rattle.tree.proofs.StepRows.{Seen, found-seen, RowsFit, ChildrenFit, gain-is-with, leaf-is-with, link-is-with}
-use Rattle.tree.proofs.FinishFacts.{Finished, finish-facts, finish-least}
-use Rattle.tree.proofs.EnterFacts.{Met, met-facts, InTable, Entered, descent-here, descent-below, page-inside, page-whole, copy-rows, copy-count, copy-length, copy-room, leaf-rows-fit, gain-rows-fit, link-rows-fit, enter-facts}
+use Rattle.tree.specs.Enter.{unwritten, enterFrom}
+use Rattle.tree.specs.PageEdits.{leafWords, gainWords, linkWords, rowIn}
+use Rattle.tree.specs.EnterWords.{loaded, madeSo, settled, CanSettle, CanEnter, DoneAs, leafEdited, gainEdited, linkEdited}
+use Rattle.tree.proofs.SettleLaws.{settled-is-finished}
+use Rattle.tree.proofs.StepRows.{Seen, found-seen, RowsFit, gain-is-with, leaf-is-with, link-is-with}
+use Rattle.tree.proofs.FinishFacts.{finish-least}
+use Rattle.tree.proofs.EnterFacts.{Met, met-facts, Entered, descent-here, descent-below, page-inside, page-whole, copy-rows, copy-length, copy-room, leaf-rows-fit, gain-rows-fit, link-rows-fit, enter-facts}
 
 module _ (tree : Tree) (p : Point) (small : p .tick < 4294967296) (narrow : p .key < 65536) where
   met : (level page : ℕ) → CanEnter tree p level page → Met tree level page

@@ -1,14 +1,13 @@
 -- The whole entry: what a plan says of it, and what its root does, in each of the three ways that a root can go.
-use Prim.Native.Nat.{ℕ, zero, suc, _+_, _-_, _*_, _≤_, _<_}
+use Prim.Native.Nat.{ℕ, zero, suc, _+_, _*_, _≤_, _<_}
 use native.Mathlib.Omega.{arith}
 use mathlib.Core.Path.{_≡_, refl, sym, ap, ap₂, _∙_}
 use mathlib.Core.Bool.{Bool, true, false, cond, _&&_, not, and-eq-true-iff}
-use mathlib.Core.List.{List, [], _∷_, _++_}
-use lib.Dec.{leb, ltb, eqb}
+use mathlib.Core.List.{List, []}
+use lib.Dec.{ltb, eqb}
 use lib.ListN.{length}
-use borrow.Author.Tests.{leb-true, ltb-true, eq-eqb, ne-eqb}
-use Rattle.words.specs.Words.{birthOf, keyLimit, rootEntry}
-use Rattle.words.specs.Overwrite.{overwrite}
+use borrow.Author.Tests.{leb-true, ltb-true, ne-eqb}
+use Rattle.words.specs.Words.{birthOf, keyLimit}
 use Rattle.page.specs.declared.row.Row.{Row}
 use Rattle.page.specs.Row.{word, rowsOf, pageWords}
 use Rattle.page.specs.KeyOrder.{Placed}
@@ -18,8 +17,7 @@ use Rattle.tree.specs.declared.types.TreeUse.{TreeUse}
 use Rattle.tree.specs.declared.types.Root.{Root}
 use Rattle.tree.specs.declared.types.Root.the-variants.{At, Missing}
 use Rattle.tree.specs.declared.types.RootChange.{RootChange}
-use Rattle.tree.specs.declared.types.RootChange.the-variants.{Kept, Added, Replaced}
-use Rattle.tree.specs.declared.types.Plan.{Plan}
+use Rattle.tree.specs.declared.types.RootChange.the-variants.{Added}
 use Rattle.tree.specs.declared.types.Plan.the-variants.{Spoiled, Ready}
 use Rattle.tree.specs.Tree.{Tree, pageAt, putPage, levelOf, rootAt, rootInUse, topLevel, lastRoot, metAt}
 use Rattle.tree.specs.RowSteps.{Point, Child, Became, stays, copied, halved, rowAround}

@@ -1,24 +1,22 @@
 -- Entering a point from a page down, in the terms of the code: the level that falls, and the places that a survey of the page finds.
-use Prim.Native.Nat.{ℕ, zero, suc, _+_, _-_, _*_, _≤_, _<_}
+use Prim.Native.Nat.{ℕ, zero, suc, _-_, _<_}
 use native.Mathlib.Omega.{arith}
-use mathlib.Core.Path.{_≡_, refl, sym, ap, ap₂, _∙_}
+use mathlib.Core.Path.{_≡_, refl, sym, ap, _∙_}
 use mathlib.Core.List.{List}
-use lib.ListN.{length}
 use Rattle.page.specs.declared.row.Row.{Row}
-use Rattle.page.specs.declared.order.Place.{Place}
 use Rattle.page.specs.declared.order.Place.the-variants.{At, Missing}
-use Rattle.page.specs.Row.{word, rowsOf, pageWords, rowLimit}
+use Rattle.page.specs.Row.{word, rowsOf}
 use Rattle.page.specs.KeyOrder.{Placed}
 use Rattle.page.specs.TrueValue.{Search, none, one}
 use Rattle.page.specs.Survey.{placeFound, surveyOf, isAround, startsFrom}
 use Rattle.tree.specs.declared.entry.Done.{Done}
 use Rattle.tree.specs.Tree.{Tree, pageAt}
-use Rattle.tree.specs.RowSteps.{Point, rowAround, rowFrom}
+use Rattle.tree.specs.RowSteps.{Point, rowAround}
 use Rattle.tree.specs.Enter.{enterFrom}
 use Rattle.tree.specs.PageEdits.{Within, rowIn}
 use Rattle.tree.specs.EnterWords.{madeSo, settled, CanSettle, CanEnter, DoneAs, leafEdited, gainEdited, linkEdited}
 use Rattle.tree.proofs.StepRows.{Seen, found-seen, found-within}
-use Rattle.tree.proofs.EnterLaws.{few-rows, inside, leaf-can, leaf-is, lowest-can, lowest-is, child-can, above-can, above-is, above-rows}
+use Rattle.tree.proofs.EnterLaws.{inside, leaf-can, leaf-is, lowest-can, lowest-is, child-can, above-can, above-is, above-rows}
 
 -- What a found place says of the search
 none-found : (s : Search Placed) → placeFound s ≡ Missing → s ≡ none

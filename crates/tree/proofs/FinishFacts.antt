@@ -1,19 +1,18 @@
 -- What finishing a page leaves alone: every other page in use, and the table's length. New pages have numbers that were not in use.
-use Prim.Native.Nat.{ℕ, zero, suc, _+_, _*_, _-_, _/_, _≤_, _<_}
+use Prim.Native.Nat.{ℕ, zero, suc, _+_, _*_, _-_, _≤_, _<_}
 use native.Mathlib.Omega.{arith}
 use native.Mathlib.Decide.{decLe}
-use mathlib.Core.Path.{_≡_, refl, sym, ap, ap₂, _∙_}
-use mathlib.Core.Bool.{Bool, true, false, cond}
-use mathlib.Core.List.{List, [], _∷_, _++_, map}
-use lib.Dec.{leb}
+use mathlib.Core.Path.{_≡_, refl, ap, _∙_}
+use mathlib.Core.Bool.{Bool, true, false}
+use mathlib.Core.List.{List, [], _∷_, map}
 use lib.ListN.{length, take, drop, length-append, length-replicate, length-take, length-drop, length-map}
 use borrow.Author.Tests.{le-leb, lt-leb}
 use Rattle.words.specs.Lists.{All}
 use Rattle.words.specs.declared.value.Value.{Value}
 use Rattle.words.specs.Words.{lowKey, highKey}
 use Rattle.page.specs.declared.row.Row.{Row}
-use Rattle.page.specs.Row.{word, live, rowStart, rowWords, rowLimit, copyLimit, pageWords, encodeRows}
-use Rattle.page.specs.KeyOrder.{Placed, placedLow, keepIf, livePlaced, insertBy, sortBy, keyOrder}
+use Rattle.page.specs.Row.{word, live, rowWords, rowLimit, copyLimit, pageWords, encodeRows}
+use Rattle.page.specs.KeyOrder.{Placed, placedLow, keepIf, livePlaced, sortBy, keyOrder}
 use Rattle.page.specs.Edit.{bornAt, withRows}
 use Rattle.page.specs.Fresh.{zeros, freshPage}
 use Rattle.page.proofs.Lists.{all-map}
@@ -22,7 +21,7 @@ use Rattle.page.proofs.FreshLaws.{encode-length}
 use Rattle.page.proofs.PageCodec.{Fits, with-length}
 use Rattle.page.proofs.OrderRowLaws.{insert-length}
 use Rattle.tree.specs.Tree.{Tree, pageAt, putPage}
-use Rattle.tree.specs.RowSteps.{Became, stays, copied, halved, gained}
+use Rattle.tree.specs.RowSteps.{stays}
 use Rattle.tree.specs.Overflow.{Written, takenPage, copiedRows, lowerCount, lowestKey, gainFirst, totalOf, copyPage, halvePage, splitPage, finishPage}
 use Rattle.tree.proofs.TableLaws.{put-length, put-other}
 use Rattle.tree.proofs.StepRows.{ChildrenFit}

@@ -1,20 +1,18 @@
 -- A page's edited copy, written back or split, is the page finished as steps 5 and 6 say.
-use Prim.Native.Nat.{ℕ, zero, suc, _+_, _*_, _-_, _≤_, _<_}
+use Prim.Native.Nat.{ℕ, zero, suc, _+_, _*_, _≤_, _<_}
 use native.Mathlib.Omega.{arith}
 use native.Mathlib.Decide.{decLe}
 use mathlib.Core.Path.{_≡_, refl, sym, ap, ap₂, _∙_}
-use mathlib.Core.Bool.{Bool, true, false, cond}
-use mathlib.Core.List.{List, [], _∷_, _++_}
-use lib.Dec.{leb}
-use lib.ListN.{length, getD, take, drop, length-append, length-take, length-replicate, List·getD-append, List·getD-eq-default}
-use lib.Seq.{ext-getD, getD-take, take-append-le, length-take-le}
+use mathlib.Core.List.{List, _∷_, _++_}
+use lib.ListN.{length, take, length-append, length-take, List·getD-append, List·getD-eq-default}
+use lib.Seq.{getD-take, length-take-le}
 use borrow.Author.Tests.{le-leb, lt-leb}
 use Rattle.words.specs.Lists.{All}
 use Rattle.page.specs.declared.row.Row.{Row}
-use Rattle.page.specs.Row.{word, rowAt, rowStart, rowWords, rowsFrom, rowsOf, rowLimit, pageWords, headerWords, encodeRow}
+use Rattle.page.specs.Row.{word, rowAt, rowStart, rowWords, rowsFrom, rowsOf, rowLimit, pageWords, headerWords}
 use Rattle.page.specs.Edit.{withRows}
 use Rattle.page.specs.Fresh.{zeros}
-use Rattle.page.proofs.PageCodec.{Fits, with-length, with-level, with-count, with-range, with-rows}
+use Rattle.page.proofs.PageCodec.{Fits, with-level, with-count, with-range, with-rows}
 use Rattle.page.proofs.WithRows.{Holds, with-holds, is-with}
 use Rattle.tree.specs.declared.types.TreeUse.{TreeUse}
 use Rattle.tree.specs.Tree.{Tree, pageAt, putPage}

@@ -1,5 +1,5 @@
 -- The entries of a page's key order, and its live rows: the copies of the entries' rows are the rows that an overflow copies, in their order.
-use Prim.Native.Nat.{ℕ, zero, suc, _+_, _-_, _*_, _/_, _≤_, _<_}
+use Prim.Native.Nat.{ℕ, zero, suc, _+_, _-_, _/_, _≤_, _<_}
 use native.Mathlib.Omega.{arith}
 use mathlib.Core.Path.{_≡_, refl, ap, ap₂, sym, _∙_}
 use mathlib.Core.List.{List, [], _∷_, _++_, map}
@@ -9,14 +9,12 @@ use borrow.Author.Tests.{le-leb, lt-leb}
 use Rattle.words.specs.Lists.{All}
 use Rattle.words.specs.Words.{lowKey, highKey}
 use Rattle.words.specs.Value as value
-use Rattle.words.specs.declared.value.Value.{Value}
 use Rattle.page.specs.declared.row.Row.{Row}
-use Rattle.page.specs.declared.fresh.Page.{Page}
-use Rattle.page.specs.Row.{word, rowStart, rowWords, rowsOf, copyLimit, rowLimit}
+use Rattle.page.specs.Row.{word, rowStart, rowWords, rowsOf, copyLimit}
 use Rattle.page.specs.KeyOrder.{Placed, keyOrder}
 use Rattle.page.specs.Edit.{bornAt}
 use Rattle.page.specs.Fresh.{freshPage, encodePage, emptyPage}
-use Rattle.page.specs.Entries.{orderSize, entryOf, entryPlace, InPage, Ordered}
+use Rattle.page.specs.Entries.{orderSize, entryOf, entryPlace, InPage}
 use Rattle.page.proofs.EntryLaws.{Seated, seated-place, order-seated}
 use Rattle.page.proofs.OrderLaws.{drop-here}
 use Rattle.page.proofs.PageReadings.{in-page, entries-are}

@@ -1,20 +1,17 @@
 -- The steps of an entry, on a page's words and on its rows: the places that a survey finds make both the same.
 use Prim.Native.Nat.{ℕ, _+_, _≤_, _<_}
 use native.Mathlib.Omega.{arith}
-use mathlib.Core.Path.{_≡_, refl, sym, ap, ap₂, _∙_}
-use mathlib.Core.Bool.{Bool, true, false, cond, _&&_, and-eq-true-iff}
+use mathlib.Core.Path.{_≡_, refl, sym, ap, _∙_}
+use mathlib.Core.Bool.{Bool, true, false, cond, and-eq-true-iff}
 use mathlib.Core.List.{List, [], _∷_, _++_}
-use lib.Dec.{leb, ltb, eqb}
+use lib.Dec.{eqb}
 use lib.ListN.{length, getD, set, length-set, length-append, List·getD-append}
 use lib.Seq.{getD-set-other}
 use borrow.Author.Tests.{leb-true, ltb-true}
 use Rattle.words.specs.Lists.{All}
-use Rattle.words.specs.declared.value.Value.{Value}
 use Rattle.words.specs.Value.{zero}
 use Rattle.page.specs.declared.row.Row.{Row}
-use Rattle.page.specs.declared.order.Place.{Place}
-use Rattle.page.specs.declared.order.Place.the-variants.{At, Missing}
-use Rattle.page.specs.Row.{word, rowAt, rowStart, rowsOf, headerWords, live, around}
+use Rattle.page.specs.Row.{word, rowAt, rowStart, rowsOf, headerWords, live}
 use Rattle.page.specs.KeyOrder.{Placed, keyOrder}
 use Rattle.page.specs.TrueValue.{Search, none, one, first}
 use Rattle.page.specs.Survey.{placeFound, isAround, startsFrom}
@@ -27,8 +24,8 @@ use Rattle.page.proofs.WithRows.{with-same, with-with}
 use Rattle.tree.specs.declared.entry.Became as outcome
 use Rattle.tree.specs.declared.entry.Became.the-variants.{Stays, Copied, Halved}
 use Rattle.tree.specs.RowSteps.{Point, Child, Became, stays, copied, halved, gained, cutAt, linkedTo, replaceRow, rowAround, rowFrom, gainIn, gainRows, cutIn, leafRows, relinkRow}
-use Rattle.tree.specs.PageEdits.{becameOf, childOf, Within, rowIn, replaceWords, gainWords, cutWords, leafWords, linkWords}
-use Rattle.tree.proofs.EditedRows.{placedIn, replace-is-with, replace-and-add, replaced-fits, replaced-length, replaced-most}
+use Rattle.tree.specs.PageEdits.{becameOf, childOf, Within, rowIn, replaceWords, gainWords, leafWords, linkWords}
+use Rattle.tree.proofs.EditedRows.{replace-is-with, replace-and-add, replaced-fits, replaced-length, replaced-most}
 
 -- A row that a search in the key order of a page finds: it stands at its place, and passes the test
 pub record Seen (t : ℕ) (page : List ℕ) (test : Placed → Bool) (x : Placed) : Type 0 where

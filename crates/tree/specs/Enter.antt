@@ -5,16 +5,14 @@ use mathlib.Core.Bool.{cond}
 use lib.Dec.{eqb}
 use Rattle.words.specs.Words.{birthOf, rootEntry, keyLimit}
 use Rattle.words.specs.Overwrite.{overwrite}
-use Rattle.page.specs.declared.row.Row.{Row}
 use Rattle.page.specs.Row.{rowsOf}
 use Rattle.page.specs.KeyOrder.{Placed}
 use Rattle.page.specs.TrueValue.{Search, none, one}
 use Rattle.page.specs.Fresh.{freshPage, twoRows}
-use Rattle.tree.specs.declared.types.TreeUse.{TreeUse}
 use Rattle.tree.specs.declared.types.RootChange.{RootChange}
 use Rattle.tree.specs.declared.types.RootChange.the-variants.{Kept, Added, Replaced}
 use Rattle.tree.specs.Tree.{Tree, pageAt, putPage, levelOf, lastRoot}
-use Rattle.tree.specs.RowSteps.{Point, Child, Became, stays, copied, halved, rowAround, gainRows, leafRows, relinkRow}
+use Rattle.tree.specs.RowSteps.{Point, Became, stays, copied, halved, rowAround, gainRows, leafRows, relinkRow}
 use Rattle.tree.specs.Overflow.{Written, takenPage, finishPage}
 
 -- Nothing written yet

@@ -1,13 +1,12 @@
 -- Entering a point as the code does it: each page is edited in a copy with room for more rows, then written back or split.
 use Prim.Native.Nat.{ℕ, _+_, _*_, _≤_}
 use mathlib.Core.Path.{_≡_}
-use mathlib.Core.List.{List, [], _∷_, _++_}
+use mathlib.Core.List.{List, [], _++_}
 use mathlib.Core.Bool.{true, cond}
 use lib.ListN.{length, take}
 use lib.Dec.{leb}
 use Rattle.words.specs.declared.value.Value.{Value}
 use Rattle.page.specs.declared.order.Place.{Place}
-use Rattle.page.specs.declared.survey.Survey.{Survey}
 use Rattle.page.specs.Row.{word, rowsOf, rowLimit, pageWords}
 use Rattle.page.specs.Survey.{surveyOf}
 use Rattle.page.specs.Entries.{orderSize}

@@ -1,7 +1,6 @@
 -- The lookup of one tree: "at (t, k) it adds the points with tick ≤ t and key ≤ k, and gives count, weight sum and pages opened".
 use Prim.Native.Nat.{ℕ, zero, suc, _+_}
-use mathlib.Core.List.{List}
-use mathlib.Core.Bool.{Bool, cond}
+use mathlib.Core.Bool.{cond}
 use lib.Dec.{ltb}
 use Rattle.words.specs.Words.{keyLimit}
 use Rattle.words.specs.declared.value.Value.{Value}

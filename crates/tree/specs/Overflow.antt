@@ -14,7 +14,7 @@ use Rattle.page.specs.Edit.{bornAt, withRows}
 use Rattle.page.specs.Fresh.{freshPage}
 use Rattle.tree.specs.declared.types.TreeUse.{TreeUse}
 use Rattle.tree.specs.Tree.{Tree, pageAt, putPage}
-use Rattle.tree.specs.RowSteps.{Child, Became, stays, copied, halved, gained}
+use Rattle.tree.specs.RowSteps.{Became, stays, copied, halved, gained}
 
 -- What the call has written so far: the table, how many pages it made, and what the page at hand became
 pub record Written : Type 0 where

@@ -14,8 +14,7 @@ use Rattle.tree.specs.declared.types.Plan.{Plan}
 use Rattle.tree.specs.declared.types.Plan.the-variants.{Spoiled, Ready}
 use Rattle.tree.specs.Tree.{Tree, pageAt, levelOf, rootAt, rootInUse, metAt, topLevel}
 use Rattle.tree.specs.RowSteps.{Point, Became, stays, copied, halved, rowAround}
-use Rattle.tree.specs.Overflow.{Written}
-use Rattle.tree.specs.Enter.{Entered, enterFrom, enterRoot}
+use Rattle.tree.specs.Enter.{enterFrom, enterRoot}
 
 -- The pages met by the descent of step 1: each is tested, and none below the row that ends it
 abbrev pub soundBelow : (Row → Bool) → Search Placed → Bool

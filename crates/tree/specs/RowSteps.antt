@@ -1,5 +1,5 @@
 -- Entering a point, in the rows of one page: document 01, steps 2 to 4 and 7.
-use Prim.Native.Nat.{ℕ, _+_}
+use Prim.Native.Nat.{ℕ}
 use mathlib.Core.List.{List, [], _∷_, _++_}
 use mathlib.Core.Bool.{cond}
 use lib.ListN.{set}

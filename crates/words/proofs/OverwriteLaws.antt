@@ -1,11 +1,11 @@
 -- Laws of writing words over others.
-use Prim.Native.Nat.{ℕ, zero, suc, _+_, _-_, _≤_, _<_}
+use Prim.Native.Nat.{ℕ, _+_, _-_, _≤_, _<_}
 use native.Mathlib.Nat.{add-zero}
 use native.Mathlib.Omega.{arith}
-use mathlib.Core.Path.{_≡_, refl, ap, ap₂, sym, _∙_}
+use mathlib.Core.Path.{_≡_, ap, ap₂, sym, _∙_}
 use mathlib.Core.List.{List, [], _∷_, _++_, append-assoc, append-nil}
 use lib.ListN.{length, take, drop, set, getD, length-append, length-take, length-drop, take-append-drop, drop-of-length-le, List·getD-append}
-use lib.Seq.{sets, sets-eq, take-at, drop-at, length-take-le, take-append-add, drop-append-add, drop-drop, set-split, getD-append-add, getD-take, getD-drop, ext-getD, getD-set-same, getD-set-other}
+use lib.Seq.{sets, sets-eq, take-at, length-take-le, drop-append-add, drop-drop, getD-append-add, getD-take, getD-drop}
 use Rattle.words.specs.Overwrite.{overwrite}
 
 module _ (l : List ℕ) (at : ℕ) where

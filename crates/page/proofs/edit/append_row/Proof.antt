@@ -2,31 +2,22 @@ use Rattle.page.proofs.EditLaws.{append-words}
 use borrow.Author.Needs.{needs}
 use Rattle.page.proofs.edit.append_row.Statement.{statement}
 use Rattle.page.proofs.edit.append_row.Tie as tie
-use Rattle.page.proofs.edit.append_row.Reads as reads
-use Rattle.page.proofs.edit.append_row.Lts as lts
-use Rattle.page.proofs.edit.put_row.Reads as put-row-reads
 
--- src/edit.rt:36:16
 slice-read-rows : tie.Need-slice-read-rows
 slice-read-rows c = search needs
 
--- src/edit.rt:37:5
 put-row-requires : tie.Need-put-row-requires
 put-row-requires c κs = search needs
 
--- src/edit.rt:38:15
 add-page : tie.Need-add-page
 add-page c = search needs
 
--- src/edit.rt:38:5
 slice-write-page : tie.Need-slice-write-page
 slice-write-page c = search needs
 
--- src/edit.rt:32:1
 same-length : tie.Need-same-length
 same-length c = search needs
 
--- src/edit.rt:32:1
 returns : tie.Need-returns
 returns c = let a = c .before .before .before .before .before .before .args in
     append-words (a .page .now) (a .row) _ (c .before .before .put-row .ensures) (search needs)

@@ -2,52 +2,37 @@ use Rattle.page.proofs.EditLaws.{end-word}
 use borrow.Author.Needs.{needs}
 use Rattle.page.proofs.edit.end_row.Statement.{statement}
 use Rattle.page.proofs.edit.end_row.Tie as tie
-use Rattle.page.proofs.edit.end_row.Reads as reads
-use Rattle.page.proofs.edit.end_row.Lts as lts
-use Rattle.words.proofs.birth_of.Reads as birth-of-reads
-use Rattle.words.proofs.life.Reads as life-reads
 
--- src/edit.rt:26:18
 mul-at : tie.Need-mul-at
 mul-at c = search needs
 
--- src/edit.rt:26:14
 add-at : tie.Need-add-at
 add-at c = search needs
 
--- src/edit.rt:26:14
 add-at-2 : tie.Need-add-at-2
 add-at-2 c = search needs
 
--- src/edit.rt:27:16
 mul-life : tie.Need-mul-life
 mul-life c = search needs
 
--- src/edit.rt:27:16
 slice-read-life : tie.Need-slice-read-life
 slice-read-life c = search needs
 
--- src/edit.rt:28:28
 birth-of-requires : tie.Need-birth-of-requires
 birth-of-requires c κs = search needs
 
--- src/edit.rt:28:16
 life-requires : tie.Need-life-requires
 life-requires c κs = search needs
 
--- src/edit.rt:28:5
 mul-page : tie.Need-mul-page
 mul-page c = search needs
 
--- src/edit.rt:28:5
 slice-write-page : tie.Need-slice-write-page
 slice-write-page c = search needs
 
--- src/edit.rt:22:1
 same-length : tie.Need-same-length
 same-length c = search needs
 
--- src/edit.rt:22:1
 returns : tie.Need-returns
 returns c = let a = c .before .before .before .before .args in
     rw (c .life .ensures, c .before .birth-of .ensures) (end-word (a .page .now) (a .place) (a .t) (search needs))

@@ -1,9 +1,9 @@
 use Prim.Native.Nat.{ℕ}
 use mathlib.Core.List.{List}
 use lib.ListN.{length-set, set}
-use mathlib.Core.Path.{_≡_, refl, ap, sym, _∙_}
-use Prim.Native.Nat.{_≤_, _<_, _+_, _-_}
-use lib.ListN.{length, drop, getD}
+use mathlib.Core.Path.{_≡_, ap, _∙_}
+use Prim.Native.Nat.{_≤_, _-_}
+use lib.ListN.{length}
 use native.Mathlib.Omega.{arith}
 use Rattle.words.specs.Overwrite.{overwrite}
 use Rattle.page.specs.Fresh.{zeros}
@@ -11,8 +11,6 @@ use Rattle.page.proofs.FreshLaws.{clear-none, clear-more, clear-done}
 use borrow.Author.Needs.{needs}
 use Rattle.page.proofs.fresh.clear_from.Statement.{statement}
 use Rattle.page.proofs.fresh.clear_from.Tie as tie
-use Rattle.page.proofs.fresh.clear_from.Reads as reads
-use Rattle.page.proofs.fresh.clear_from.Lts as lts
 
 abbrev Inv-loop : tie.InvT-loop
 Inv-loop words₀ from at₀ words at = (from ≤ at) × (at ≤ length words₀) × (length words ≡ length words₀) × (words ≡ overwrite words₀ from (zeros (at - from)))
@@ -20,27 +18,21 @@ Inv-loop words₀ from at₀ words at = (from ≤ at) × (at ≤ length words₀
 abbrev μ-loop : tie.MeasureT-loop
 μ-loop words₀ from at₀ words at = length words₀ - at
 
--- src/fresh.rt:112:5
 loop-holds : tie.Need-loop-holds Inv-loop μ-loop
 loop-holds c = (search needs, search needs, search needs, clear-none (c .args .words .now) (c .args .from))
 
--- src/fresh.rt:113:9
 mul-words : tie.Need-mul-words Inv-loop μ-loop
 mul-words c = search needs
 
--- src/fresh.rt:113:9
 slice-write-words : tie.Need-slice-write-words Inv-loop μ-loop
 slice-write-words c = search needs
 
--- src/fresh.rt:114:9
 add-at : tie.Need-add-at Inv-loop μ-loop
 add-at c = search needs
 
--- src/fresh.rt:112:5
 loop-less : tie.Need-loop-less Inv-loop μ-loop
 loop-less c = search needs
 
--- src/fresh.rt:112:5
 loop-again : tie.Need-loop-again Inv-loop μ-loop
 loop-again c = let a = c .before .before .args in
     let l = c .before .loop in (
@@ -50,11 +42,9 @@ loop-again c = let a = c .before .before .args in
       ap (λ (w : List ℕ). set w (l .at) 0) (l .inv .3) ∙ clear-more (a .words .now) (a .from) (l .at) (l .inv .0) (omega arith),
     )
 
--- src/fresh.rt:107:1
 same-length : tie.Need-same-length Inv-loop μ-loop
 same-length c = search needs
 
--- src/fresh.rt:107:1
 returns : tie.Need-returns Inv-loop μ-loop
 returns c = let a = c .before .before .args in
     let l = c .before .loop in

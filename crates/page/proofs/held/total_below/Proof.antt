@@ -1,24 +1,16 @@
-use mathlib.Core.Path.{_≡_, refl, ap, sym, _∙_}
-use mathlib.Core.Bool.{Bool, true, false}
+use mathlib.Core.Path.{_≡_, ap, sym, _∙_}
 use Prim.Native.Nat.{_≤_, _<_, _+_, _-_}
 use lib.ListN.{length, drop, getD}
 use native.Mathlib.Omega.{arith}
 use Prim.Native.Nat.{ℕ}
 use Rattle.words.specs.declared.value.Value.{Value}
 use Rattle.words.specs.Value.{zero, plus}
-use Rattle.page.specs.Entries.{orderSize, entryLow, entryPlace, InPage, addUntil, heldAtPlace, placeOf, entryHolds}
+use Rattle.page.specs.Entries.{orderSize, entryLow, entryPlace, InPage, addUntil}
 use Rattle.page.proofs.OrderLaws.{until-more, until-stop, until-none, all-here}
 use Rattle.page.specs.Row.{rowStart, rowWords}
 use borrow.Author.Needs.{needs}
 use Rattle.page.proofs.held.total_below.Statement.{statement}
 use Rattle.page.proofs.held.total_below.Tie as tie
-use Rattle.page.proofs.held.total_below.Reads as reads
-use Rattle.page.proofs.held.total_below.Lts as lts
-use Rattle.page.proofs.held.value_of.Reads as value-of-reads
-use Rattle.page.proofs.order.entry_low.Reads as entry-low-reads
-use Rattle.page.proofs.order.entry_place.Reads as entry-place-reads
-use Rattle.words.proofs.value.Value.plus.Reads as plus-reads
-use Rattle.words.proofs.value.Value.zero.Reads as zero-reads
 
 abbrev Inv-loop : tie.InvT-loop
 Inv-loop page order start low total₀ at₀ total at = (at ≤ orderSize) × InPage page (drop at order) × (addUntil page low total (drop at order) ≡ addUntil page low zero (drop start order))
@@ -26,55 +18,43 @@ Inv-loop page order start low total₀ at₀ total at = (at ≤ orderSize) × In
 abbrev μ-loop : tie.MeasureT-loop
 μ-loop page order start low total₀ at₀ total at = orderSize - at
 
--- src/held.rt:36:9
 zero-requires : tie.Need-zero-requires Inv-loop μ-loop
 zero-requires c κs = search needs
 
--- src/held.rt:38:5
 loop-holds : tie.Need-loop-holds Inv-loop μ-loop
 loop-holds c = (search needs, search needs, ap (λ (v : Value). addUntil (c .before .before .before .args .page .now) (c .before .before .before .args .low) v (drop (c .before .before .before .args .start) (c .before .before .before .args .order .now))) (c .zero .ensures))
 
--- src/held.rt:39:21
 mul-entry : tie.Need-mul-entry Inv-loop μ-loop
 mul-entry c = search needs
 
--- src/held.rt:39:21
 shared-slice-read-entry : tie.Need-shared-slice-read-entry Inv-loop μ-loop
 shared-slice-read-entry c = search needs
 
--- src/held.rt:40:26
 entry-low-requires : tie.Need-entry-low-requires Inv-loop μ-loop
 entry-low-requires c κs = search needs
 
--- src/held.rt:41:13
 returns : tie.Need-returns Inv-loop μ-loop
 returns c = let a = c .before .before .before .before .before .before .before .before .args in
     let l = c .before .before .before .before .loop in
     let not-less : a .low ≤ entryLow (getD (a .order .now) (l .at) 0) = omega (arith, c .before .entry-low .ensures, c .if1 .taken) in
     sym (until-stop (a .order .now) (l .at) (a .page .now) (a .low) (l .total) (omega arith) not-less) ∙ l .inv .2
 
--- src/held.rt:43:43
 entry-place-requires : tie.Need-entry-place-requires Inv-loop μ-loop
 entry-place-requires c κs = search needs
 
--- src/held.rt:43:28
 value-of-requires : tie.Need-value-of-requires Inv-loop μ-loop
 value-of-requires c κs = let a = c .before .before .before .before .before .before .before .before .before .args in
     rw (c .entry-place .ensures) (all-here (a .order .now) (c .before .before .before .before .before .loop .at) (λ (e : ℕ). rowStart (entryPlace e) + rowWords ≤ length (a .page .now)) (omega arith) (c .before .before .before .before .before .loop .inv .1) .0)
 
--- src/held.rt:43:9
 plus-requires : tie.Need-plus-requires Inv-loop μ-loop
 plus-requires c κs = search needs
 
--- src/held.rt:44:9
 add-at : tie.Need-add-at Inv-loop μ-loop
 add-at c = search needs
 
--- src/held.rt:38:5
 loop-less : tie.Need-loop-less Inv-loop μ-loop
 loop-less c = search needs
 
--- src/held.rt:38:5
 loop-again : tie.Need-loop-again Inv-loop μ-loop
 loop-again c = let a = c .before .before .before .before .before .before .before .before .before .before .before .args in
     let l = c .before .before .before .before .before .before .before .loop in
@@ -85,7 +65,6 @@ loop-again c = let a = c .before .before .before .before .before .before .before
           (sym (until-more (a .order .now) (l .at) (a .page .now) (a .low) (l .total) (omega arith) less) ∙ l .inv .2),
     )
 
--- src/held.rt:30:1
 returns-2 : tie.Need-returns-2 Inv-loop μ-loop
 returns-2 c = let a = c .before .before .before .before .before .args in
     let l = c .before .loop in

@@ -1,46 +1,32 @@
-use mathlib.Core.Path.{_≡_, refl, ap, sym, _∙_}
-use Prim.Native.Nat.{_≤_, _<_, _+_, _-_}
-use lib.ListN.{length, drop, getD}
+use mathlib.Core.Path.{ap, sym, _∙_}
 use native.Mathlib.Omega.{arith}
-use Rattle.tree.specs.PageEdits.{replaceWords, gainWords, cutWords, leafWords, linkWords, childOf, Within, rowIn}
+use Rattle.tree.specs.PageEdits.{leafWords}
 use Rattle.page.specs.declared.order.Place.{Place}
 use borrow.Author.Needs.{needs}
 use Rattle.tree.proofs.edits.edit_leaf.Statement.{statement}
 use Rattle.tree.proofs.edits.edit_leaf.Tie as tie
-use Rattle.tree.proofs.edits.edit_leaf.Reads as reads
-use Rattle.tree.proofs.edits.edit_leaf.Lts as lts
-use Rattle.tree.proofs.edits.cut_at.Reads as cut-at-reads
-use Rattle.tree.proofs.edits.gain_row.Reads as gain-row-reads
 
--- src/edits.rt:121:19
 enum-known-inner : tie.Need-enum-known-inner
 enum-known-inner c = search needs
 
--- src/edits.rt:121:29
 cut-at-requires : tie.Need-cut-at-requires
 cut-at-requires c κs = (rw (c .before .before .inner .given .1) at (c .before .before .before .before .before .pre .0), c .before .before .before .before .before .pre .1 .1)
 
--- src/edits.rt:122:36
 enum-told : tie.Need-enum-told
 enum-told c = search needs
 
--- src/edits.rt:122:27
 gain-row-requires : tie.Need-gain-row-requires
 gain-row-requires c κs = (c .before .before .before .before .pre .1 .0, omega arith)
 
--- src/edits.rt:114:1
 same-length : tie.Need-same-length
 same-length c = search needs
 
--- src/edits.rt:114:1
 returns : tie.Need-returns
 returns c = c .before .before .cut-at .ensures ∙ ap (λ (i : Place). leafWords (c .before .before .before .before .before .before .before .before .args .t) (c .before .before .before .before .before .before .before .before .args .k) (c .before .before .before .before .before .before .before .before .args .value) (c .before .before .before .before .before .before .before .before .args .page .now) i (c .before .before .before .before .before .before .before .before .args .gain)) (sym (c .before .before .before .before .before .inner .given .1))
 
--- src/edits.rt:114:1
 same-length-2 : tie.Need-same-length-2
 same-length-2 c = search needs
 
--- src/edits.rt:114:1
 returns-2 : tie.Need-returns-2
 returns-2 c = c .before .before .gain-row .ensures ∙ ap (λ (i : Place). leafWords (c .before .before .before .before .before .before .before .args .t) (c .before .before .before .before .before .before .before .args .k) (c .before .before .before .before .before .before .before .args .value) (c .before .before .before .before .before .before .before .args .page .now) i (c .before .before .before .before .before .before .before .args .gain)) (sym (c .before .before .before .before .enum-told .given .1))
 

@@ -1,32 +1,24 @@
-use mathlib.Core.Path.{_≡_, refl, ap, sym, _∙_}
-use Rattle.tree.specs.PageEdits.{replaceWords, gainWords, cutWords, leafWords, linkWords, childOf, Within, rowIn}
+use mathlib.Core.Path.{ap, sym, _∙_}
+use Rattle.tree.specs.PageEdits.{gainWords}
 use borrow.Author.Needs.{needs}
 use Rattle.tree.proofs.edits.gain_row.Statement.{statement}
 use Rattle.tree.proofs.edits.gain_row.Tie as tie
-use Rattle.tree.proofs.edits.gain_row.Reads as reads
-use Rattle.tree.proofs.edits.gain_row.Lts as lts
-use Rattle.tree.proofs.edits.gain_at.Reads as gain-at-reads
 
--- src/edits.rt:97:22
 enum-known-gain : tie.Need-enum-known-gain
 enum-known-gain c = search needs
 
--- src/edits.rt:98:9
 gain-at-requires : tie.Need-gain-at-requires
 gain-at-requires c κs = (rw (c .before .before .gain .given .1) at (c .before .before .before .before .before .pre .0), c .before .before .before .before .before .pre .1)
 
 enum-told : tie.Need-enum-told
 enum-told c = search needs
 
--- src/edits.rt:92:1
 same-length : tie.Need-same-length
 same-length c = search needs
 
--- src/edits.rt:92:1
 returns : tie.Need-returns
 returns c = c .before .before .gain-at .ensures ∙ ap (gainWords (c .before .before .before .before .before .before .before .before .args .t) (c .before .before .before .before .before .before .before .before .args .value) (c .before .before .before .before .before .before .before .before .args .page .now)) (sym (c .before .before .before .before .before .gain .given .1))
 
--- src/edits.rt:92:1
 returns-2 : tie.Need-returns-2
 returns-2 c = ap (gainWords (c .before .before .before .args .t) (c .before .before .before .args .value) (c .before .before .before .args .page .now)) (sym (c .enum-told .given .1))
 

@@ -1,54 +1,39 @@
-use mathlib.Core.Path.{_≡_, refl, ap, sym, _∙_}
-use Rattle.tree.specs.PageEdits.{replaceWords, gainWords, cutWords, leafWords, linkWords, childOf, Within, rowIn}
+use mathlib.Core.Path.{ap, sym, _∙_}
+use Rattle.tree.specs.PageEdits.{linkWords}
 use borrow.Author.Needs.{needs}
 use Rattle.tree.proofs.edits.link_row.Statement.{statement}
 use Rattle.tree.proofs.edits.link_row.Tie as tie
-use Rattle.tree.proofs.edits.link_row.Reads as reads
-use Rattle.tree.proofs.edits.link_row.Lts as lts
-use Rattle.tree.proofs.edits.link_halves.Reads as link-halves-reads
-use Rattle.tree.proofs.edits.linked_row.Reads as linked-row-reads
-use Rattle.tree.proofs.edits.replace_row.Reads as replace-row-reads
 
 enum-told : tie.Need-enum-told
 enum-told c = search needs
 
--- src/edits.rt:143:24
 enum-known-became : tie.Need-enum-known-became
 enum-known-became c = search needs
 
--- src/edits.rt:143:64
 linked-row-requires : tie.Need-linked-row-requires
 linked-row-requires c κs = search needs
 
--- src/edits.rt:143:34
 replace-row-requires : tie.Need-replace-row-requires
 replace-row-requires c κs = search needs
 
--- src/edits.rt:144:24
 enum-known-became-2 : tie.Need-enum-known-became-2
 enum-known-became-2 c = search needs
 
--- src/edits.rt:144:41
 link-halves-requires : tie.Need-link-halves-requires
 link-halves-requires c κs = search needs
 
--- src/edits.rt:136:1
 returns : tie.Need-returns
 returns c = ap (linkWords (c .before .before .before .args .t) (c .before .before .before .args .page .now) (c .before .before .before .args .place) (c .before .before .before .args .old)) (sym (c .enum-told .given .1))
 
--- src/edits.rt:136:1
 same-length : tie.Need-same-length
 same-length c = search needs
 
--- src/edits.rt:136:1
 returns-2 : tie.Need-returns-2
 returns-2 c = rw (c .before .before .replace-row .ensures, c .before .before .before .linked-row .ensures) (ap (linkWords (c .before .before .before .before .before .before .before .before .before .args .t) (c .before .before .before .before .before .before .before .before .before .args .page .now) (c .before .before .before .before .before .before .before .before .before .args .place) (c .before .before .before .before .before .before .before .before .before .args .old)) (sym (c .before .before .before .before .before .before .became .given .1)))
 
--- src/edits.rt:136:1
 same-length-2 : tie.Need-same-length-2
 same-length-2 c = search needs
 
--- src/edits.rt:136:1
 returns-3 : tie.Need-returns-3
 returns-3 c = c .before .before .link-halves .ensures ∙ ap (linkWords (c .before .before .before .before .before .before .before .before .args .t) (c .before .before .before .before .before .before .before .before .args .page .now) (c .before .before .before .before .before .before .before .before .args .place) (c .before .before .before .before .before .before .before .before .args .old)) (sym (c .before .before .before .before .before .became2 .given .1))
 

@@ -40,7 +40,6 @@ abbrev enter-from-below : ℕ → In 1 enter-from-kinds.ps
 enter-from-below t =
     and 1 enter-from-kinds.ps (falls 1 enter-from-kinds.ps _<_ μ-enter-from t) enter-from.Pre
 
--- src/entering.rt:156:9
 enter-from-enter-leaf-requires : (t : ℕ) → enter-from-lts.Need-enter-leaf-requires (
   enter-leaf-reads.Asked,
   enter-leaf-reads.Learnt,
@@ -66,7 +65,6 @@ enter-from-enter-leaf-requires t c κs = let a = c .before .before .before .args
     let few = few-rows tree p small narrow (a .level) (a .page) can in
     (few, leaf-step tree p small narrow (a .page) (a .level) (c .before .if1 .taken) can .can)
 
--- src/entering.rt:156:9
 enter-from-same-length : (t : ℕ) → enter-from-lts.Need-same-length (
   enter-leaf-reads.Asked,
   enter-leaf-reads.Learnt,
@@ -83,7 +81,6 @@ enter-from-same-length : (t : ℕ) → enter-from-lts.Need-same-length (
 ) (enter-from-at t) enter-from.Post
 enter-from-same-length t c = search needs
 
--- src/entering.rt:156:9
 enter-from-returns : (t : ℕ) → enter-from-lts.Need-returns (
   enter-leaf-reads.Asked,
   enter-leaf-reads.Learnt,
@@ -109,7 +106,6 @@ enter-from-returns t c = let a = c .before .before .before .before .before .befo
     let few = few-rows tree p small narrow (a .level) (a .page) can in
     rw (leaf-step tree p small narrow (a .page) (a .level) (c .before .before .before .before .if1 .taken) can .is) at (c .before .before .enter-leaf .ensures)
 
--- src/entering.rt:158:16
 enter-from-mul-from : (t : ℕ) → enter-from-lts.Need-mul-from (
   enter-leaf-reads.Asked,
   enter-leaf-reads.Learnt,
@@ -135,7 +131,6 @@ enter-from-mul-from t c = let a = c .before .before .args in
     let few = few-rows tree p small narrow (a .level) (a .page) can in
     omega (arith, within)
 
--- src/entering.rt:159:14
 enter-from-add-to : (t : ℕ) → enter-from-lts.Need-add-to (
   enter-leaf-reads.Asked,
   enter-leaf-reads.Learnt,
@@ -161,7 +156,6 @@ enter-from-add-to t c = let a = c .before .before .args in
     let few = few-rows tree p small narrow (a .level) (a .page) can in
     omega (arith, within)
 
--- src/entering.rt:160:36
 enter-from-mul-survey-page : (t : ℕ) → enter-from-lts.Need-mul-survey-page (
   enter-leaf-reads.Asked,
   enter-leaf-reads.Learnt,
@@ -187,7 +181,6 @@ enter-from-mul-survey-page t c = let a = c .before .before .args in
     let few = few-rows tree p small narrow (a .level) (a .page) can in
     omega (arith, within)
 
--- src/entering.rt:160:36
 enter-from-sub-survey-page : (t : ℕ) → enter-from-lts.Need-sub-survey-page (
   enter-leaf-reads.Asked,
   enter-leaf-reads.Learnt,
@@ -204,7 +197,6 @@ enter-from-sub-survey-page : (t : ℕ) → enter-from-lts.Need-sub-survey-page (
 ) (enter-from-at t) enter-from.Post
 enter-from-sub-survey-page t c = search needs
 
--- src/entering.rt:160:36
 enter-from-part-survey-page-start : (t : ℕ) → enter-from-lts.Need-part-survey-page-start (
   enter-leaf-reads.Asked,
   enter-leaf-reads.Learnt,
@@ -221,7 +213,6 @@ enter-from-part-survey-page-start : (t : ℕ) → enter-from-lts.Need-part-surve
 ) (enter-from-at t) enter-from.Post
 enter-from-part-survey-page-start t c = search needs
 
--- src/entering.rt:160:36
 enter-from-part-survey-page-end : (t : ℕ) → enter-from-lts.Need-part-survey-page-end (
   enter-leaf-reads.Asked,
   enter-leaf-reads.Learnt,
@@ -247,7 +238,6 @@ enter-from-part-survey-page-end t c = let a = c .before .before .before .args in
     let few = few-rows tree p small narrow (a .level) (a .page) can in
     omega (arith, within)
 
--- src/entering.rt:160:9
 enter-from-survey-page-requires : (t : ℕ) → enter-from-lts.Need-survey-page-requires (
   enter-leaf-reads.Asked,
   enter-leaf-reads.Learnt,
@@ -273,7 +263,6 @@ enter-from-survey-page-requires t c κs = let a = c .before .before .before .bef
     let few = few-rows tree p small narrow (a .level) (a .page) can in
     (part-length table (a .page) within, rw (part-is table (a .page)) few)
 
--- src/entering.rt:164:40
 enter-from-enum-told : (t : ℕ) → enter-from-lts.Need-enum-told (
   enter-leaf-reads.Asked,
   enter-leaf-reads.Learnt,
@@ -290,7 +279,6 @@ enter-from-enum-told : (t : ℕ) → enter-from-lts.Need-enum-told (
 ) (enter-from-at t) enter-from.Post
 enter-from-enum-told t c = search needs
 
--- src/entering.rt:164:27
 enter-from-enter-lowest-requires : (t : ℕ) → enter-from-lts.Need-enter-lowest-requires (
   enter-leaf-reads.Asked,
   enter-leaf-reads.Learnt,
@@ -322,7 +310,6 @@ enter-from-enter-lowest-requires t c κs = let a = c .before .before .before .be
     let gain : c .before .before .before .survey-page .result .gain ≡ surveyOf (a .t) (a .k) (pageAt table (a .page)) .gain = ap (λ (s : Survey). s .gain) survey in
     (few, (rw gain (gain-within tree p small narrow (a .page)), rw gain (step .can)))
 
--- src/entering.rt:165:19
 enter-from-enum-known-inner : (t : ℕ) → enter-from-lts.Need-enum-known-inner (
   enter-leaf-reads.Asked,
   enter-leaf-reads.Learnt,
@@ -339,7 +326,6 @@ enter-from-enum-known-inner : (t : ℕ) → enter-from-lts.Need-enum-known-inner
 ) (enter-from-at t) enter-from.Post
 enter-from-enum-known-inner t c = search needs
 
--- src/entering.rt:166:36
 enter-from-mul-row-at : (t : ℕ) → enter-from-lts.Need-mul-row-at (
   enter-leaf-reads.Asked,
   enter-leaf-reads.Learnt,
@@ -365,7 +351,6 @@ enter-from-mul-row-at t c = let a = c .before .before .before .before .before .b
     let few = few-rows tree p small narrow (a .level) (a .page) can in
     omega (arith, within)
 
--- src/entering.rt:166:36
 enter-from-sub-row-at : (t : ℕ) → enter-from-lts.Need-sub-row-at (
   enter-leaf-reads.Asked,
   enter-leaf-reads.Learnt,
@@ -382,7 +367,6 @@ enter-from-sub-row-at : (t : ℕ) → enter-from-lts.Need-sub-row-at (
 ) (enter-from-at t) enter-from.Post
 enter-from-sub-row-at t c = search needs
 
--- src/entering.rt:166:36
 enter-from-part-row-at-start : (t : ℕ) → enter-from-lts.Need-part-row-at-start (
   enter-leaf-reads.Asked,
   enter-leaf-reads.Learnt,
@@ -399,7 +383,6 @@ enter-from-part-row-at-start : (t : ℕ) → enter-from-lts.Need-part-row-at-sta
 ) (enter-from-at t) enter-from.Post
 enter-from-part-row-at-start t c = search needs
 
--- src/entering.rt:166:36
 enter-from-part-row-at-end : (t : ℕ) → enter-from-lts.Need-part-row-at-end (
   enter-leaf-reads.Asked,
   enter-leaf-reads.Learnt,
@@ -425,7 +408,6 @@ enter-from-part-row-at-end t c = let a = c .before .before .before .before .befo
     let few = few-rows tree p small narrow (a .level) (a .page) can in
     omega (arith, within)
 
--- src/entering.rt:166:17
 enter-from-row-at-requires : (t : ℕ) → enter-from-lts.Need-row-at-requires (
   enter-leaf-reads.Asked,
   enter-leaf-reads.Learnt,
@@ -457,7 +439,6 @@ enter-from-row-at-requires t c κs = let a = c .before .before .before .before .
     let low = place-inside tree p small narrow (a .page) q at in
     omega (arith, low, few, part-length table (a .page) within)
 
--- src/entering.rt:167:49
 enter-from-sub-enter-from : (t : ℕ) → enter-from-lts.Need-sub-enter-from (
   enter-leaf-reads.Asked,
   enter-leaf-reads.Learnt,
@@ -474,7 +455,6 @@ enter-from-sub-enter-from : (t : ℕ) → enter-from-lts.Need-sub-enter-from (
 ) (enter-from-at t) enter-from.Post
 enter-from-sub-enter-from t c = search needs
 
--- src/entering.rt:167:17
 enter-from-enter-from-requires : (t : ℕ) → enter-from-lts.Need-enter-from-requires (
   enter-leaf-reads.Asked,
   enter-leaf-reads.Learnt,
@@ -508,7 +488,6 @@ enter-from-enter-from-requires t c κs = let a = c .before .before .before .befo
     let child : c .before .row-at .result .child ≡ rowIn (pageAt table (a .page)) q .child = ap (λ (r : Row). r .child) row in
     (omega (arith, c .before .before .before .before .before .before .before .before .before .before .before .before .pre .0), rw child (child-step tree p small narrow (a .page) q at (a .level) (c .before .before .before .before .before .before .before .before .before .before .if1 .left) can))
 
--- src/entering.rt:168:13
 enter-from-enter-above-requires : (t : ℕ) → enter-from-lts.Need-enter-above-requires (
   enter-leaf-reads.Asked,
   enter-leaf-reads.Learnt,
@@ -547,7 +526,6 @@ enter-from-enter-above-requires t c κs = let a = c .before .before .before .bef
     let low = place-inside tree p small narrow (a .page) q at in
     (omega (arith, step .0, few), (rw (gain, step .0) (gain-within tree p small narrow (a .page)), (omega (arith, step .0, low), rw gain (step .1 .can))))
 
--- src/entering.rt:142:1
 enter-from-same-length-2 : (t : ℕ) → enter-from-lts.Need-same-length-2 (
   enter-leaf-reads.Asked,
   enter-leaf-reads.Learnt,
@@ -564,7 +542,6 @@ enter-from-same-length-2 : (t : ℕ) → enter-from-lts.Need-same-length-2 (
 ) (enter-from-at t) enter-from.Post
 enter-from-same-length-2 t c = search needs
 
--- src/entering.rt:142:1
 enter-from-returns-2 : (t : ℕ) → enter-from-lts.Need-returns-2 (
   enter-leaf-reads.Asked,
   enter-leaf-reads.Learnt,
@@ -596,7 +573,6 @@ enter-from-returns-2 t c = let a = c .before .before .before .before .before .be
     let gain : c .before .before .before .before .before .before .survey-page .result .gain ≡ surveyOf (a .t) (a .k) (pageAt table (a .page)) .gain = ap (λ (s : Survey). s .gain) survey in
     rw (gain, step .is) at (c .before .before .enter-lowest .ensures)
 
--- src/entering.rt:142:1
 enter-from-same-length-3 : (t : ℕ) → enter-from-lts.Need-same-length-3 (
   enter-leaf-reads.Asked,
   enter-leaf-reads.Learnt,
@@ -613,7 +589,6 @@ enter-from-same-length-3 : (t : ℕ) → enter-from-lts.Need-same-length-3 (
 ) (enter-from-at t) enter-from.Post
 enter-from-same-length-3 t c = search needs
 
--- src/entering.rt:142:1
 enter-from-returns-3 : (t : ℕ) → enter-from-lts.Need-returns-3 (
   enter-leaf-reads.Asked,
   enter-leaf-reads.Learnt,

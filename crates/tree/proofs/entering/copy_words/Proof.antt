@@ -1,6 +1,6 @@
-use mathlib.Core.Path.{_≡_, refl, ap, sym, _∙_}
-use Prim.Native.Nat.{_≤_, _<_, _+_, _-_}
-use lib.ListN.{length, drop, getD}
+use mathlib.Core.Path.{_≡_, ap, _∙_}
+use Prim.Native.Nat.{_≤_, _-_}
+use lib.ListN.{length, getD}
 use native.Mathlib.Omega.{arith}
 use mathlib.Core.List.{List}
 use Prim.Native.Nat.{ℕ}
@@ -10,8 +10,6 @@ use Rattle.tree.proofs.CopyLaws.{copy-none, copy-more, copy-done}
 use borrow.Author.Needs.{needs}
 use Rattle.tree.proofs.entering.copy_words.Statement.{statement}
 use Rattle.tree.proofs.entering.copy_words.Tie as tie
-use Rattle.tree.proofs.entering.copy_words.Reads as reads
-use Rattle.tree.proofs.entering.copy_words.Lts as lts
 
 abbrev Inv-loop : tie.InvT-loop
 Inv-loop to₀ from at₀ to at = (at ≤ length from) × (length to ≡ length to₀) × (to ≡ overwrite to₀ 0 (take at from))
@@ -19,35 +17,27 @@ Inv-loop to₀ from at₀ to at = (at ≤ length from) × (length to ≡ length 
 abbrev μ-loop : tie.MeasureT-loop
 μ-loop to₀ from at₀ to at = length from - at
 
--- src/entering.rt:27:5
 loop-holds : tie.Need-loop-holds Inv-loop μ-loop
 loop-holds c = (search needs, search needs, copy-none (c .args .to .now) (c .args .from .now) (search needs))
 
--- src/entering.rt:28:18
 mul-to : tie.Need-mul-to Inv-loop μ-loop
 mul-to c = search needs
 
--- src/entering.rt:28:18
 shared-slice-read-to : tie.Need-shared-slice-read-to Inv-loop μ-loop
 shared-slice-read-to c = search needs
 
--- src/entering.rt:28:9
 mul-to-2 : tie.Need-mul-to-2 Inv-loop μ-loop
 mul-to-2 c = search needs
 
--- src/entering.rt:28:9
 slice-write-to : tie.Need-slice-write-to Inv-loop μ-loop
 slice-write-to c = search needs
 
--- src/entering.rt:29:9
 add-at : tie.Need-add-at Inv-loop μ-loop
 add-at c = search needs
 
--- src/entering.rt:27:5
 loop-less : tie.Need-loop-less Inv-loop μ-loop
 loop-less c = search needs
 
--- src/entering.rt:27:5
 loop-again : tie.Need-loop-again Inv-loop μ-loop
 loop-again c = let a = c .before .before .before .args in
     let l = c .before .before .loop in
@@ -58,11 +48,9 @@ loop-again c = let a = c .before .before .before .args in
           ∙ copy-more (a .to .now) (a .from .now) (search needs) (l .at) (omega arith),
     )
 
--- src/entering.rt:22:1
 same-length : tie.Need-same-length Inv-loop μ-loop
 same-length c = search needs
 
--- src/entering.rt:22:1
 returns : tie.Need-returns Inv-loop μ-loop
 returns c = let a = c .before .before .args in
     let l = c .before .loop in

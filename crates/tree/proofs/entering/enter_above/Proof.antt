@@ -1,41 +1,26 @@
-use mathlib.Core.Path.{_≡_, refl, ap, sym, _∙_}
-use Prim.Native.Nat.{_≤_, _<_, _+_, _-_}
-use lib.ListN.{length, drop, getD}
+use mathlib.Core.Path.{_≡_, ap, _∙_}
+use lib.ListN.{length}
 use native.Mathlib.Omega.{arith}
 use Prim.Native.Nat.{ℕ}
 use mathlib.Core.List.{List}
 use Rattle.page.specs.Row.{word, pageWords}
-use Rattle.page.specs.Survey.{surveyOf, isAround, startsFrom}
-use Rattle.page.specs.declared.survey.Survey.{Survey}
 use Rattle.page.specs.declared.row.Row.{Row}
 use Rattle.tree.specs.Tree.{pageAt}
-use Rattle.tree.specs.PageEdits.{Within, leafWords, gainWords, linkWords, rowIn}
-use Rattle.tree.specs.EnterWords.{loaded, leafEdited, gainEdited, linkEdited, CanSettle, DoneAs, settled, madeSo}
+use Rattle.tree.specs.PageEdits.{Within, gainWords, linkWords, rowIn}
+use Rattle.tree.specs.EnterWords.{linkEdited}
 use Rattle.tree.proofs.TableLaws.{page-length}
-use Rattle.tree.proofs.CopyLaws.{part-is, part-length}
 use Rattle.tree.proofs.SettleLaws.{loaded-count, loaded-length}
-use Rattle.tree.proofs.StepRows.{found-within}
-use Rattle.tree.proofs.EditSizes.{Grown, gain-grown}
+use Rattle.tree.proofs.EditSizes.{gain-grown}
 use borrow.Author.Needs.{needs}
 use Rattle.tree.proofs.entering.enter_above.Statement.{statement}
 use Rattle.tree.proofs.entering.enter_above.Tie as tie
-use Rattle.tree.proofs.entering.enter_above.Reads as reads
-use Rattle.tree.proofs.entering.enter_above.Lts as lts
-use Rattle.page.proofs.row_at.Reads as row-at-reads
-use Rattle.tree.proofs.edits.gain_row.Reads as gain-row-reads
-use Rattle.tree.proofs.edits.link_row.Reads as link-row-reads
-use Rattle.tree.proofs.entering.load_page.Reads as load-page-reads
-use Rattle.tree.proofs.entering.settle_page.Reads as settle-page-reads
 
--- src/entering.rt:133:21
 load-page-requires : tie.Need-load-page-requires
 load-page-requires c κs = c .before .before .pre .1 .1 .1 .inside
 
--- src/entering.rt:134:28
 slice-aggregate-row-at : tie.Need-slice-aggregate-row-at
 slice-aggregate-row-at c = search needs
 
--- src/entering.rt:134:9
 row-at-requires : tie.Need-row-at-requires
 row-at-requires c κs = let a = c .before .before .before .before .args in
     let table = a .table .now in
@@ -45,11 +30,9 @@ row-at-requires c κs = let a = c .before .before .before .before .args in
     let size : length (c .before .load-page .result) ≡ 272 = ap length (c .before .load-page .ensures) ∙ loaded-length table (a .page) whole in
     omega arith
 
--- src/entering.rt:135:14
 slice-aggregate-gain-row : tie.Need-slice-aggregate-gain-row
 slice-aggregate-gain-row c = search needs
 
--- src/entering.rt:135:5
 gain-row-requires : tie.Need-gain-row-requires
 gain-row-requires c κs = let a = c .before .before .before .before .before .before .args in
     let table = a .table .now in
@@ -59,11 +42,9 @@ gain-row-requires c κs = let a = c .before .before .before .before .before .bef
     let size : length (c .before .before .before .load-page .result) ≡ 272 = ap length (c .before .before .before .load-page .ensures) ∙ loaded-length table (a .page) whole in
     (rw count (c .before .before .before .before .before .before .pre .1 .0), omega arith)
 
--- src/entering.rt:136:14
 slice-aggregate-link-row : tie.Need-slice-aggregate-link-row
 slice-aggregate-link-row c = search needs
 
--- src/entering.rt:136:5
 link-row-requires : tie.Need-link-row-requires
 link-row-requires c κs = let a = c .before .before .before .before .before .before .before .before .before .args in
     let table = a .table .now in
@@ -75,11 +56,9 @@ link-row-requires c κs = let a = c .before .before .before .before .before .bef
     let grown = gain-grown (a .t) (a .value) (c .before .before .before .before .before .before .load-page .result) (a .gain) within (omega arith) in
     (rw (c .before .before .gain-row .ensures) (omega (arith, grown .least)), rw (c .before .before .gain-row .ensures) (omega (arith, grown .size, grown .rows)))
 
--- src/entering.rt:137:48
 slice-aggregate-settle-page : tie.Need-slice-aggregate-settle-page
 slice-aggregate-settle-page c = search needs
 
--- src/entering.rt:137:5
 settle-page-requires : tie.Need-settle-page-requires
 settle-page-requires c κs = let a = c .before .before .before .before .before .before .before .before .before .before .before .before .before .args in
     let table = a .table .now in
@@ -90,11 +69,9 @@ settle-page-requires c κs = let a = c .before .before .before .before .before .
         ∙ ap (λ (w : List ℕ). linkWords (a .t) (gainWords (a .t) (a .value) w (a .gain)) (a .place) (rowIn w (a .place)) (a .below .became)) (c .before .before .before .before .before .before .before .before .before .before .load-page .ensures) in
     rw edited (c .before .before .before .before .before .before .before .before .before .before .before .before .before .pre .1 .1 .1)
 
--- src/entering.rt:116:1
 same-length : tie.Need-same-length
 same-length c = search needs
 
--- src/entering.rt:116:1
 returns : tie.Need-returns
 returns c = let a = c .before .before .before .before .before .before .before .before .before .before .before .before .before .before .before .before .args in
     let table = a .table .now in

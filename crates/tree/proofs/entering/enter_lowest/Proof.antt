@@ -1,39 +1,24 @@
-use mathlib.Core.Path.{_≡_, refl, ap, sym, _∙_}
-use Prim.Native.Nat.{_≤_, _<_, _+_, _-_}
-use lib.ListN.{length, drop, getD}
+use mathlib.Core.Path.{_≡_, ap, _∙_}
+use lib.ListN.{length}
 use native.Mathlib.Omega.{arith}
 use Prim.Native.Nat.{ℕ}
 use mathlib.Core.List.{List}
 use Rattle.page.specs.Row.{word, pageWords}
-use Rattle.page.specs.Survey.{surveyOf, isAround, startsFrom}
-use Rattle.page.specs.declared.survey.Survey.{Survey}
-use Rattle.page.specs.declared.row.Row.{Row}
 use Rattle.tree.specs.Tree.{pageAt}
-use Rattle.tree.specs.PageEdits.{Within, leafWords, gainWords, linkWords, rowIn}
-use Rattle.tree.specs.EnterWords.{loaded, leafEdited, gainEdited, linkEdited, CanSettle, DoneAs, settled, madeSo}
+use Rattle.tree.specs.PageEdits.{gainWords}
+use Rattle.tree.specs.EnterWords.{gainEdited}
 use Rattle.tree.proofs.TableLaws.{page-length}
-use Rattle.tree.proofs.CopyLaws.{part-is, part-length}
 use Rattle.tree.proofs.SettleLaws.{loaded-count, loaded-length}
-use Rattle.tree.proofs.StepRows.{found-within}
-use Rattle.tree.proofs.EditSizes.{Grown, gain-grown}
 use borrow.Author.Needs.{needs}
 use Rattle.tree.proofs.entering.enter_lowest.Statement.{statement}
 use Rattle.tree.proofs.entering.enter_lowest.Tie as tie
-use Rattle.tree.proofs.entering.enter_lowest.Reads as reads
-use Rattle.tree.proofs.entering.enter_lowest.Lts as lts
-use Rattle.tree.proofs.edits.gain_row.Reads as gain-row-reads
-use Rattle.tree.proofs.entering.load_page.Reads as load-page-reads
-use Rattle.tree.proofs.entering.settle_page.Reads as settle-page-reads
 
--- src/entering.rt:110:21
 load-page-requires : tie.Need-load-page-requires
 load-page-requires c κs = c .before .before .pre .1 .1 .inside
 
--- src/entering.rt:111:14
 slice-aggregate-gain-row : tie.Need-slice-aggregate-gain-row
 slice-aggregate-gain-row c = search needs
 
--- src/entering.rt:111:5
 gain-row-requires : tie.Need-gain-row-requires
 gain-row-requires c κs = let a = c .before .before .before .before .args in
     let table = a .table .now in
@@ -43,11 +28,9 @@ gain-row-requires c κs = let a = c .before .before .before .before .args in
     let size : length (c .before .load-page .result) ≡ 272 = ap length (c .before .load-page .ensures) ∙ loaded-length table (a .page) whole in
     (rw count (c .before .before .before .before .pre .1 .0), omega arith)
 
--- src/entering.rt:112:39
 slice-aggregate-settle-page : tie.Need-slice-aggregate-settle-page
 slice-aggregate-settle-page c = search needs
 
--- src/entering.rt:112:5
 settle-page-requires : tie.Need-settle-page-requires
 settle-page-requires c κs = let a = c .before .before .before .before .before .before .before .before .args in
     let table = a .table .now in
@@ -55,11 +38,9 @@ settle-page-requires c κs = let a = c .before .before .before .before .before .
         c .before .before .before .gain-row .ensures ∙ ap (λ (w : List ℕ). gainWords (a .t) (a .value) w (a .gain)) (c .before .before .before .before .before .load-page .ensures) in
     rw edited (c .before .before .before .before .before .before .before .before .pre .1 .1)
 
--- src/entering.rt:97:1
 same-length : tie.Need-same-length
 same-length c = search needs
 
--- src/entering.rt:97:1
 returns : tie.Need-returns
 returns c = let a = c .before .before .before .before .before .before .before .before .before .before .before .args in
     let table = a .table .now in

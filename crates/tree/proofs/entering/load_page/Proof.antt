@@ -1,8 +1,8 @@
-use mathlib.Core.Path.{_≡_, refl, ap, sym, _∙_}
-use Prim.Native.Nat.{_≤_, _<_, _+_, _-_}
-use lib.ListN.{length, drop, getD}
+use mathlib.Core.Path.{refl, ap, _∙_}
+use Prim.Native.Nat.{_+_, _-_}
+use lib.ListN.{drop}
 use native.Mathlib.Omega.{arith}
-use Rattle.tree.proofs.CopyLaws.{part-length, part-is, part-back, load-is}
+use Rattle.tree.proofs.CopyLaws.{part-length, part-is, load-is}
 use Prim.Native.Nat.{_*_}
 use mathlib.Core.List.{List, _++_}
 use Prim.Native.Nat.{ℕ}
@@ -11,43 +11,31 @@ use Rattle.page.specs.Fresh.{zeros}
 use borrow.Author.Needs.{needs}
 use Rattle.tree.proofs.entering.load_page.Statement.{statement}
 use Rattle.tree.proofs.entering.load_page.Tie as tie
-use Rattle.tree.proofs.entering.load_page.Reads as reads
-use Rattle.tree.proofs.entering.load_page.Lts as lts
-use Rattle.tree.proofs.entering.copy_words.Reads as copy-words-reads
 
--- src/entering.rt:38:16
 mul-from : tie.Need-mul-from
 mul-from c = search needs
 
--- src/entering.rt:39:14
 add-to : tie.Need-add-to
 add-to c = search needs
 
--- src/entering.rt:41:16
 slice-aggregate-copy-words : tie.Need-slice-aggregate-copy-words
 slice-aggregate-copy-words c = refl
 
--- src/entering.rt:41:28
 mul-copy-words : tie.Need-mul-copy-words
 mul-copy-words c = search needs
 
--- src/entering.rt:41:28
 sub-copy-words : tie.Need-sub-copy-words
 sub-copy-words c = search needs
 
--- src/entering.rt:41:28
 part-copy-words-start : tie.Need-part-copy-words-start
 part-copy-words-start c = search needs
 
--- src/entering.rt:41:28
 part-copy-words-end : tie.Need-part-copy-words-end
 part-copy-words-end c = search needs
 
--- src/entering.rt:41:5
 copy-words-requires : tie.Need-copy-words-requires
 copy-words-requires c κs = omega (arith, part-length (c .before .before .before .args .table .now) (c .before .before .before .args .page) (search needs))
 
--- src/entering.rt:34:1
 returns : tie.Need-returns
 unfolding zeros
 returns c = let a = c .before .before .before .before .before .args in

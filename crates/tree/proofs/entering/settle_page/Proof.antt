@@ -1,45 +1,31 @@
-use mathlib.Core.Path.{_≡_, refl, ap, sym, _∙_}
-use Prim.Native.Nat.{_≤_, _<_, _+_, _-_}
-use lib.ListN.{length, drop, getD}
-use native.Mathlib.Omega.{arith}
+use mathlib.Core.Path.{ap, sym, _∙_}
 use Rattle.tree.specs.Overflow.{Written}
 use Rattle.tree.specs.EnterWords.{madeSo}
 use Rattle.tree.proofs.SettleLaws.{settled-stays, settled-splits}
 use borrow.Author.Needs.{needs}
 use Rattle.tree.proofs.entering.settle_page.Statement.{statement}
 use Rattle.tree.proofs.entering.settle_page.Tie as tie
-use Rattle.tree.proofs.entering.settle_page.Reads as reads
-use Rattle.tree.proofs.entering.settle_page.Lts as lts
-use Rattle.tree.proofs.entering.store_page.Reads as store-page-reads
-use Rattle.tree.proofs.split.split_page.Reads as split-page-reads
 
--- src/entering.rt:68:8
 shared-slice-read-if1 : tie.Need-shared-slice-read-if1
 shared-slice-read-if1 c = search needs
 
--- src/entering.rt:69:9
 store-page-requires : tie.Need-store-page-requires
 store-page-requires c κs = (c .before .before .before .before .before .pre .size, c .before .before .before .before .before .pre .inside)
 
--- src/entering.rt:70:9
 same-length : tie.Need-same-length
 same-length c = search needs
 
--- src/entering.rt:70:9
 returns : tie.Need-returns
 returns c = let stay = settled-stays (c .before .before .before .before .before .before .before .before .args .used) (c .before .before .before .before .before .before .before .before .args .t) (madeSo (c .before .before .before .before .before .before .before .before .args .table .now) (c .before .before .before .before .before .before .before .before .args .made)) (c .before .before .before .before .before .before .before .before .args .page) (c .before .before .before .before .before .before .before .before .args .words .now) (c .before .before .before .before .if1 .taken) in
     record { table-is = c .before .before .store-page .ensures ∙ ap (λ (w : Written). w .table) (sym stay); made-is = ap (λ (w : Written). w .made) (sym stay); became-is = ap (λ (w : Written). w .became) (sym stay) }
 
--- src/entering.rt:75:5
 split-page-requires : tie.Need-split-page-requires
 split-page-requires c κs = let over = settled-splits (c .before .before .before .before .before .args .used) (c .before .before .before .before .before .args .t) (madeSo (c .before .before .before .before .before .args .table .now) (c .before .before .before .before .before .args .made)) (c .before .before .before .before .before .args .page) (c .before .before .before .before .before .args .words .now) (c .before .if1 .left) in
     (c .before .before .before .before .before .pre .size, (c .before .before .before .before .before .pre .rows, (c .before .before .before .before .before .pre .few, (c .before .before .before .before .before .pre .used-few, rw over at (c .before .before .before .before .before .pre .room)))))
 
--- src/entering.rt:57:1
 same-length-2 : tie.Need-same-length-2
 same-length-2 c = search needs
 
--- src/entering.rt:57:1
 returns-2 : tie.Need-returns-2
 returns-2 c = let over = settled-splits (c .before .before .before .before .before .before .before .before .args .used) (c .before .before .before .before .before .before .before .before .args .t) (madeSo (c .before .before .before .before .before .before .before .before .args .table .now) (c .before .before .before .before .before .before .before .before .args .made)) (c .before .before .before .before .before .before .before .before .args .page) (c .before .before .before .before .before .before .before .before .args .words .now) (c .before .before .before .before .if1 .left) in
     record {

@@ -1,6 +1,6 @@
-use mathlib.Core.Path.{_≡_, refl, ap, sym, _∙_}
-use Prim.Native.Nat.{_≤_, _<_, _+_, _-_}
-use lib.ListN.{length, drop, getD}
+use mathlib.Core.Path.{_≡_, ap, _∙_}
+use Prim.Native.Nat.{_+_, _-_}
+use lib.ListN.{length, drop}
 use native.Mathlib.Omega.{arith}
 use Rattle.tree.proofs.CopyLaws.{part-length, part-back}
 use Prim.Native.Nat.{_*_}
@@ -13,59 +13,43 @@ use Rattle.words.proofs.OverwriteLaws.{overwrite-all}
 use borrow.Author.Needs.{needs}
 use Rattle.tree.proofs.entering.store_page.Statement.{statement}
 use Rattle.tree.proofs.entering.store_page.Tie as tie
-use Rattle.tree.proofs.entering.store_page.Reads as reads
-use Rattle.tree.proofs.entering.store_page.Lts as lts
-use Rattle.tree.proofs.entering.copy_words.Reads as copy-words-reads
 
--- src/entering.rt:51:16
 mul-from : tie.Need-mul-from
 mul-from c = search needs
 
--- src/entering.rt:52:14
 add-to : tie.Need-add-to
 add-to c = search needs
 
--- src/entering.rt:55:16
 mul-copy-words : tie.Need-mul-copy-words
 mul-copy-words c = search needs
 
--- src/entering.rt:55:16
 sub-copy-words : tie.Need-sub-copy-words
 sub-copy-words c = search needs
 
--- src/entering.rt:55:16
 part-copy-words-start : tie.Need-part-copy-words-start
 part-copy-words-start c = search needs
 
--- src/entering.rt:55:16
 part-copy-words-end : tie.Need-part-copy-words-end
 part-copy-words-end c = search needs
 
--- src/entering.rt:55:38
 mul-copy-words-2 : tie.Need-mul-copy-words-2
 mul-copy-words-2 c = search needs
 
--- src/entering.rt:55:38
 sub-copy-words-2 : tie.Need-sub-copy-words-2
 sub-copy-words-2 c = search needs
 
--- src/entering.rt:55:38
 part-copy-words-start-2 : tie.Need-part-copy-words-start-2
 part-copy-words-start-2 c = search needs
 
--- src/entering.rt:55:38
 part-copy-words-end-2 : tie.Need-part-copy-words-end-2
 part-copy-words-end-2 c = search needs
 
--- src/entering.rt:55:5
 copy-words-requires : tie.Need-copy-words-requires
 copy-words-requires c κs = omega (arith, part-length (c .before .before .before .before .args .table .now) (c .before .before .before .before .args .page) (search needs), length-take 260 (c .before .before .before .before .args .words .now))
 
--- src/entering.rt:46:1
 same-length : tie.Need-same-length
 same-length c = search needs
 
--- src/entering.rt:46:1
 returns : tie.Need-returns
 returns c = let a = c .before .before .before .before .before .before .before .args in
     let part : List ℕ = take (a .page * 260 + 260 - a .page * 260) (drop (a .page * 260) (a .table .now)) in

@@ -2,8 +2,7 @@ use Rattle.page.specs.Fresh.{encodePage, twoRowRoot}
 use Prim.Native.Nat.{ℕ}
 use Rattle.tree.proofs.EnterRootLaws.{level, root-same, level-same, root-in-use, in-table, low-level, no-missing, can-enter-at, done-at, few-pages, stays-way, copied-can, copied-way, halved-can, halved-room, halved-way}
 use mathlib.Core.Path.{_≡_, refl, ap, sym, _∙_}
-use Prim.Native.Nat.{_≤_, _<_, _+_, _-_}
-use lib.ListN.{length, drop, getD}
+use Prim.Native.Nat.{_<_, _+_}
 use native.Mathlib.Omega.{arith}
 use Rattle.page.specs.declared.fresh.Page.{Page}
 use Rattle.tree.specs.declared.types.Root.the-variants.{At, Missing}
@@ -14,35 +13,22 @@ use Rattle.tree.specs.EnterRoot.{Planned}
 use borrow.Author.Needs.{needs}
 use Rattle.tree.proofs.growing.enter.Statement.{statement}
 use Rattle.tree.proofs.growing.enter.Tie as tie
-use Rattle.tree.proofs.growing.enter.Reads as reads
-use Rattle.tree.proofs.growing.enter.Lts as lts
-use Rattle.page.proofs.fresh.Page.two_row_root.Reads as two-row-root-reads
-use Rattle.tree.proofs.entering.enter_from.Reads as enter-from-reads
-use Rattle.tree.proofs.growing.put_root.Reads as put-root-reads
-use Rattle.tree.proofs.roots.find_root.Reads as find-root-reads
-use Rattle.tree.proofs.split.put_page.Reads as put-page-reads
 
--- src/growing.rt:51:34
 cast-find-root : tie.Need-cast-find-root
 cast-find-root c = search needs
 
--- src/growing.rt:51:9
 find-root-requires : tie.Need-find-root-requires
 find-root-requires c κs = search needs
 
--- src/growing.rt:52:18
 enum-known-found : tie.Need-enum-known-found
 enum-known-found c = search needs
 
--- src/growing.rt:53:9
 enum-told : tie.Need-enum-told
 enum-told c = search needs
 
--- src/growing.rt:53:9
 same-length : tie.Need-same-length
 same-length c = search needs
 
--- src/growing.rt:53:9
 returns : tie.Need-returns
 returns c = let a = c .before .before .before .before .before .before .before .args in
     let tree : Tree = record { table = a .table .now; roots = a .roots .now; used = a .used } in
@@ -53,11 +39,9 @@ returns c = let a = c .before .before .before .before .before .before .before .a
     let root : rootAt tree (p .tick) ≡ Missing = sym (c .before .before .find-root .ensures) ∙ c .enum-told .given .1 in
     absurd (no-missing tree p pl root)
 
--- src/growing.rt:55:23
 cast-level : tie.Need-cast-level
 cast-level c = search needs
 
--- src/growing.rt:55:23
 mul-level : tie.Need-mul-level
 mul-level c = let a = c .before .before .before .before .before .before .before .before .args in
     let tree : Tree = record { table = a .table .now; roots = a .roots .now; used = a .used } in
@@ -71,7 +55,6 @@ mul-level c = let a = c .before .before .before .before .before .before .before 
     let used = root-in-use tree p pl in
     omega (arith, in-table tree p pl)
 
--- src/growing.rt:55:17
 mul-level-2 : tie.Need-mul-level-2
 mul-level-2 c = let a = c .before .before .before .before .before .before .before .before .args in
     let tree : Tree = record { table = a .table .now; roots = a .roots .now; used = a .used } in
@@ -85,7 +68,6 @@ mul-level-2 c = let a = c .before .before .before .before .before .before .befor
     let used = root-in-use tree p pl in
     omega (arith, in-table tree p pl)
 
--- src/growing.rt:55:17
 slice-read-level : tie.Need-slice-read-level
 slice-read-level c = let a = c .before .before .before .before .before .before .before .before .before .args in
     let tree : Tree = record { table = a .table .now; roots = a .roots .now; used = a .used } in
@@ -99,7 +81,6 @@ slice-read-level c = let a = c .before .before .before .before .before .before .
     let used = root-in-use tree p pl in
     omega (arith, in-table tree p pl)
 
--- src/growing.rt:56:9
 enter-from-requires : tie.Need-enter-from-requires
 enter-from-requires c κs = let a = c .before .before .before .before .before .before .before .before .before .before .args in
     let tree : Tree = record { table = a .table .now; roots = a .roots .now; used = a .used } in
@@ -113,11 +94,9 @@ enter-from-requires c κs = let a = c .before .before .before .before .before .b
     let used = root-in-use tree p pl in
     can-enter-at tree p pl q root
 
--- src/growing.rt:60:20
 enum-told-2 : tie.Need-enum-told-2
 enum-told-2 c = search needs
 
--- src/growing.rt:60:20
 add-t26 : tie.Need-add-t26
 add-t26 c = let a = c .before .before .before .before .before .before .before .before .before .before .before .before .before .before .before .before .before .args in
     let tree : Tree = record { table = a .table .now; roots = a .roots .now; used = a .used } in
@@ -133,11 +112,9 @@ add-t26 c = let a = c .before .before .before .before .before .before .before .b
     let few = few-pages tree p pl small narrow (c .before .before .before .before .before .before .enter-from .result) (c .before .before .before .before .before .before .enter-from .last .0) is in
     omega (arith, few .0, pl .used-few)
 
--- src/growing.rt:63:24
 enum-known-became : tie.Need-enum-known-became
 enum-known-became c = search needs
 
--- src/growing.rt:63:34
 put-root-requires : tie.Need-put-root-requires
 put-root-requires c κs = let a = c .before .before .before .before .before .before .before .before .before .before .before .before .before .before .before .before .before .args in
     let tree : Tree = record { table = a .table .now; roots = a .roots .now; used = a .used } in
@@ -153,11 +130,9 @@ put-root-requires c κs = let a = c .before .before .before .before .before .bef
     let few = few-pages tree p pl small narrow (c .before .before .before .before .before .before .enter-from .result) (c .before .before .before .before .before .before .enter-from .last .0) is in
     copied-can tree p pl (c .before .before .before .before .before .before .enter-from .result) (c .before .before .before .before .before .before .enter-from .last .0) is (few .0) (c .before .before .became .given .0 .0) (c .before .before .became .given .1)
 
--- src/growing.rt:64:24
 enum-known-became-2 : tie.Need-enum-known-became-2
 enum-known-became-2 c = search needs
 
--- src/growing.rt:65:26
 add-number : tie.Need-add-number
 add-number c = let a = c .before .before .before .before .before .before .before .before .before .before .before .before .before .before .before .before .before .before .args in
     let tree : Tree = record { table = a .table .now; roots = a .roots .now; used = a .used } in
@@ -173,7 +148,6 @@ add-number c = let a = c .before .before .before .before .before .before .before
     let few = few-pages tree p pl small narrow (c .before .before .before .before .before .before .before .enter-from .result) (c .before .before .before .before .before .before .before .enter-from .last .0) is in
     omega (arith, few .0, pl .used-few)
 
--- src/growing.rt:66:56
 add-two-row-root : tie.Need-add-two-row-root
 add-two-row-root c = let a = c .before .before .before .before .before .before .before .before .before .before .before .before .before .before .before .before .before .before .before .args in
     let tree : Tree = record { table = a .table .now; roots = a .roots .now; used = a .used } in
@@ -187,11 +161,9 @@ add-two-row-root c = let a = c .before .before .before .before .before .before .
     let used = root-in-use tree p pl in
     omega (arith, level-same tree p pl q same, low-level tree p pl)
 
--- src/growing.rt:66:37
 two-row-root-requires : tie.Need-two-row-root-requires
 two-row-root-requires c κs = search needs
 
--- src/growing.rt:66:13
 put-page-requires : tie.Need-put-page-requires
 put-page-requires c κs = let a = c .before .before .before .before .before .before .before .before .before .before .before .before .before .before .before .before .before .before .before .before .args in
     let tree : Tree = record { table = a .table .now; roots = a .roots .now; used = a .used } in
@@ -208,7 +180,6 @@ put-page-requires c κs = let a = c .before .before .before .before .before .bef
     let room = halved-room tree p pl (c .before .before .before .before .before .before .before .before .before .enter-from .result) (c .before .before .before .before .before .before .before .before .before .enter-from .last .0) is (c .before .before .before .before .before .became2 .given .0 .0) (c .before .before .before .before .before .became2 .given .0 .1 .0) (c .before .before .before .before .before .became2 .given .1) in
     (omega (arith, room, few .1), rw (c .two-row-root .ensures) (omega arith))
 
--- src/growing.rt:67:35
 add-put-root : tie.Need-add-put-root
 add-put-root c = let a = c .before .before .before .before .before .before .before .before .before .before .before .before .before .before .before .before .before .before .before .before .before .before .before .before .before .args in
     let tree : Tree = record { table = a .table .now; roots = a .roots .now; used = a .used } in
@@ -224,7 +195,6 @@ add-put-root c = let a = c .before .before .before .before .before .before .befo
     let few = few-pages tree p pl small narrow (c .before .before .before .before .before .before .before .before .before .before .before .before .before .before .enter-from .result) (c .before .before .before .before .before .before .before .before .before .before .before .before .before .before .enter-from .last .0) is in
     omega (arith, few .0)
 
--- src/growing.rt:67:13
 put-root-requires-2 : tie.Need-put-root-requires-2
 put-root-requires-2 c κs = let a = c .before .before .before .before .before .before .before .before .before .before .before .before .before .before .before .before .before .before .before .before .before .before .before .before .before .args in
     let tree : Tree = record { table = a .table .now; roots = a .roots .now; used = a .used } in
@@ -240,15 +210,12 @@ put-root-requires-2 c κs = let a = c .before .before .before .before .before .b
     let few = few-pages tree p pl small narrow (c .before .before .before .before .before .before .before .before .before .before .before .before .before .before .enter-from .result) (c .before .before .before .before .before .before .before .before .before .before .before .before .before .before .enter-from .last .0) is in
     halved-can tree p pl (c .before .before .before .before .before .before .before .before .before .before .before .before .before .before .enter-from .result) (c .before .before .before .before .before .before .before .before .before .before .before .before .before .before .enter-from .last .0) is (few .0) (c .before .before .before .before .before .before .before .before .before .before .became2 .given .0 .0) (c .before .before .before .before .before .before .before .before .before .before .became2 .given .0 .1 .0) (c .before .before .before .before .before .before .before .before .before .before .became2 .given .1)
 
--- src/growing.rt:40:1
 same-length-2 : tie.Need-same-length-2
 same-length-2 c = search needs
 
--- src/growing.rt:40:1
 same-length-3 : tie.Need-same-length-3
 same-length-3 c = search needs
 
--- src/growing.rt:40:1
 returns-2 : tie.Need-returns-2
 returns-2 c = let a = c .before .before .before .before .before .before .before .before .before .before .before .before .before .before .before .before .before .args in
     let tree : Tree = record { table = a .table .now; roots = a .roots .now; used = a .used } in
@@ -264,15 +231,12 @@ returns-2 c = let a = c .before .before .before .before .before .before .before 
     let few = few-pages tree p pl small narrow (c .before .before .before .before .before .before .enter-from .result) (c .before .before .before .before .before .before .enter-from .last .0) is in
     stays-way tree p pl (c .before .before .before .before .before .before .enter-from .result) (c .before .before .before .before .before .before .enter-from .last .0) is (c .before .before .enum-told2 .given .1) _ refl
 
--- src/growing.rt:40:1
 same-length-4 : tie.Need-same-length-4
 same-length-4 c = search needs
 
--- src/growing.rt:40:1
 same-length-5 : tie.Need-same-length-5
 same-length-5 c = search needs
 
--- src/growing.rt:40:1
 returns-3 : tie.Need-returns-3
 returns-3 c = let a = c .before .before .before .before .before .before .before .before .before .before .before .before .before .before .before .before .before .before .before .before .args in
     let tree : Tree = record { table = a .table .now; roots = a .roots .now; used = a .used } in
@@ -288,15 +252,12 @@ returns-3 c = let a = c .before .before .before .before .before .before .before 
     let few = few-pages tree p pl small narrow (c .before .before .before .before .before .before .before .before .before .enter-from .result) (c .before .before .before .before .before .before .before .before .before .enter-from .last .0) is in
     copied-way tree p pl (c .before .before .before .before .before .before .before .before .before .enter-from .result) (c .before .before .before .before .before .before .before .before .before .enter-from .last .0) is (c .before .before .before .before .before .became .given .0 .0) (c .before .before .before .before .before .became .given .1) _ _ (c .before .before .put-root .ensures)
 
--- src/growing.rt:40:1
 same-length-6 : tie.Need-same-length-6
 same-length-6 c = search needs
 
--- src/growing.rt:40:1
 same-length-7 : tie.Need-same-length-7
 same-length-7 c = search needs
 
--- src/growing.rt:40:1
 returns-4 : tie.Need-returns-4
 returns-4 c = let a = c .before .before .before .before .before .before .before .before .before .before .before .before .before .before .before .before .before .before .before .before .before .before .before .before .before .before .before .before .args in
     let tree : Tree = record { table = a .table .now; roots = a .roots .now; used = a .used } in

@@ -1,7 +1,6 @@
-use borrow.Author.Tests.{le-leb, lt-leb, le-ltb, lt-ltb, eq-eqb, ne-eqb}
-use mathlib.Core.Path.{_≡_, refl, ap, sym, _∙_}
-use Prim.Native.Nat.{_≤_, _<_, _+_, _-_}
-use lib.ListN.{length, drop, getD}
+use borrow.Author.Tests.{eq-eqb, ne-eqb}
+use mathlib.Core.Path.{_≡_, sym, _∙_}
+use Prim.Native.Nat.{_-_}
 use native.Mathlib.Omega.{arith}
 use Rattle.words.specs.Words.{birthOf, lifeWord}
 use Rattle.words.proofs.OverwriteLaws.{overwrite-one}
@@ -9,56 +8,40 @@ use Rattle.page.specs.Row.{word}
 use borrow.Author.Needs.{needs}
 use Rattle.tree.proofs.growing.put_root.Statement.{statement}
 use Rattle.tree.proofs.growing.put_root.Tie as tie
-use Rattle.tree.proofs.growing.put_root.Reads as reads
-use Rattle.tree.proofs.growing.put_root.Lts as lts
-use Rattle.words.proofs.birth_of.Reads as birth-of-reads
-use Rattle.words.proofs.life.Reads as life-reads
 
--- src/growing.rt:22:17
 cast-count : tie.Need-cast-count
 cast-count c = search needs
 
--- src/growing.rt:23:9
 life-requires : tie.Need-life-requires
 life-requires c κs = search needs
 
--- src/growing.rt:24:22
 sub-last : tie.Need-sub-last
 sub-last c = search needs
 
--- src/growing.rt:24:16
 mul-last : tie.Need-mul-last
 mul-last c = search needs
 
--- src/growing.rt:24:16
 slice-read-last : tie.Need-slice-read-last
 slice-read-last c = search needs
 
--- src/growing.rt:25:8
 birth-of-requires : tie.Need-birth-of-requires
 birth-of-requires c κs = search needs
 
--- src/growing.rt:26:15
 sub-roots : tie.Need-sub-roots
 sub-roots c = search needs
 
--- src/growing.rt:26:9
 mul-roots : tie.Need-mul-roots
 mul-roots c = search needs
 
--- src/growing.rt:26:9
 slice-write-roots : tie.Need-slice-write-roots
 slice-write-roots c = search needs
 
--- src/growing.rt:28:20
 add-t18 : tie.Need-add-t18
 add-t18 c = search needs
 
--- src/growing.rt:27:9
 same-length : tie.Need-same-length
 same-length c = search needs
 
--- src/growing.rt:27:9
 returns : tie.Need-returns
 returns c = let a = c .before .before .before .before .before .before .before .args in
     let born : birthOf (word (a .roots .now) (a .used .roots - 1)) ≡ a .t = sym (c .before .before .birth-of .ensures) ∙ c .before .if1 .taken in
@@ -67,29 +50,23 @@ returns c = let a = c .before .before .before .before .before .before .before .a
       use-is = rw (eq-eqb _ _ born);
     }
 
--- src/growing.rt:32:5
 mul-roots-2 : tie.Need-mul-roots-2
 mul-roots-2 c = search needs
 
--- src/growing.rt:32:5
 slice-write-roots-2 : tie.Need-slice-write-roots-2
 slice-write-roots-2 c = let a = c .before .before .before .before .before .before .args in
     let other : birthOf (word (a .roots .now) (a .used .roots - 1)) ≡ a .t → ⊥ = λ e. c .if1 .left (c .before .birth-of .ensures ∙ e) in
     omega (arith, c .before .before .before .before .before .before .pre .place other)
 
--- src/growing.rt:34:16
 add-t13 : tie.Need-add-t13
 add-t13 c = search needs
 
--- src/growing.rt:35:16
 add-t20 : tie.Need-add-t20
 add-t20 c = omega (arith, c .before .before .before .before .before .before .before .before .pre .roots-few)
 
--- src/growing.rt:18:1
 same-length-2 : tie.Need-same-length-2
 same-length-2 c = search needs
 
--- src/growing.rt:18:1
 returns-2 : tie.Need-returns-2
 returns-2 c = let a = c .before .before .before .before .before .before .before .before .args in
     let other : birthOf (word (a .roots .now) (a .used .roots - 1)) ≡ a .t → ⊥ = λ e. c .before .before .if1 .left (c .before .before .before .birth-of .ensures ∙ e) in

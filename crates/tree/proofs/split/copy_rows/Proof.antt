@@ -14,35 +14,22 @@ use Rattle.tree.proofs.SplitRows.{start-in, in-words, between-length, c
 use borrow.Author.Needs.{needs}
 use Rattle.tree.proofs.split.copy_rows.Statement.{statement}
 use Rattle.tree.proofs.split.copy_rows.Tie as tie
-use Rattle.tree.proofs.split.copy_rows.Reads as reads
-use Rattle.tree.proofs.split.copy_rows.Lts as lts
-use Rattle.page.proofs.fresh.Page.empty.Reads as empty-reads
-use Rattle.tree.proofs.split.filled.Reads as filled-reads
-use Rattle.tree.proofs.split.put_page.Reads as put-page-reads
-use Rattle.words.proofs.high_key.Reads as high-key-reads
-use Rattle.words.proofs.low_key.Reads as low-key-reads
 
--- src/split.rt:90:17
 shared-slice-read-range : tie.Need-shared-slice-read-range
 shared-slice-read-range c = search needs
 
--- src/split.rt:91:29
 shared-slice-read-empty : tie.Need-shared-slice-read-empty
 shared-slice-read-empty c = search needs
 
--- src/split.rt:91:39
 low-key-requires : tie.Need-low-key-requires
 low-key-requires c κs = search needs
 
--- src/split.rt:91:62
 high-key-requires : tie.Need-high-key-requires
 high-key-requires c κs = search needs
 
--- src/split.rt:91:9
 empty-requires : tie.Need-empty-requires
 empty-requires c κs = search needs
 
--- src/split.rt:92:29
 filled-requires : tie.Need-filled-requires
 filled-requires c κs = let a = c .before .before .before .before .before .before .before .before .before .args in
     let ws = a .words .now in
@@ -53,7 +40,6 @@ filled-requires c κs = let a = c .before .before .before .before .before .befor
     let inside : a .start ≤ orderSize = start-in (a .t) ws os (a .start) from in
     (from .long, (inside, (omega arith, (omega arith, in-words (a .t) ws os (a .start) from))))
 
--- src/split.rt:92:5
 put-page-requires : tie.Need-put-page-requires
 put-page-requires c κs = let a = c .before .before .before .before .before .before .before .before .before .before .args in
     let ws = a .words .now in
@@ -68,11 +54,9 @@ put-page-requires c κs = let a = c .before .before .before .before .before .bef
     ap (λ (p : Page). p .count) (c .filled .ensures) ∙ filled-count ws (a .t) (c .before .before .empty .result) (between (a .start) orderSize os) in
     (search needs, omega arith)
 
--- src/split.rt:81:1
 same-length : tie.Need-same-length
 same-length c = search needs
 
--- src/split.rt:81:1
 returns : tie.Need-returns
 returns c = let a = c .before .before .before .before .before .before .before .before .before .before .before .before .before .args in
     let ws = a .words .now in

@@ -3,7 +3,7 @@ use Rattle.page.specs.Edit.{bornAt}
 use Rattle.page.specs.Fresh.{withRow}
 use Rattle.tree.specs.PageEdits.{rowIn}
 use Rattle.tree.specs.SplitWords.{entryRow, copyOf}
-use Prim.Native.Nat.{ℕ, _+_, _-_, _≤_, _<_}
+use Prim.Native.Nat.{ℕ, _+_, _-_, _≤_}
 use native.Mathlib.Omega.{arith}
 use mathlib.Core.Path.{_≡_, refl, ap, sym, _∙_}
 use lib.ListN.{length, drop, getD}
@@ -15,12 +15,6 @@ use Rattle.tree.proofs.SplitLaws.{fill-more, fill-none}
 use borrow.Author.Needs.{needs}
 use Rattle.tree.proofs.split.filled.Statement.{statement}
 use Rattle.tree.proofs.split.filled.Tie as tie
-use Rattle.tree.proofs.split.filled.Reads as reads
-use Rattle.tree.proofs.split.filled.Lts as lts
-use Rattle.page.proofs.fresh.Page.with_row.Reads as with-row-reads
-use Rattle.page.proofs.entry_place.Reads as entry-place-reads
-use Rattle.page.proofs.row_at.Reads as row-at-reads
-use Rattle.tree.proofs.edits.born_at.Reads as born-at-reads
 
 abbrev Inv-loop : tie.InvT-loop
 Inv-loop words order from to t page₀ at₀ page at =
@@ -30,45 +24,35 @@ Inv-loop words order from to t page₀ at₀ page at =
 abbrev μ-loop : tie.MeasureT-loop
 μ-loop words order from to t page₀ at₀ page at = to - at
 
--- src/split.rt:34:5
 loop-holds : tie.Need-loop-holds Inv-loop μ-loop
 loop-holds c = (search needs, search needs, search needs, refl)
 
--- src/split.rt:35:57
 mul-entry-place : tie.Need-mul-entry-place Inv-loop μ-loop
 mul-entry-place c = search needs
 
--- src/split.rt:35:57
 shared-slice-read-entry-place : tie.Need-shared-slice-read-entry-place Inv-loop μ-loop
 shared-slice-read-entry-place c = search needs
 
--- src/split.rt:35:39
 entry-place-requires : tie.Need-entry-place-requires Inv-loop μ-loop
 entry-place-requires c κs = search needs
 
--- src/split.rt:35:13
 row-at-requires : tie.Need-row-at-requires Inv-loop μ-loop
 row-at-requires c κs = rw (c .entry-place .ensures)
     (all-here (c .before .before .before .before .before .before .args .order .now) (c .before .before .before .loop .at) (λ (e : ℕ). rowStart (entryPlace e) + rowWords ≤ length (c .before .before .before .before .before .before .args .words .now))
     (omega arith) (c .before .before .before .loop .inv .2) .0)
 
--- src/split.rt:36:30
 born-at-requires : tie.Need-born-at-requires Inv-loop μ-loop
 born-at-requires c κs = search needs
 
--- src/split.rt:36:9
 with-row-requires : tie.Need-with-row-requires Inv-loop μ-loop
 with-row-requires c κs = omega arith
 
--- src/split.rt:37:9
 add-at : tie.Need-add-at Inv-loop μ-loop
 add-at c = search needs
 
--- src/split.rt:34:5
 loop-less : tie.Need-loop-less Inv-loop μ-loop
 loop-less c = search needs
 
--- src/split.rt:34:5
 loop-again : tie.Need-loop-again Inv-loop μ-loop
 loop-again c = let a = c .before .before .before .before .before .before .before .before .before .args in
     let long : length (a .order .now) ≡ orderSize = c .before .before .before .before .before .before .before .before .before .pre .0 in
@@ -85,7 +69,6 @@ loop-again c = let a = c .before .before .before .before .before .before .before
           ∙ sym (fill-more (a .order .now) (l .at) (a .to) (a .words .now) (a .t) (l .page) (omega arith) (omega arith)) ∙ l .inv .3,
     )
 
--- src/split.rt:24:1
 returns : tie.Need-returns Inv-loop μ-loop
 returns c = let a = c .before .before .before .before .args in
     let l = c .before .loop in

@@ -9,23 +9,16 @@ use Rattle.tree.proofs.SplitLaws.{gain-set}
 use borrow.Author.Needs.{needs}
 use Rattle.tree.proofs.split.gain_first.Statement.{statement}
 use Rattle.tree.proofs.split.gain_first.Tie as tie
-use Rattle.tree.proofs.split.gain_first.Reads as reads
-use Rattle.tree.proofs.split.gain_first.Lts as lts
-use Rattle.tree.proofs.edits.gained_row.Reads as gained-row-reads
 
--- src/split.rt:64:17
 element-copy-out-first : tie.Need-element-copy-out-first
 element-copy-out-first c = search needs
 
--- src/split.rt:65:20
 gained-row-requires : tie.Need-gained-row-requires
 gained-row-requires c κs = search needs
 
--- src/split.rt:65:5
 element-set-from-page : tie.Need-element-set-from-page
 element-set-from-page c = search needs
 
--- src/split.rt:61:1
 returns : tie.Need-returns
 returns c = let p = c .before .before .args .t1 in
     let v = c .before .before .args .value in

@@ -1,4 +1,4 @@
-use Prim.Native.Nat.{ℕ, _+_, _*_, _-_, _/_, _≤_, _<_}
+use Prim.Native.Nat.{ℕ, _+_, _-_, _/_, _≤_, _<_}
 use native.Mathlib.Omega.{arith}
 use mathlib.Core.Path.{_≡_, refl, ap, ap₂, _∙_}
 use mathlib.Core.List.{List}
@@ -7,7 +7,7 @@ use Rattle.words.specs.Words.{lowKey, highKey}
 use Rattle.words.specs.Value as value
 use Rattle.page.specs.declared.row.Row.{Row}
 use Rattle.page.specs.declared.fresh.Page.{Page}
-use Rattle.page.specs.Row.{word, rowStart, rowWords, copyLimit, pageWords}
+use Rattle.page.specs.Row.{word, rowStart, rowWords, copyLimit}
 use Rattle.page.specs.Fresh.{emptyPage, encodePage}
 use Rattle.page.specs.Entries.{orderSize, entryPlace}
 use Rattle.page.proofs.OrderLaws.{all-here}
@@ -19,51 +19,31 @@ use Rattle.tree.proofs.SplitRows.{in-words, in-words-from, between-leng
 use borrow.Author.Needs.{needs}
 use Rattle.tree.proofs.split.halve_rows.Statement.{statement}
 use Rattle.tree.proofs.split.halve_rows.Tie as tie
-use Rattle.tree.proofs.split.halve_rows.Reads as reads
-use Rattle.tree.proofs.split.halve_rows.Lts as lts
-use Rattle.page.proofs.fresh.Page.empty.Reads as empty-reads
-use Rattle.page.proofs.entry_place.Reads as entry-place-reads
-use Rattle.page.proofs.row_at.Reads as row-at-reads
-use Rattle.tree.proofs.split.filled.Reads as filled-reads
-use Rattle.tree.proofs.split.gain_first.Reads as gain-first-reads
-use Rattle.tree.proofs.split.put_page.Reads as put-page-reads
-use Rattle.tree.proofs.split.total_of.Reads as total-of-reads
-use Rattle.words.proofs.high_key.Reads as high-key-reads
-use Rattle.words.proofs.low_key.Reads as low-key-reads
 
--- src/split.rt:107:16
 sub-live : tie.Need-sub-live
 sub-live c = search needs
 
--- src/split.rt:108:24
 add-cut : tie.Need-add-cut
 add-cut c = search needs
 
--- src/split.rt:108:15
 add-cut-2 : tie.Need-add-cut-2
 add-cut-2 c = search needs
 
--- src/split.rt:109:17
 shared-slice-read-level : tie.Need-shared-slice-read-level
 shared-slice-read-level c = search needs
 
--- src/split.rt:110:17
 shared-slice-read-range : tie.Need-shared-slice-read-range
 shared-slice-read-range c = search needs
 
--- src/split.rt:111:56
 mul-entry-place : tie.Need-mul-entry-place
 mul-entry-place c = search needs
 
--- src/split.rt:111:56
 shared-slice-read-entry-place : tie.Need-shared-slice-read-entry-place
 shared-slice-read-entry-place c = search needs
 
--- src/split.rt:111:38
 entry-place-requires : tie.Need-entry-place-requires
 entry-place-requires c κs = search needs
 
--- src/split.rt:111:18
 row-at-requires : tie.Need-row-at-requires
 row-at-requires c κs = let a = c .before .before .before .before .before .before .before .args in
     let ws = a .words .now in
@@ -76,23 +56,18 @@ row-at-requires c κs = let a = c .before .before .before .before .before .befor
     rw (c .entry-place .ensures)
     (all-here os cut (λ (e : ℕ). rowStart (entryPlace e) + rowWords ≤ length ws) (omega (arith, from .long)) (in-words-from (a .t) ws os (a .start) from cut above) .0)
 
--- src/split.rt:112:36
 low-key-requires : tie.Need-low-key-requires
 low-key-requires c κs = search needs
 
--- src/split.rt:112:9
 empty-requires : tie.Need-empty-requires
 empty-requires c κs = search needs
 
--- src/split.rt:113:44
 high-key-requires : tie.Need-high-key-requires
 high-key-requires c κs = search needs
 
--- src/split.rt:113:9
 empty-requires-2 : tie.Need-empty-requires-2
 empty-requires-2 c κs = search needs
 
--- src/split.rt:114:9
 total-of-requires : tie.Need-total-of-requires
 total-of-requires c κs = let a = c .before .before .before .before .before .before .before .before .before .before .before .before .args in
     let ws = a .words .now in
@@ -104,7 +79,6 @@ total-of-requires c κs = let a = c .before .before .before .before .before .bef
     let inside : cut < orderSize = omega arith in
     (from .long, (above, (omega arith, in-words (a .t) ws os (a .start) from)))
 
--- src/split.rt:115:29
 filled-requires : tie.Need-filled-requires
 filled-requires c κs = let a = c .before .before .before .before .before .before .before .before .before .before .before .before .before .before .args in
     let ws = a .words .now in
@@ -117,7 +91,6 @@ filled-requires c κs = let a = c .before .before .before .before .before .befor
     let none : c .before .before .before .before .empty .result .count ≡ 0 = ap (λ (p : Page). p .count) (c .before .before .before .before .empty .ensures) in
     (from .long, (above, (omega arith, (omega arith, in-words (a .t) ws os (a .start) from))))
 
--- src/split.rt:115:5
 put-page-requires : tie.Need-put-page-requires
 put-page-requires c κs = let a = c .before .before .before .before .before .before .before .before .before .before .before .before .before .before .before .args in
     let ws = a .words .now in
@@ -134,7 +107,6 @@ put-page-requires c κs = let a = c .before .before .before .before .before .bef
     ap (λ (p : Page). p .count) (c .filled .ensures) ∙ filled-count ws (a .t) (c .before .before .before .before .before .empty .result) (between (a .start) cut os) in
     (c .before .before .before .before .before .before .before .before .before .before .before .before .before .before .before .pre .1 .1 .0, omega arith)
 
--- src/split.rt:116:44
 filled-requires-2 : tie.Need-filled-requires-2
 filled-requires-2 c κs = let a = c .before .before .before .before .before .before .before .before .before .before .before .before .before .before .before .before .before .before .before .args in
     let ws = a .words .now in
@@ -147,11 +119,9 @@ filled-requires-2 c κs = let a = c .before .before .before .before .before .bef
     let none : c .before .before .before .before .before .before .before .empty2 .result .count ≡ 0 = ap (λ (p : Page). p .count) (c .before .before .before .before .before .before .before .empty2 .ensures) in
     (from .long, (omega arith, (omega arith, (omega arith, in-words-from (a .t) ws os (a .start) from cut above))))
 
--- src/split.rt:116:33
 gain-first-requires : tie.Need-gain-first-requires
 gain-first-requires c κs = search needs
 
--- src/split.rt:116:5
 put-page-requires-2 : tie.Need-put-page-requires-2
 put-page-requires-2 c κs = let a = c .before .before .before .before .before .before .before .before .before .before .before .before .before .before .before .before .before .before .before .before .before .args in
     let ws = a .words .now in
@@ -169,11 +139,9 @@ put-page-requires-2 c κs = let a = c .before .before .before .before .before .b
     ∙ filled-count ws (a .t) (c .before .before .before .before .before .before .before .before .before .empty2 .result) (between cut orderSize os) in
     (omega (arith, c .before .before .before .before .before .put-page .kept .0, c .before .before .before .before .before .before .before .before .before .before .before .before .before .before .before .before .before .before .before .before .before .pre .1 .1 .1), omega arith)
 
--- src/split.rt:96:1
 same-length : tie.Need-same-length
 same-length c = search needs
 
--- src/split.rt:96:1
 returns : tie.Need-returns
 returns c = let a = c .before .before .before .before .before .before .before .before .before .before .before .before .before .before .before .before .before .before .before .before .before .before .before .before .args in
     let ws = a .words .now in

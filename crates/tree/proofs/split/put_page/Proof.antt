@@ -1,4 +1,4 @@
-use Prim.Native.Nat.{ℕ, _+_, _*_, _-_}
+use Prim.Native.Nat.{_+_, _*_, _-_}
 use native.Mathlib.Omega.{arith}
 use mathlib.Core.Path.{_≡_, ap, sym, _∙_}
 use lib.ListN.{length}
@@ -9,43 +9,31 @@ use Rattle.tree.proofs.SplitLaws.{put-part}
 use borrow.Author.Needs.{needs}
 use Rattle.tree.proofs.split.put_page.Statement.{statement}
 use Rattle.tree.proofs.split.put_page.Tie as tie
-use Rattle.tree.proofs.split.put_page.Reads as reads
-use Rattle.tree.proofs.split.put_page.Lts as lts
-use Rattle.page.proofs.fresh.Page.write.Reads as write-reads
 
--- src/split.rt:75:16
 mul-from : tie.Need-mul-from
 mul-from c = search needs
 
--- src/split.rt:76:14
 add-to : tie.Need-add-to
 add-to c = search needs
 
--- src/split.rt:77:16
 mul-write : tie.Need-mul-write
 mul-write c = search needs
 
--- src/split.rt:77:16
 sub-write : tie.Need-sub-write
 sub-write c = search needs
 
--- src/split.rt:77:16
 part-write-start : tie.Need-part-write-start
 part-write-start c = search needs
 
--- src/split.rt:77:16
 part-write-end : tie.Need-part-write-end
 part-write-end c = search needs
 
--- src/split.rt:77:5
 write-requires : tie.Need-write-requires
 write-requires c κs = search needs
 
--- src/split.rt:70:1
 same-length : tie.Need-same-length
 same-length c = search needs
 
--- src/split.rt:70:1
 returns : tie.Need-returns
 returns c = let s = c .before .before .before .before .before .args in
     let a = s .number * pageWords in

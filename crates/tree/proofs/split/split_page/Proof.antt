@@ -11,51 +11,34 @@ use Rattle.tree.proofs.SplitRows.{live-count, sourced, split-copied, sp
 use borrow.Author.Needs.{needs}
 use Rattle.tree.proofs.split.split_page.Statement.{statement}
 use Rattle.tree.proofs.split.split_page.Tie as tie
-use Rattle.tree.proofs.split.split_page.Reads as reads
-use Rattle.tree.proofs.split.split_page.Lts as lts
-use Rattle.page.proofs.key_order.Reads as key-order-reads
-use Rattle.tree.proofs.split.copy_rows.Reads as copy-rows-reads
-use Rattle.tree.proofs.split.halve_rows.Reads as halve-rows-reads
-use Rattle.words.proofs.high_key.Reads as high-key-reads
-use Rattle.words.proofs.low_key.Reads as low-key-reads
 
--- src/split.rt:132:40
 shared-slice-read-key-order : tie.Need-shared-slice-read-key-order
 shared-slice-read-key-order c = search needs
 
--- src/split.rt:132:62
 slice-aggregate-key-order : tie.Need-slice-aggregate-key-order
 slice-aggregate-key-order c = search needs
 
--- src/split.rt:132:9
 key-order-requires : tie.Need-key-order-requires
 key-order-requires c κs = search needs
 
--- src/split.rt:133:18
 add-number : tie.Need-add-number
 add-number c = search needs
 
--- src/split.rt:134:17
 shared-slice-read-range : tie.Need-shared-slice-read-range
 shared-slice-read-range c = search needs
 
--- src/split.rt:135:9
 low-key-requires : tie.Need-low-key-requires
 low-key-requires c κs = search needs
 
--- src/split.rt:136:9
 high-key-requires : tie.Need-high-key-requires
 high-key-requires c κs = search needs
 
--- src/split.rt:137:8
 sub-if1 : tie.Need-sub-if1
 sub-if1 c = search needs
 
--- src/split.rt:138:41
 slice-aggregate-copy-rows : tie.Need-slice-aggregate-copy-rows
 slice-aggregate-copy-rows c = search needs
 
--- src/split.rt:138:9
 copy-rows-requires : tie.Need-copy-rows-requires
 copy-rows-requires c κs = let a = c .before .before .before .before .before .before .before .before .before .before .before .before .before .args in
     let ws = a .words .now in
@@ -70,15 +53,12 @@ copy-rows-requires c κs = let a = c .before .before .before .before .before .be
     subst (λ (n : ℕ). (a .used .pages + n) * pageWords ≤ length (a .table .now)) made (c .before .before .before .before .before .before .before .before .before .before .before .before .before .pre .1 .1 .1 .1) in
     (from, (omega (arith, live, few), omega (arith, room)))
 
--- src/split.rt:146:19
 add-t30 : tie.Need-add-t30
 add-t30 c = search needs
 
--- src/split.rt:144:9
 same-length : tie.Need-same-length
 same-length c = search needs
 
--- src/split.rt:144:9
 returns : tie.Need-returns
 returns c = let a = c .before .before .before .before .before .before .before .before .before .before .before .before .before .before .before .before .args in
     let ws = a .words .now in
@@ -100,11 +80,9 @@ returns c = let a = c .before .before .before .before .before .before .before .b
 add-second : tie.Need-add-second
 add-second c = search needs
 
--- src/split.rt:149:51
 slice-aggregate-halve-rows : tie.Need-slice-aggregate-halve-rows
 slice-aggregate-halve-rows c = search needs
 
--- src/split.rt:149:9
 halve-rows-requires : tie.Need-halve-rows-requires
 halve-rows-requires c κs = let a = c .before .before .before .before .before .before .before .before .before .before .before .before .before .args in
     let ws = a .words .now in
@@ -119,15 +97,12 @@ halve-rows-requires c κs = let a = c .before .before .before .before .before .b
     subst (λ (n : ℕ). (a .used .pages + n) * pageWords ≤ length (a .table .now)) made (c .before .before .before .before .before .before .before .before .before .before .before .before .before .pre .1 .1 .1 .1) in
     (from, (omega (arith, live, many), (omega (arith, room), omega (arith, room))))
 
--- src/split.rt:156:15
 add-t36 : tie.Need-add-t36
 add-t36 c = search needs
 
--- src/split.rt:121:1
 same-length-2 : tie.Need-same-length-2
 same-length-2 c = search needs
 
--- src/split.rt:121:1
 returns-2 : tie.Need-returns-2
 returns-2 c = let a = c .before .before .before .before .before .before .before .before .before .before .before .before .before .before .before .before .args in
     let ws = a .words .now in

@@ -1,9 +1,9 @@
 use Rattle.page.specs.declared.row.Row.{Row}
 use Rattle.tree.specs.PageEdits.{rowIn}
 use Rattle.tree.specs.SplitWords.{entryRow}
-use Prim.Native.Nat.{ℕ, _+_, _-_, _≤_, _<_}
+use Prim.Native.Nat.{ℕ, _+_, _-_, _≤_}
 use native.Mathlib.Omega.{arith}
-use mathlib.Core.Path.{_≡_, refl, ap, sym, _∙_}
+use mathlib.Core.Path.{_≡_, ap, sym, _∙_}
 use lib.ListN.{length, drop, getD}
 use Rattle.words.specs.declared.value.Value.{Value}
 use Rattle.words.specs.Value.{zero, plus}
@@ -15,12 +15,6 @@ use Rattle.tree.proofs.SplitLaws.{add-more, add-none}
 use borrow.Author.Needs.{needs}
 use Rattle.tree.proofs.split.total_of.Statement.{statement}
 use Rattle.tree.proofs.split.total_of.Tie as tie
-use Rattle.tree.proofs.split.total_of.Reads as reads
-use Rattle.tree.proofs.split.total_of.Lts as lts
-use Rattle.page.proofs.entry_place.Reads as entry-place-reads
-use Rattle.page.proofs.row_at.Reads as row-at-reads
-use Rattle.words.proofs.value.Value.plus.Reads as plus-reads
-use Rattle.words.proofs.value.Value.zero.Reads as zero-reads
 
 abbrev Inv-loop : tie.InvT-loop
 Inv-loop words order from to total₀ at₀ total at =
@@ -30,46 +24,36 @@ Inv-loop words order from to total₀ at₀ total at =
 abbrev μ-loop : tie.MeasureT-loop
 μ-loop words order from to total₀ at₀ total at = to - at
 
--- src/split.rt:50:9
 zero-requires : tie.Need-zero-requires Inv-loop μ-loop
 zero-requires c κs = search needs
 
--- src/split.rt:52:5
 loop-holds : tie.Need-loop-holds Inv-loop μ-loop
 loop-holds c = let a = c .before .before .before .args in
     (search needs, search needs, ap (λ (v : Value). addRows (a .words .now) v (between (a .from) (a .to) (a .order .now))) (c .zero .ensures))
 
--- src/split.rt:53:57
 mul-entry-place : tie.Need-mul-entry-place Inv-loop μ-loop
 mul-entry-place c = search needs
 
--- src/split.rt:53:57
 shared-slice-read-entry-place : tie.Need-shared-slice-read-entry-place Inv-loop μ-loop
 shared-slice-read-entry-place c = search needs
 
--- src/split.rt:53:39
 entry-place-requires : tie.Need-entry-place-requires Inv-loop μ-loop
 entry-place-requires c κs = search needs
 
--- src/split.rt:53:13
 row-at-requires : tie.Need-row-at-requires Inv-loop μ-loop
 row-at-requires c κs = rw (c .entry-place .ensures)
     (all-here (c .before .before .before .before .before .before .before .args .order .now) (c .before .before .before .loop .at) (λ (e : ℕ). rowStart (entryPlace e) + rowWords ≤ length (c .before .before .before .before .before .before .before .args .words .now))
     (omega arith) (c .before .before .before .loop .inv .1) .0)
 
--- src/split.rt:54:9
 plus-requires : tie.Need-plus-requires Inv-loop μ-loop
 plus-requires c κs = search needs
 
--- src/split.rt:55:9
 add-at : tie.Need-add-at Inv-loop μ-loop
 add-at c = search needs
 
--- src/split.rt:52:5
 loop-less : tie.Need-loop-less Inv-loop μ-loop
 loop-less c = search needs
 
--- src/split.rt:52:5
 loop-again : tie.Need-loop-again Inv-loop μ-loop
 loop-again c = let a = c .before .before .before .before .before .before .before .before .before .args in
     let l = c .before .before .before .before .before .loop in
@@ -83,7 +67,6 @@ loop-again c = let a = c .before .before .before .before .before .before .before
           ∙ sym (add-more (a .order .now) (l .at) (a .to) (a .words .now) (l .total) (omega arith) (omega arith)) ∙ l .inv .2,
     )
 
--- src/split.rt:43:1
 returns : tie.Need-returns Inv-loop μ-loop
 returns c = let a = c .before .before .before .before .before .args in
     let l = c .before .loop in

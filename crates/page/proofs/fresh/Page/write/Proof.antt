@@ -1,24 +1,18 @@
 use Rattle.page.specs.Row.{rowLimit, rowStart, pageWords}
 use Rattle.page.specs.Fresh.{zeros}
-use mathlib.Core.Path.{_≡_, refl, ap, sym, _∙_}
-use Prim.Native.Nat.{_≤_, _<_, _+_, _-_}
-use lib.ListN.{length, drop, getD}
+use mathlib.Core.Path.{_≡_, refl, ap, _∙_}
+use Prim.Native.Nat.{_≤_, _-_}
+use lib.ListN.{length}
 use native.Mathlib.Omega.{arith}
 use Prim.Native.Nat.{ℕ}
 use mathlib.Core.List.{List}
 use lib.ListN.{length-set}
 use Rattle.words.specs.Overwrite.{overwrite}
-use Rattle.page.specs.Row.{rowLimit, pageWords}
 use Rattle.page.proofs.Lists.{length-mapped}
 use Rattle.page.proofs.FreshLaws.{upTo, header-words, row-words, whole-words}
 use borrow.Author.Needs.{needs}
 use Rattle.page.proofs.fresh.Page.write.Statement.{statement}
 use Rattle.page.proofs.fresh.Page.write.Tie as tie
-use Rattle.page.proofs.fresh.Page.write.Reads as reads
-use Rattle.page.proofs.fresh.Page.write.Lts as lts
-use Rattle.page.proofs.edit.put_row.Reads as put-row-reads
-use Rattle.page.proofs.fresh.clear_from.Reads as clear-from-reads
-use Rattle.words.proofs.key_range.Reads as key-range-reads
 
 abbrev Inv-loop : tie.InvT-loop
 Inv-loop words₀ self count place₀ words place = (place ≤ count) × (count ≡ self .count) × (length words ≡ pageWords)
@@ -27,31 +21,24 @@ Inv-loop words₀ self count place₀ words place = (place ≤ count) × (count 
 abbrev μ-loop : tie.MeasureT-loop
 μ-loop words₀ self count place₀ words place = count - place
 
--- src/fresh.rt:92:9
 slice-write-words : tie.Need-slice-write-words Inv-loop μ-loop
 slice-write-words c = search needs
 
--- src/fresh.rt:93:9
 slice-write-words-2 : tie.Need-slice-write-words-2 Inv-loop μ-loop
 slice-write-words-2 c = simp length-set (omega arith)
 
--- src/fresh.rt:94:20
 key-range-requires : tie.Need-key-range-requires Inv-loop μ-loop
 key-range-requires c κs = search needs
 
--- src/fresh.rt:94:9
 slice-write-words-3 : tie.Need-slice-write-words-3 Inv-loop μ-loop
 slice-write-words-3 c = simp length-set (omega arith)
 
--- src/fresh.rt:95:20
 cast-words : tie.Need-cast-words Inv-loop μ-loop
 cast-words c = search needs
 
--- src/fresh.rt:95:9
 slice-write-words-4 : tie.Need-slice-write-words-4 Inv-loop μ-loop
 slice-write-words-4 c = simp length-set (omega arith)
 
--- src/fresh.rt:97:9
 loop-holds : tie.Need-loop-holds Inv-loop μ-loop
 loop-holds c = let a = c .before .before .args in
     let full : length (a .t1 .rows) ≡ rowLimit = search (needs, length-mapped) in (
@@ -61,27 +48,21 @@ loop-holds c = let a = c .before .before .args in
       (a .words .now, search needs, rw (c .key-range .ensures) (header-words (a .words .now) (a .t1) (search needs) full)),
     )
 
--- src/fresh.rt:98:23
 mul-row : tie.Need-mul-row Inv-loop μ-loop
 mul-row c = search needs
 
--- src/fresh.rt:98:23
 element-copy-out-row : tie.Need-element-copy-out-row Inv-loop μ-loop
 element-copy-out-row c = search needs
 
--- src/fresh.rt:99:13
 put-row-requires : tie.Need-put-row-requires Inv-loop μ-loop
 put-row-requires c κs = search needs
 
--- src/fresh.rt:100:13
 add-place : tie.Need-add-place Inv-loop μ-loop
 add-place c = search needs
 
--- src/fresh.rt:97:9
 loop-less : tie.Need-loop-less Inv-loop μ-loop
 loop-less c = search needs
 
--- src/fresh.rt:97:9
 loop-again : tie.Need-loop-again Inv-loop μ-loop
 loop-again c = let a = c .before .before .before .before .before .before .before .before .before .args in
     let l = c .before .before .before .before .before .before .loop in
@@ -93,23 +74,18 @@ loop-again c = let a = c .before .before .before .before .before .before .before
       (base .0, base .1, rw (c .before .before .put-row .ensures, base .2) (row-words (base .0) (a .t1) (base .1) full _ (l .place) (omega arith))),
     )
 
--- src/fresh.rt:102:31
 mul-clear-from : tie.Need-mul-clear-from Inv-loop μ-loop
 mul-clear-from c = search needs
 
--- src/fresh.rt:102:27
 add-clear-from : tie.Need-add-clear-from Inv-loop μ-loop
 add-clear-from c = search needs
 
--- src/fresh.rt:102:9
 clear-from-requires : tie.Need-clear-from-requires Inv-loop μ-loop
 clear-from-requires c κs = search needs
 
--- src/fresh.rt:86:5
 same-length : tie.Need-same-length Inv-loop μ-loop
 same-length c = omega (arith, c .before .before .clear-from .kept .0, c .before .before .before .before .before .loop .inv .2)
 
--- src/fresh.rt:86:5
 returns : tie.Need-returns Inv-loop μ-loop
 returns c = let a = c .before .before .before .before .before .before .before .before .args in
     let l = c .before .before .before .before .before .loop in

@@ -7,34 +7,25 @@ use Rattle.words.specs.Overwrite.{overwrite}
 use Rattle.words.specs.Value.{encodeValue}
 use Rattle.words.proofs.value.Value.write.Statement.{statement}
 use Rattle.words.proofs.value.Value.write.Tie as tie
-use Rattle.words.proofs.value.Value.write.Reads as reads
-use Rattle.words.proofs.value.Value.write.Lts as lts
 
--- src/value.rt:48:9
 mul-words : tie.Need-mul-words
 mul-words c = search needs
 
--- src/value.rt:48:9
 slice-write-words : tie.Need-slice-write-words
 slice-write-words c = search needs
 
--- src/value.rt:49:15
 add-words : tie.Need-add-words
 add-words c = search needs
 
--- src/value.rt:49:9
 mul-words-2 : tie.Need-mul-words-2
 mul-words-2 c = search needs
 
--- src/value.rt:49:9
 slice-write-words-2 : tie.Need-slice-write-words-2
 slice-write-words-2 c = simp length-set (omega arith)
 
--- src/value.rt:44:5
 same-length : tie.Need-same-length
 same-length c = search needs
 
--- src/value.rt:44:5
 returns : tie.Need-returns
 unfolding overwrite
 returns c =
