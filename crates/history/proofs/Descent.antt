@@ -52,7 +52,7 @@ module _ (measure : Value → ℕ) (m : Measure measure) (tree : ours.Tree) (p :
       go (inl l) = ap next (around-none measure m (Holds n store used (p .tick)) p now lo hi xs y ys (rowsAt page) c i j w d (h .same) l)
       go (inr l) =
           let r : FoundRow measure (p .tick) (rowsAt page) (rowAround p (rowsAt page)) (y .entry) =
-              around-some measure m (Holds n store used (p .tick)) p now lo hi xs y ys (rowsAt page) c i j w d (h .same) l in
+          around-some measure m (Holds n store used (p .tick)) p now lo hi xs y ys (rowsAt page) c i j w d (h .same) l in
           ap next (r .is-found)
           ∙ ap (λ (e : Entry). descentSound tree p n (e .low) (e .high) (e .page)) (r .entry)
           ∙ ih (y .entry .low) (y .entry .high) (y .entry .page) (y .below) i j w

@@ -76,8 +76,8 @@ module _ (tree : Tree) (points : List Point) (p : Point) (words : WordsKept tree
       let st = after (pageOf (rootAt tree (p .tick))) in
       let paid = next-inv countOf count-measure tree points p words tells time page is-root .current (p .tick) (omega arith) (time .tick) in
       let top =
-          low (Known (p ∷ points)) (st .store) (st .used) (p .tick) (λ k. numbers countOf (p .tick) k (p ∷ points)) (st .root (p .tick))
-          (72 + 8 * length points + 8) paid in
+      low (Known (p ∷ points)) (st .store) (st .used) (p .tick) (λ k. numbers countOf (p .tick) k (p ∷ points)) (st .root (p .tick))
+      (72 + 8 * length points + 8) paid in
       omega (arith, paid .budget top)
 
   few-made : tree .used .pages + enterRoot tree p page .made ≤ 4 + 4 * suc (length points) / 9

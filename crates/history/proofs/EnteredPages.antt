@@ -39,8 +39,8 @@ module _ {A : Type 0} (n t : ℕ) (now : t < openEnd) (kind : PageKind A n t) (s
       → EnterResult (heldPage kind) (pageLookup kind) (pagePotential kind) n t s u lo hi p L (Enough kind M) B (finish t s u p rs)
   alone old tr rs h c same adds past-rows settled-rows each budget =
       let g =
-          finish-holds n t now kind s u lo hi p L M B (h .in-use) (h .wide) (h .level) (h .low) (h .high) tr rs c same adds each
-          budget in
+      finish-holds n t now kind s u lo hi p L M B (h .in-use) (h .wide) (h .level) (h .low) (h .high) tr rs c same adds each
+      budget in
       record {
         yields = g .0;
         spent = g .1;
@@ -188,33 +188,33 @@ module _ (t : ℕ) (now : t < openEnd) (k v : ℕ) (IsKnown : ℕ → Type 0) (k
     stand-in zs rs z same adds past-rows settled-rows each some budget =
         let f₁ = all-split (Filled IsKnown n) xs (y ∷ ys) full in
         let e₁ =
-            below-frame (Holds n s u t) (potential n s) (potential n S) lo (y .entry .low) xs
-            (λ a b r x f g. tree-potential-frame n s S u t a b r x (λ m l o′ q q′. ih .frame m l (inr (inl (omega arith))))) c in
+        below-frame (Holds n s u t) (potential n s) (potential n S) lo (y .entry .low) xs
+        (λ a b r x f g. tree-potential-frame n s S u t a b r x (λ m l o′ q q′. ih .frame m l (inr (inl (omega arith))))) c in
         let e₂ =
-            below-frame (Holds n s u t) (potential n s) (potential n S) (y .entry .high) hi ys
-            (λ a b r x f g. tree-potential-frame n s S u t a b r x (λ m l o′ q q′. ih .frame m l (inr (inr (omega arith))))) d in
+        below-frame (Holds n s u t) (potential n s) (potential n S) (y .entry .high) hi ys
+        (λ a b r x f g. tree-potential-frame n s S u t a b r x (λ m l o′ q q′. ih .frame m l (inr (inr (omega arith))))) d in
         let k₁ : length (xs ++ (zs ++ moreFirst v ys)) ≡ length xs + (length zs + length ys) = simp (length-append, length-more) in
         let k₂ : length (xs ++ (y ∷ ys)) ≡ length xs + suc (length ys) = length-append xs (y ∷ ys) in
         let g =
-            finish-holds (suc n) t now (indexKind IsKnown t n) S U lo hi p
-            (λ q. lookupTree (suc n) q (xs ++ (y ∷ ys)) + onlyIf (leb k q) v) (length (xs ++ (y ∷ ys)))
-            (18 * u + potential (suc n) s p (xs ++ (y ∷ ys)) + 5 + suc n) (omega (arith, h .in-use, ih .grows)) (h .wide)
-            (rw untouched (h .level)) (rw untouched (h .low)) (rw untouched (h .high)) (xs ++ (zs ++ moreFirst v ys)) rs
-            (chain-join _ lo (y .entry .low) hi xs (zs ++ moreFirst v ys) left
-            (chain-join _ (y .entry .low) (y .entry .high) hi zs (moreFirst v ys) z (chain-more _ v (y .entry .high) hi ys right)))
-            same
-            (λ q a b. lookup-next (Holds n s u t) (lookupTree n q) q k v lo hi xs y ys c d i j b zs (adds q) e) (
-              all-join _ xs (zs ++ moreFirst v ys) (f₁ .0)
-                  (all-join _ zs (moreFirst v ys) each (all-more (Filled IsKnown n) v (λ y′ g′. g′) ys (f₁ .1 .1))),
-              rw (k₁, k₂) (omega arith),
-            )
-            (rw (k₁, k₂) (omega (
-              arith,
-              below-append (potential n S) xs (zs ++ moreFirst v ys),
-              below-append (potential n S) zs (moreFirst v ys),
-              below-more (potential n S) v ys,
-              below-append (potential n s) xs (y ∷ ys),
-            ))) in
+        finish-holds (suc n) t now (indexKind IsKnown t n) S U lo hi p
+        (λ q. lookupTree (suc n) q (xs ++ (y ∷ ys)) + onlyIf (leb k q) v) (length (xs ++ (y ∷ ys)))
+        (18 * u + potential (suc n) s p (xs ++ (y ∷ ys)) + 5 + suc n) (omega (arith, h .in-use, ih .grows)) (h .wide)
+        (rw untouched (h .level)) (rw untouched (h .low)) (rw untouched (h .high)) (xs ++ (zs ++ moreFirst v ys)) rs
+        (chain-join _ lo (y .entry .low) hi xs (zs ++ moreFirst v ys) left
+        (chain-join _ (y .entry .low) (y .entry .high) hi zs (moreFirst v ys) z (chain-more _ v (y .entry .high) hi ys right)))
+        same
+        (λ q a b. lookup-next (Holds n s u t) (lookupTree n q) q k v lo hi xs y ys c d i j b zs (adds q) e) (
+          all-join _ xs (zs ++ moreFirst v ys) (f₁ .0)
+              (all-join _ zs (moreFirst v ys) each (all-more (Filled IsKnown n) v (λ y′ g′. g′) ys (f₁ .1 .1))),
+          rw (k₁, k₂) (omega arith),
+        )
+        (rw (k₁, k₂) (omega (
+          arith,
+          below-append (potential n S) xs (zs ++ moreFirst v ys),
+          below-append (potential n S) zs (moreFirst v ys),
+          below-more (potential n S) v ys,
+          below-append (potential n s) xs (y ∷ ys),
+        ))) in
         record {
           yields = g .0;
           spent = g .1;
@@ -316,12 +316,12 @@ module _ (t : ℕ) (now : t < openEnd) (k v : ℕ) (IsKnown : ℕ → Type 0) (k
         (omega (arith, gained-few))
     by-parts (copy x) r b =
         let relinked-one =
-            one-more (Holds n s u t) t lo hi (xs ++ (y ∷ moreFirst v ys)) (gained t k v ((s p) .rows)) next-chain gained-same
-            (y .entry .low)
-            (pointedTo x) in
+        one-more (Holds n s u t) t lo hi (xs ++ (y ∷ moreFirst v ys)) (gained t k v ((s p) .rows)) next-chain gained-same
+        (y .entry .low)
+        (pointedTo x) in
         let zs : List (Slot (Tree n)) =
-            record { entry = pointedTo x (y .entry); below = r .0 }
-            ∷ [] in
+        record { entry = pointedTo x (y .entry); below = r .0 }
+        ∷ [] in
         stand-in
         zs
         (relink t (y .entry .low) (copy x) (gained t k v ((s p) .rows)))
@@ -336,15 +336,15 @@ module _ (t : ℕ) (now : t < openEnd) (k v : ℕ) (IsKnown : ℕ → Type 0) (k
         (omega (arith, gained-few, relinked-one))
     by-parts (two x x′ m) r sp =
         let relinked-two =
-            two-more (Holds n s u t) t lo hi (xs ++ (y ∷ moreFirst v ys)) (gained t k v ((s p) .rows)) next-chain gained-same
-            (y .entry .low)
-            (firstHalf m x)
-            (secondHalf m x′) in
+        two-more (Holds n s u t) t lo hi (xs ++ (y ∷ moreFirst v ys)) (gained t k v ((s p) .rows)) next-chain gained-same
+        (y .entry .low)
+        (firstHalf m x)
+        (secondHalf m x′) in
         let a = holds-wide n S U (y .entry .low) m x (r .0 .0) (r .0 .1) in
         let b = holds-wide n S U m (y .entry .high) x′ (r .1 .0) (r .1 .1) in
         let zs : List (Slot (Tree n)) =
-            record { entry = firstHalf m x (y .entry); below = r .0 .0 } ∷
-            (record { entry = secondHalf m x′ (y .entry); below = r .1 .0 } ∷ []) in
+        record { entry = firstHalf m x (y .entry); below = r .0 .0 } ∷
+        (record { entry = secondHalf m x′ (y .entry); below = r .1 .0 } ∷ []) in
         stand-in
         zs
         (relink t (y .entry .low) (two x x′ m) (gained t k v ((s p) .rows)))
@@ -415,8 +415,8 @@ module _ (t : ℕ) (now : t < openEnd) (k v : ℕ) (IsKnown : ℕ → Type 0) (k
       go (inr e) =
           let o = enter n t k v s u (y .entry .page) in
           let r =
-              ih s u (y .entry .low) (y .entry .high) (y .entry .page) (y .below) i j w
-              ((all-split (Filled IsKnown n) xs (y ∷ ys) full) .1 .0 .0) in
+          ih s u (y .entry .low) (y .entry .high) (y .entry .page) (y .below) i j w
+          ((all-split (Filled IsKnown n) xs (y ∷ ys) full) .1 .0 .0) in
           pass
           true
           (y .entry .page)

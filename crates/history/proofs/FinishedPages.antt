@@ -79,13 +79,13 @@ module _ {A : Type 0} (n t : ℕ) (now : t < openEnd) (kind : PageKind A n t) wh
         let l = chain-lt (kind .under s u) lo (z .entry .low) x xs (r .0) in
         let h = chain-lt (kind .under s u) (z .entry .low) hi z zs (r .1) in
         let same-page : (y : ℕ) → y < u → o .store y ≡ s y =
-            λ y i. let a : y ≡ suc u → ⊥ = omega arith in let b : y ≡ u → ⊥ = omega arith in simp tests in
+        λ y i. let a : y ≡ suc u → ⊥ = omega arith in let b : y ≡ u → ⊥ = omega arith in simp tests in
         let g₁ = newPage t ((s p) .level) ((s p) .low) (z .entry .low) (entriesOf (x ∷ xs)) in
         let g₂ = newPage t ((s p) .level) (z .entry .low) ((s p) .high) (plusFirst w (entriesOf (z ∷ zs))) in
         let e₁ : o .store u ≡ g₁ = let a : u ≡ suc u → ⊥ = omega arith in simp tests in
         let e₂ : o .store (suc u) ≡ g₂ = simp tests in
         let up : (a b : ℕ) (tr : List (Slot A)) → Chain (kind .under s u) a b tr → Chain (kind .under (o .store) (o .used)) a b tr =
-            λ a b tr d. lift s (o .store) u (o .used) a b tr (omega arith) (λ y i j. same-page y i) d in (
+        λ a b tr d. lift s (o .store) u (o .used) a b tr (omega arith) (λ y i j. same-page y i) d in (
           (
             (
               x ∷ xs,
@@ -119,11 +119,11 @@ module _ {A : Type 0} (n t : ℕ) (now : t < openEnd) (kind : PageKind A n t) wh
           ),
           (let k₁ = potential-new s (o .store) u lo (z .entry .low) u (x ∷ xs) g₁ e₁ refl (λ y i j. same-page y i) (r .0) in
               let k₂ =
-                  potential-new s (o .store) u (z .entry .low) hi (suc u) (moreFirst w (z ∷ zs)) g₂ e₂ refl (λ y i j. same-page y i)
-                  (r .1) in
+              potential-new s (o .store) u (z .entry .low) hi (suc u) (moreFirst w (z ∷ zs)) g₂ e₂ refl (λ y i j. same-page y i)
+              (r .1) in
               let k₃ =
-                  kind .two-free rows (length ((x ∷ xs) ++ (z ∷ zs))) (length (x ∷ xs)) (length (z ∷ zs)) many big fits
-                  (sym (length-append (x ∷ xs) (z ∷ zs))) few few′ in
+              kind .two-free rows (length ((x ∷ xs) ++ (z ∷ zs))) (length (x ∷ xs)) (length (z ∷ zs)) many big fits
+              (sym (length-append (x ∷ xs) (z ∷ zs))) few few′ in
               omega (arith, below-append (kind .potentialIn s) (x ∷ xs) (z ∷ zs))),
         )
 
@@ -165,7 +165,7 @@ module _ {A : Type 0} (n t : ℕ) (now : t < openEnd) (kind : PageKind A n t) wh
         let s′ : ℕ → Page = putAt s p g in
         let e : s′ p ≡ g = simp tests in
         let other : (y : ℕ) → (s y) .level < n → s′ y ≡ s y =
-            λ y i. let b : y ≡ p → ⊥ = λ r. omega (arith, ap (λ (z : ℕ). (s z) .level) r) in simp tests in (
+        λ y i. let b : y ≡ p → ⊥ = λ r. omega (arith, ap (λ (z : ℕ). (s z) .level) r) in simp tests in (
           (
             tr,
             held-new s′ u lo hi p tr g e in-use wide level low high same

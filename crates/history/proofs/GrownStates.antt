@@ -73,8 +73,8 @@ version : (n : ℕ) (s : ℕ → Page) (u t : ℕ) (L : ℕ → ℕ) (p : ℕ) (
     → ((q : ℕ) → q < keyLimit → lookupTree n q tr ≈ L q) → Version s u t L p
 version n s u t L p tr h adds =
     let r =
-        subst (λ (m : ℕ). (tr : Tree m) × Holds m s u t 0 keyLimit p tr × ((q : ℕ) → q < keyLimit → lookupTree m q tr ≈ L q))
-        (sym (holds-level n s u t 0 keyLimit p tr h)) (tr, h, adds) in
+    subst (λ (m : ℕ). (tr : Tree m) × Holds m s u t 0 keyLimit p tr × ((q : ℕ) → q < keyLimit → lookupTree m q tr ≈ L q))
+    (sym (holds-level n s u t 0 keyLimit p tr h)) (tr, h, adds) in
     record { tree = r .0; held = r .1; adds = r .2 }
 
 paid : (IsKnown : ℕ → Type 0) (n : ℕ) (s : ℕ → Page) (u t : ℕ) (L : ℕ → ℕ) (p C : ℕ) (tr : Tree n) → Holds n s u t 0 keyLimit p tr
@@ -82,9 +82,9 @@ paid : (IsKnown : ℕ → Type 0) (n : ℕ) (s : ℕ → Page) (u t : ℕ) (L : 
     → (0 < n → 2 ≤ slotCount n tr) → Paid IsKnown s u t L p C
 paid IsKnown n s u t L p C tr h adds budget full wide =
     let r =
-        subst (λ (m : ℕ). (tr : Tree m) × Holds m s u t 0 keyLimit p tr × ((q : ℕ) → q < keyLimit → lookupTree m q tr ≈ L q)
-        × (m ≤ 3 → potential m s p tr + 18 * u + 18 * (3 - m) ≤ C) × Full IsKnown m tr × (0 < m → 2 ≤ slotCount m tr))
-        (sym (holds-level n s u t 0 keyLimit p tr h)) (tr, h, adds, budget, full, wide) in
+    subst (λ (m : ℕ). (tr : Tree m) × Holds m s u t 0 keyLimit p tr × ((q : ℕ) → q < keyLimit → lookupTree m q tr ≈ L q)
+    × (m ≤ 3 → potential m s p tr + 18 * u + 18 * (3 - m) ≤ C) × Full IsKnown m tr × (0 < m → 2 ≤ slotCount m tr))
+    (sym (holds-level n s u t 0 keyLimit p tr h)) (tr, h, adds, budget, full, wide) in
     record { tree = r .0; held = r .1; adds = r .2; budget = r .3; full = r .4; wide = r .5 }
 
 -- The same version at a later tick.
@@ -142,10 +142,10 @@ module _ (t : ℕ) (now : t < openEnd) (n : ℕ) (rs : ℕ → ℕ) (s : ℕ →
       let other-is : (i : ℕ) → i < u → s′ i ≡ s i = λ i l. let h : i ≡ u → ⊥ = omega arith in simp tests in
       let other : (i : ℕ) → i < u → Alike t (s′ i) (s i) = λ i l. alike t (other-is i l) in
       let up : (lo hi c : ℕ) (tr : Tree n) → Holds n s u t lo hi c tr → Holds n s′ (suc u) t lo hi c tr =
-          λ lo hi c tr. holds-frame n s s′ u (suc u) t lo hi c tr (omega arith) (λ i l d f h. other i l) in
+      λ lo hi c tr. holds-frame n s s′ u (suc u) t lo hi c tr (omega arith) (λ i l d f h. other i l) in
       let tr : Tree (suc n) =
-          record { entry = record { low = 0; high = m; amount = 0; page = x }; below = y .0 .0 }
-          ∷ (record { entry = record { low = m; high = keyLimit; amount = 0; page = z }; below = y .1 .0 } ∷ []) in
+      record { entry = record { low = 0; high = m; amount = 0; page = x }; below = y .0 .0 }
+      ∷ (record { entry = record { low = m; high = keyLimit; amount = 0; page = z }; below = y .1 .0 } ∷ []) in
       rw
       (root-later t t u rs (omega arith))
       (paid IsKnown (suc n) s′ (suc u) t L u _ tr
@@ -318,11 +318,11 @@ entering-keeps t₀ t k v st L C IsKnown IsKnown′ wider known invariant i now 
     levels w l (inr a) =
         let x = rs w in
         let in-use : x < st .used =
-            holds-used ((s x) .level) s (st .used) w 0 keyLimit x (invariant .versions w l .tree) (invariant .versions w l .held) in
+        holds-used ((s x) .level) s (st .used) w 0 keyLimit x (invariant .versions w l .tree) (invariant .versions w l .held) in
         let same : (o .store x) .level ≡ (s x) .level = ok .past w x a in-use .level in
         let root-is : st′ .root w ≡ x = grown-root-past t n rs (o .store) (o .used) (o .parts) w a in
         let page-is : st′ .store x ≡ o .store x =
-            grown-other t now n rs (o .store) (o .used) (L t) p IsKnown′ (o .parts) x (omega (arith, ok .grows)) in
+        grown-other t now n rs (o .store) (o .used) (L t) p IsKnown′ (o .parts) x (omega (arith, ok .grows)) in
         omega (arith, ap (λ (z : ℕ). (st′ .store z) .level) root-is, ap (λ (g : Page). g .level) page-is, invariant .levels w l)
 
 -- A state just opened

@@ -138,8 +138,8 @@ module _ (measure : Value → ℕ) (m : Measure measure) (tree : Tree) (points :
   halved-low : (lower upper middle : ℕ) → out .parts ≡ two lower upper middle → suc (levelOf (tree .table) page) ≤ 3
   halved-low lower upper middle e =
       let after : LevelNow (grown (p .tick) (levelOf (tree .table) page) root (out .store) (out .used) (two lower upper middle)) =
-          subst (λ (parts : Parts). LevelNow (grown (p .tick) (levelOf (tree .table) page) root (out .store) (out .used) parts)) e
-          (subst (λ (x : ℕ). LevelNow (from-page x)) (ap pageOf is-root) (next-inv .levels (p .tick) (time .tick))) in
+      subst (λ (parts : Parts). LevelNow (grown (p .tick) (levelOf (tree .table) page) root (out .store) (out .used) parts)) e
+      (subst (λ (x : ℕ). LevelNow (from-page x)) (ap pageOf is-root) (next-inv .levels (p .tick) (time .tick))) in
       let there : cond (leb (p .tick) (p .tick)) (out .used) (root (p .tick)) ≡ out .used = rw (le-leb (p .tick) (p .tick) (omega arith)) in
       omega (arith, ap level-at there, top-level, after)
     where
@@ -205,13 +205,13 @@ module _ (measure : Value → ℕ) (m : Measure measure) (tree : Tree) (points :
     is-made : enterRoot tree p page .made ≡ room .made
     is-made =
         let e : Ready (enterRoot tree p page .made) (enterRoot tree p page .root) ≡ Ready (room .made) (room .root) =
-            sym plan-ready ∙ room .planned in
+        sym plan-ready ∙ room .planned in
         cc
 
     is-change : enterRoot tree p page .root ≡ room .root
     is-change =
         let e : Ready (enterRoot tree p page .made) (enterRoot tree p page .root) ≡ Ready (room .made) (room .root) =
-            sym plan-ready ∙ room .planned in
+        sym plan-ready ∙ room .planned in
         cc
 
     pages-left : tree .used .pages + enterRoot tree p page .made ≤ min (length (tree .table) / 260) 1000000
@@ -234,9 +234,9 @@ module _ (measure : Value → ℕ) (m : Measure measure) (tree : Tree) (points :
     pub next-lengths : (length (enter tree p .table) ≡ length (tree .table)) × (length (enter tree p .roots) ≡ length (tree .roots))
     next-lengths =
         let g =
-            grew measure m tree p (lastTick points) words (time .later) (time .tick) (time .key) page is-root (Known (p ∷ points))
-            (known-new p points)
-            (now-paid .tree) (now-paid .held) now-full table-room list-room in
+        grew measure m tree p (lastTick points) words (time .later) (time .tick) (time .key) page is-root (Known (p ∷ points))
+        (known-new p points)
+        (now-paid .tree) (now-paid .held) now-full table-room list-room in
         (ap (λ (new : Tree). length (new .table)) enter-is ∙ g .table, ap (λ (new : Tree). length (new .roots)) enter-is ∙ g .list)
 
     pub next-state : stateOf measure (enter tree p) ≡ entering (p .tick) (p .key) (measure (p .value)) (stateOf measure tree)
@@ -297,7 +297,7 @@ module _ (table roots : List ℕ) (room : 260 ≤ length table) (list : 1 ≤ le
       few x e =
           let rows = newRow 0 0 keyLimit 0 value.zero ∷ [] in
           let back : rowsOf firstPage ≡ rows =
-              fresh-rows 0 0 keyLimit 0 rows (omega arith) (record { low = omega arith; high = omega arith; birth = omega arith }, tt) in
+          fresh-rows 0 0 keyLimit 0 rows (omega arith) (record { low = omega arith; high = omega arith; birth = omega arith }, tt) in
           rw e (rw opened-table (omega (arith, ap length back)))
 
   module _ (measure : Value → ℕ) (m : Measure measure) where

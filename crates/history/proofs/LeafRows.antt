@@ -106,8 +106,8 @@ module _ (f : ℕ → Bool) where
   leaf-known lo hi d [] c h e = omega arith
   leaf-known lo hi d (y ∷ ys) c h e =
       let g =
-          cut-range lo (y .entry .high) hi d (length ys) e (omega arith) (chain-le _ (y .entry .high) hi ys (c .rest))
-          (λ d′ e′. leaf-known (y .entry .high) hi d′ ys (c .rest) (h .1) e′) in
+      cut-range lo (y .entry .high) hi d (length ys) e (omega arith) (chain-le _ (y .entry .high) hi ys (c .rest))
+      (λ d′ e′. leaf-known (y .entry .high) hi d′ ys (c .rest) (h .1) e′) in
       let o = many-first f lo (y .entry .high - lo) (rw (c .first) at (h .0)) (omega arith) in
       omega arith
 
@@ -117,8 +117,8 @@ module _ (f : ℕ → Bool) where
   index-known P F r k lo hi d [] c h e = omega arith
   index-known P F r k lo hi d (y ∷ ys) c h e =
       let g =
-          cut-range lo (y .entry .high) hi d (sumLeaf r ys) e (omega arith) (chain-le P (y .entry .high) hi ys (c .rest))
-          (λ d′ e′. index-known P F r k (y .entry .high) hi d′ ys (c .rest) (h .1) e′) in
+      cut-range lo (y .entry .high) hi d (sumLeaf r ys) e (omega arith) (chain-le P (y .entry .high) hi ys (c .rest))
+      (λ d′ e′. index-known P F r k (y .entry .high) hi d′ ys (c .rest) (h .1) e′) in
       omega (arith, k lo (y .entry .high) (y .entry .page) (y .entry .high - lo) y (c .under) (h .0) (omega arith))
 
   pub rows-known : (n : ℕ) (s : ℕ → Page) (u t lo hi p d : ℕ) (tr : Tree n) → Holds n s u t lo hi p tr → Full (λ x. f x ≡ true) n tr

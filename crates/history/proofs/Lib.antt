@@ -5,7 +5,6 @@ pub mod ModelPages
 pub mod ModelTrees
 pub mod ModelSteps
 pub mod ModelPromise
-
 -- Entering a point into the model
 pub mod ReplacedRows
 pub mod HeldTrees
@@ -21,7 +20,6 @@ pub mod RowCounts
 pub mod EnteredPages
 pub mod LeafRows
 pub mod GrownStates
-
 -- Our words as the model's pages, and our steps as its steps
 pub mod TableLaws
 pub mod PageCodec
@@ -34,12 +32,10 @@ pub mod PageViews
 pub mod EnterViews
 pub mod RootLaws
 pub mod TreeViews
-
 -- Reading and planning in a tree that the pages hold
 pub mod SoundPages
 pub mod Reading
 pub mod Descent
-
 -- Grown trees
 pub mod HeldPaths
 pub mod Growth

@@ -157,8 +157,8 @@ lengths-stay table roots (p ∷ points) h =
     let k₀ = kept table roots points (h .2) in
     let root = k₀ .words .roots .found (p .tick) in
     let next =
-        next-lengths countOf count-measure (grow table roots points) points p (k₀ .words) (k₀ .counts) (h .0) (root .0) (root .1)
-        (h .1) in
+    next-lengths countOf count-measure (grow table roots points) points p (k₀ .words) (k₀ .counts) (h .0) (root .0) (root .1)
+    (h .1) in
     let rest = lengths-stay table roots points (h .2) in
     (next .0 ∙ rest .0, next .1 ∙ rest .1)
 
@@ -172,8 +172,8 @@ room-enough table roots (p ∷ points) order pages list =
     let root = k₀ .words .roots .found (p .tick) in
     let lengths = lengths-stay table roots points before in
     let room =
-        has-room (grow table roots points) points p (k₀ .words) (k₀ .counts) (order .0) (root .0) (root .1)
-        (rw (lengths .0) pages) (rw (lengths .1) list) in
+    has-room (grow table roots points) points p (k₀ .words) (k₀ .counts) (order .0) (root .0) (root .1)
+    (rw (lengths .0) pages) (rw (lengths .1) list) in
     (order .0, room, before)
 
 -- Shape before value: two lists of points with the same ticks and keys make the same pages, and every lookup has the same path

@@ -43,7 +43,7 @@ Holding words at new = (i : ℕ) → i < length new → getD words (at + i) 0 �
 row-back : (words : List ℕ) (at : ℕ) (r : Row) (rest : List ℕ) → Fits r → Holding words at (encodeRow r ++ rest) → rowAt words at ≡ r
 row-back words at r rest fits h =
     let k : getD words at 0 ≡ r .low + 65536 * r .high + 4294967296 * r .child =
-        ap (λ (n : ℕ). getD words n 0) (omega arith) ∙ h 0 (omega arith) in
+    ap (λ (n : ℕ). getD words n 0) (omega arith) ∙ h 0 (omega arith) in
     let l : getD words (at + 1) 0 ≡ r .birth + 4294967296 * r .end = h 1 (omega arith) in
     let c : getD words (at + 2) 0 ≡ r .value .count = h 2 (omega arith) in
     let s : getD words (at + 2 + 1) 0 ≡ r .value .sum = ap (λ (n : ℕ). getD words n 0) (omega arith) ∙ h 3 (omega arith) in

@@ -224,7 +224,7 @@ module _ (measure : Value → ℕ) where
               let place : U * 260 + 260 ≤ length (so .table) = omega (arith, before .0) in
               let new : List ℕ = freshPage (word old 0) (lowKey (word old 2)) (highKey (word old 2)) t moving in
               let new-length : length new ≡ 260 =
-                  fresh-length (word old 0) (lowKey (word old 2)) (highKey (word old 2)) t moving (omega arith) in (
+              fresh-length (word old 0) (lowKey (word old 2)) (highKey (word old 2)) t moving (omega arith) in (
                 put-length (so .table) U new place new-length ∙ before .0,
                 view-put measure (so .table) U new place new-length
                     ∙ ap₂ (λ (s : ℕ → Page) (g : Page). putAt s U g) (before .1)
@@ -293,11 +293,11 @@ module _ (measure : Value → ℕ) where
                 let second-page : List ℕ = freshPage (word old 0) middle (highKey (word old 2)) t (gainFirst (totalOf lower) upper) in
                 let first-length : length first-page ≡ 260 = fresh-length (word old 0) (lowKey (word old 2)) middle t lower lower-few in
                 let second-length : length second-page ≡ 260 =
-                    fresh-length (word old 0) middle (highKey (word old 2)) t (gainFirst (totalOf lower) upper) upper-few in
+                fresh-length (word old 0) middle (highKey (word old 2)) t (gainFirst (totalOf lower) upper) upper-few in
                 let place : U * 260 + 260 ≤ length (so .table) = omega (arith, before .0) in
                 let put-first = put-length (so .table) U first-page place first-length in
                 let place-second : (tree .used .pages + (so .made + 1)) * 260 + 260 ≤ length (putPage (so .table) U first-page) =
-                    omega (arith, before .0, put-first) in (
+                omega (arith, before .0, put-first) in (
                   put-length (putPage (so .table) U first-page) (tree .used .pages + (so .made + 1)) second-page place-second
                       second-length ∙ put-first ∙ before .0,
                   view-put measure (putPage (so .table) U first-page) (tree .used .pages + (so .made + 1)) second-page place-second

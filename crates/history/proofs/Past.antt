@@ -88,25 +88,25 @@ module _ (measure : Value → ℕ) (m : Measure measure) (tree : Tree) (points :
   unfolding after out root
   same-pages w x early in-use =
       let ok =
-          enter-keeps (p .tick) (time .tick) (p .key) (measure (p .value)) (Known (p ∷ points)) (known-new p points) level store used 0
-          keyLimit page
-          (now-paid measure m tree points p words tells time page is-root .tree) (omega arith) (time .key)
-          (now-paid measure m tree points p words tells time page is-root .held)
-          (now-full measure m tree points p words tells time page is-root) in
+      enter-keeps (p .tick) (time .tick) (p .key) (measure (p .value)) (Known (p ∷ points)) (known-new p points) level store used 0
+      keyLimit page
+      (now-paid measure m tree points p words tells time page is-root .tree) (omega arith) (time .key)
+      (now-paid measure m tree points p words tells time page is-root .held)
+      (now-full measure m tree points p words tells time page is-root) in
       let other : after .store x ≡ out .store x =
-          grown-other (p .tick) (time .tick) level root (out .store) (out .used) (λ q. 0) page (Known (p ∷ points)) (out .parts) x
-          (omega (arith, ok .grows)) in
+      grown-other (p .tick) (time .tick) level root (out .store) (out .used) (λ q. 0) page (Known (p ∷ points)) (out .parts) x
+      (omega (arith, ok .grows)) in
       subst (λ (g : Page). Alike w g (store x)) (sym (ap (λ (st : State). st .store x) state-after ∙ other)) (ok .past w x early in-use)
 
   more-pages : used ≤ enter tree p .used .pages
   unfolding after out root
   more-pages =
       let ok =
-          enter-keeps (p .tick) (time .tick) (p .key) (measure (p .value)) (Known (p ∷ points)) (known-new p points) level store used 0
-          keyLimit page
-          (now-paid measure m tree points p words tells time page is-root .tree) (omega arith) (time .key)
-          (now-paid measure m tree points p words tells time page is-root .held)
-          (now-full measure m tree points p words tells time page is-root) in
+      enter-keeps (p .tick) (time .tick) (p .key) (measure (p .value)) (Known (p ∷ points)) (known-new p points) level store used 0
+      keyLimit page
+      (now-paid measure m tree points p words tells time page is-root .tree) (omega arith) (time .key)
+      (now-paid measure m tree points p words tells time page is-root .held)
+      (now-full measure m tree points p words tells time page is-root) in
       omega (
         arith,
         ok .grows,

@@ -90,9 +90,9 @@ module _ (measure : Value → ℕ) (t m : ℕ) (a : Entry → Entry) (b : Entry 
       × (made t m a b (viewRows measure rows) ≡ makes t m a b (viewRow measure (x .row)))
   parts =
       let p =
-          one-kept t m a b (viewRow measure (x .row)) (viewRows measure rows) (x .place)
-          (omega (arith, at .within, length-map rows (viewRow measure)))
-          (ap (isReplaced t m) here ∙ hits-here) (omega (arith, count-hits t m (viewRows measure rows))) in
+      one-kept t m a b (viewRow measure (x .row)) (viewRows measure rows) (x .place)
+      (omega (arith, at .within, length-map rows (viewRow measure)))
+      (ap (isReplaced t m) here ∙ hits-here) (omega (arith, count-hits t m (viewRows measure rows))) in
       (p .0 ∙ ap (λ (r : model.Row). set (viewRows measure rows) (x .place) (keep t m a b r)) here, p .1 ∙ ap (makes t m a b) here)
 
   -- The row born at t, and any other

@@ -286,13 +286,13 @@ module _ (measure : Value → ℕ) (m : Measure measure) {A : Type 0} (P : ℕ �
           let f : Entry → ℕ = λ f. onlyIf (eqb (f .low) (y .entry .low)) 1 in
           let after : List (Slot A) = xs ++ (y ∷ moreFirst (measure (p .value)) ys) in
           let now-same : sumSlots f after ≡ sumLive (p .tick) f (gained (p .tick) (p .key) (measure (p .value)) (viewRows measure rows)) =
-              gained-next P (p .key) (p .tick) lo hi xs y ys (viewRows measure rows) c i j d same now (measure (p .value)) l f in
+          gained-next P (p .key) (p .tick) lo hi xs y ys (viewRows measure rows) c i j d same now (measure (p .value)) l f in
           let chain : Chain P lo hi after =
-              chain-join P lo (y .entry .low) hi xs (y ∷ moreFirst (measure (p .value)) ys) c
-              (record { first = refl; some = omega arith; under = w; rest = chain-more P (measure (p .value)) (y .entry .high) hi ys d }) in
+          chain-join P lo (y .entry .low) hi xs (y ∷ moreFirst (measure (p .value)) ys) c
+          (record { first = refl; some = omega arith; under = w; rest = chain-more P (measure (p .value)) (y .entry .high) hi ys d }) in
           let few : sumSlots f after ≤ 1 = one-start P (y .entry .low) 1 lo hi after chain in
           let eq : sumLive (p .tick) f (viewRows measure (gainRows p rows)) ≡ sumSlots f after =
-              ap (sumLive (p .tick) f) gain-view ∙ sym now-same in
+          ap (sumLive (p .tick) f) gain-view ∙ sym now-same in
           omega arith
 
       go : (b : Became) → Covers (y .entry .low) (y .entry .high) b

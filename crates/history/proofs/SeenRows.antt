@@ -115,7 +115,7 @@ module _ (w t : ℕ) (early : w < t) where
           ∙ seen-set w 0 rows (x .place) new (x .row) (none ∙ sym old) (λ l. absurd (false≢true (sym none ∙ l)))
       go false e =
           let still : live w (ended t (x .row)) ≡ live w (x .row) =
-              ap (λ (b : Bool). leb (x .row .birth) w && b) (lt-ltb w t early ∙ sym (lt-ltb w (x .row .end) (omega (arith, now-live)))) in
+          ap (λ (b : Bool). leb (x .row .birth) w && b) (lt-ltb w t early ∙ sym (lt-ltb w (x .row .end) (omega (arith, now-live)))) in
           seen-append w 0 (set rows (x .place) (ended t (x .row))) (bornAt t new ∷ further)
           (unborn (bornAt t new) refl, unseen further born)
           ∙ seen-set w 0 rows (x .place) (ended t (x .row)) (x .row) (still ∙ ap (live w) (at .same)) (λ l. ap rowSeen (at .same))

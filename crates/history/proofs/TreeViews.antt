@@ -89,7 +89,7 @@ module _ (measure : Value → ℕ) (m : Measure measure) (tree : ours.Tree) (las
       × (length (withRoot tree t page words made .tree .roots) ≡ length (tree .roots))
   new-root page words made s u some place view use-is slotCount =
       let r : Rooted tree t page words made (withRoot tree t page words made) =
-          root-changed tree last t page words made kept time (omega arith) some place in (
+      root-changed tree last t page words made kept time (omega arith) some place in (
         state-path (ap (viewTable measure) (r .table) ∙ view) (r .pages ∙ use-is) (λ i w. (ap pageOf (r .root w) ∙ by-test (leb t w) w) i),
         r .pages ∙ ap (_+_ (tree .used .pages)) (sym (r .made)),
         r .kept,
@@ -175,15 +175,15 @@ module _ (measure : Value → ℕ) (m : Measure measure) (tree : ours.Tree) (las
           let made-is = root-made tree t page (putPage (so .table) page words) (so .made + 1) in
           let w = none-made (omega (arith, made-is)) in
           let slotCount : length words ≡ 260 =
-              fresh-length (level + 1) 0 keyLimit t (twoRows t (c .high) (c .page) (d .page)) (omega arith) in
+          fresh-length (level + 1) 0 keyLimit t (twoRows t (c .high) (c .page) (d .page)) (omega arith) in
           let inside : page * 260 + 260 ≤ length (so .table) = omega (arith, made-is, w .0) in
           let r =
-              new-root page (putPage (so .table) page words) (so .made + 1)
-              (putAt (o .store) (o .used) (newPage t (suc level) 0 keyLimit (topRows (c .page) (d .page) (c .high)))) (suc (o .used))
-              (omega arith) place
-              (view-put measure (so .table) page words inside slotCount
-              ∙ (λ i. putAt (w .1 i) (agree .used i) (top-view (c .high) (c .page) (d .page) (cover .3) i)))
-              (omega (arith, agree .used)) (put-length (so .table) page words inside slotCount ∙ w .0) in
+          new-root page (putPage (so .table) page words) (so .made + 1)
+          (putAt (o .store) (o .used) (newPage t (suc level) 0 keyLimit (topRows (c .page) (d .page) (c .high)))) (suc (o .used))
+          (omega arith) place
+          (view-put measure (so .table) page words inside slotCount
+          ∙ (λ i. putAt (w .1 i) (agree .used i) (top-view (c .high) (c .page) (d .page) (cover .3) i)))
+          (omega (arith, agree .used)) (put-length (so .table) page words inside slotCount ∙ w .0) in
           record {
             state =
                 r .0
@@ -233,9 +233,9 @@ module _ (measure : Value → ℕ) (m : Measure measure) (tree : ours.Tree) (p :
       record {
         small =
             λ x l. let few : length ((stateOf measure new .store x) .rows) ≤ 64 =
-                subst (λ (st : State). Small (st .store) (st .used)) (sym (g .state))
-                (grown-small (p .tick) (levelOf (tree .table) page) (λ w. pageOf (rootAt tree w)) (modelOut .store) (modelOut .used)
-                (modelOut .parts) (root-agrees .1)) x l in
+            subst (λ (st : State). Small (st .store) (st .used)) (sym (g .state))
+            (grown-small (p .tick) (levelOf (tree .table) page) (λ w. pageOf (rootAt tree w)) (modelOut .store) (modelOut .used)
+            (modelOut .parts) (root-agrees .1)) x l in
             omega (arith, length-map (rowsOf (pageAt (new .table) x)) (viewRow measure));
         pages = omega (arith, g .pages, g .table);
         limit = omega (arith, g .pages);

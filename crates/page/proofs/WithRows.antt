@@ -155,8 +155,8 @@ module _ (page : List ℕ) (r : Row) where
             go (no n) =
                 kept n
                 ∙ sym
-                    (ap (λ (x : Row). getD (encodeRow x) m 0) (getD-set-other (rowsOf page) place q r r n ∙ row-at-place page headerWords (word page 1) q r small)
-                    ∙ words-again page (rowStart q) m l)
+                (ap (λ (x : Row). getD (encodeRow x) m 0) (getD-set-other (rowsOf page) place q r r n ∙ row-at-place page headerWords (word page 1) q r small)
+                ∙ words-again page (rowStart q) m l)
 
   -- A row added behind the rows
   module _ (room : rowStart (word page 1) + rowWords ≤ length page) where
@@ -196,9 +196,9 @@ module _ (page : List ℕ) (r : Row) where
             go (yes a) =
                 later (rowStart q + m) (omega arith) (omega arith)
                 ∙ sym
-                    (ap (λ (x : Row). getD (encodeRow x) m 0)
-                        (List·getD-append (rowsOf page) (r ∷ []) r q (omega (arith, rows-of-length)) ∙ row-at-place page headerWords (word page 1) q r a)
-                    ∙ words-again page (rowStart q) m l)
+                (ap (λ (x : Row). getD (encodeRow x) m 0)
+                (List·getD-append (rowsOf page) (r ∷ []) r q (omega (arith, rows-of-length)) ∙ row-at-place page headerWords (word page 1) q r a)
+                ∙ words-again page (rowStart q) m l)
             go (no a) =
                 let e : q ≡ word page 1 = omega (arith, added-length) in
                 let f : q ≡ length (rowsOf page) + 0 = omega (arith, rows-of-length) in

@@ -100,7 +100,7 @@ module _ (t : ℕ) (page : List ℕ) (place : ℕ) (old : Row) (inside : place <
       go false =
           ap (λ (w : List ℕ). appendRow w (bornAt t new)) end-is
           ∙ append-to-with page (set (rowsOf page) place (ended t old)) (bornAt t new) stopped-fits
-              (omega (arith, length-set (rowsOf page) place (ended t old), count-rows))
+          (omega (arith, length-set (rowsOf page) place (ended t old), count-rows))
 
   replace-more : (new f : Row) → replaceRow t (placedIn place old) new [] (rowsOf page) ++ (f ∷ []) ≡ replaceRow t (placedIn place old) new (f ∷ []) (rowsOf page)
   replace-more new f = go (eqb (old .birth) t)

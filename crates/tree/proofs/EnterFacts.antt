@@ -58,7 +58,7 @@ unfolding descentSound
 descent-below tree p l low high page {x} e f =
     let go : Row → Bool = λ (row : Row). descentSound tree p l (row .low) (row .high) (row .child) in
     let below : soundBelow go (rowAround p (rowsOf (pageAt (tree .table) page))) ≡ true =
-        and-eq-true-iff (metAt tree (p .tick) (suc l) low high page) _ .0 e .1 in
+    and-eq-true-iff (metAt tree (p .tick) (suc l) low high page) _ .0 e .1 in
     ap (soundBelow go) (sym f) ∙ below
 
 module _ (tree : Tree) (p : Point) (small : p .tick < 4294967296) (narrow : p .key < 65536) (in-table : InTable tree) where
@@ -122,7 +122,7 @@ module _ (tree : Tree) (p : Point) (small : p .tick < 4294967296) (narrow : p .k
         let there : rowAround p (rowsOf (loaded (tree .table) page)) ≡ one x = ap (rowAround p) copy-rows ∙ found in
         let f = link-fits p small narrow (loaded (tree .table) page) (copy-room 3 (omega arith)) x there became fit in
         let g : RowsFit 67 (relinkRow (p .tick) x became (gainRows p (rowsOf (loaded (tree .table) page)))) =
-            record { fit = f .fit; few = omega (arith, f .few, copy-count, m .few-rows) } in
+        record { fit = f .fit; few = omega (arith, f .few, copy-count, m .few-rows) } in
         rw copy-rows at g
 
   -- by the level: each page's level is one less than its parent's
@@ -155,8 +155,8 @@ module _ (tree : Tree) (p : Point) (small : p .tick < 4294967296) (narrow : p .k
           let c = ih x e (omega arith) in
           let fit = link-rows-fit (suc l) page m x e (child .became) (c .children) in
           let f =
-              finish-facts tree (p .tick) small child page rows (fit .fit) (fit .few) (page-whole (suc l) page m)
-              (omega (arith, c .same-length, page-inside (suc l) page m)) (omega (arith, c .same-length)) in
+          finish-facts tree (p .tick) small child page rows (fit .fit) (fit .few) (page-whole (suc l) page m)
+          (omega (arith, c .same-length, page-inside (suc l) page m)) (omega (arith, c .same-length)) in
           record {
             same-length = f .same-length ∙ c .same-length;
             other = λ q i h. finished-other (suc l) page m child _ f q i h (c .other q i (omega arith));

@@ -181,7 +181,7 @@ module _ (tree : Tree) (p : Point) (small : p .tick < 4294967296) (narrow : p .k
               loaded-now
               ∙ ap₂ (λ (w : List ℕ) (r : Row). linkWords (p .tick) w (x .place) r (done .became)) gained-copy (seen .same)
               ∙ link-is-with p small narrow (loaded (tree .table) page) (copy-room tree p small narrow (can .in-table) (suc l) page here 3 (omega arith)) x
-                  (ap (rowAround p) rows-same ∙ found) (done .became) (rw (is .became-is) (facts .children))
+              (ap (rowAround p) rows-same ∙ found) (done .became) (rw (is .became-is) (facts .children))
               ∙ ap₂ (λ (b : Became) (rs : List Row). withRows (loaded (tree .table) page) (relinkRow (p .tick) x b (gainRows p rs))) (is .became-is) rows-same
 
           same-size : length now ≡ length (tree .table)

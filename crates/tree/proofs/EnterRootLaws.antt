@@ -94,8 +94,7 @@ plan-facts tree p {made} {change} e = go (rootAt tree (p .tick)) refl e
     ready page r true b f =
         let x = and-eq-true-iff (rootInUse tree page) _ .0 b in
         let y = and-eq-true-iff (ltb page (tree .used .pages)) _ .0 (x .0) in
-        let z = and-eq-true-iff (descentSound tree p (levelOf (tree .table) page) 0 keyLimit page) _ .0 (x .1) in
-        (
+        let z = and-eq-true-iff (descentSound tree p (levelOf (tree .table) page) 0 keyLimit page) _ .0 (x .1) in (
           page,
           record {
             root-is = r;

@@ -85,7 +85,7 @@ module _ (tree : Tree) (p : Point) (small : p .tick < 4294967296) (narrow : p .k
         DoneAs (enterFrom tree p (level - 1) (rowIn (pageAt (tree .table) page) q .child)) now done →
         (word (pageAt now page) 1 ≡ word (pageAt (tree .table) page) 1)
         × Settles tree p level page now (done .made)
-            (linkEdited (p .tick) (p .value) now page (surveyOf (p .tick) (p .key) (pageAt (tree .table) page) .gain) q (done .became))
+        (linkEdited (p .tick) (p .value) now page (surveyOf (p .tick) (p .key) (pageAt (tree .table) page) .gain) q (done .became))
     above-step zero n can done now is = absurd (n refl)
     above-step (suc l) n can done now is =
         let same : suc l - 1 ≡ l = omega arith in

@@ -133,7 +133,7 @@ module _ (tree : Tree) (t : ℕ) (small : t < 4294967296) (so : Written) (page :
       let second : List ℕ = freshPage (word old 0) middle (highKey (word old 2)) t (gainFirst (totalOf lower) upper) in
       let a : length lower ≤ rowLimit = omega (arith, length-take (lowerCount moved) moved) in
       let b : length (gainFirst (totalOf lower) upper) ≤ rowLimit =
-          omega (arith, gain-first-length (totalOf lower) upper, length-drop (lowerCount moved) moved) in
+      omega (arith, gain-first-length (totalOf lower) upper, length-drop (lowerCount moved) moved) in
       let first-size : length first ≡ pageWords = fresh-length (word old 0) (lowKey (word old 2)) middle t lower a in
       let second-size : length second ≡ pageWords = fresh-length (word old 0) middle (highKey (word old 2)) t (gainFirst (totalOf lower) upper) b in
       let first-fits : n * pageWords + pageWords ≤ length (so .table) = omega arith in

@@ -41,7 +41,7 @@ rows-front page extra at zero h = refl
 rows-front page extra at (suc n) h =
     ap₂ _∷_
     (rw
-      (word-front page extra at (omega arith), word-front page extra (at + 1) (omega arith), word-front page extra (at + 2) (omega arith), word-front page extra (at + 2 + 1) (omega arith)))
+    (word-front page extra at (omega arith), word-front page extra (at + 1) (omega arith), word-front page extra (at + 2) (omega arith), word-front page extra (at + 2 + 1) (omega arith)))
     (rows-front page extra (at + rowWords) n (omega arith))
 
 pub rows-of-front : (page extra : List ℕ) → rowStart (word page 1) ≤ length page → rowsOf (page ++ extra) ≡ rowsOf page

@@ -108,8 +108,8 @@ module _ (p : Point) (small : p .tick < 4294967296) (narrow : p .key < 65536) (p
           (λ (r : Row). appendRow (replaceWords (p .tick) page (x .place) r (cutAt (p .key) r)) (newRow (p .tick) (p .key) (r .high) 0 (p .value)))
           (s .same)
           ∙ replace-and-add (p .tick) page (x .place) (x .row) (s .inside) (s .same) (omega arith) (cutAt (p .key) (x .row))
-              (newRow (p .tick) (p .key) (x .row .high) 0 (p .value)) small
-              (record { low = old-fits .low; high = narrow; birth = old-fits .birth }) room
+          (newRow (p .tick) (p .key) (x .row .high) 0 (p .value)) small
+          (record { low = old-fits .low; high = narrow; birth = old-fits .birth }) room
 
   -- What step 3 leaves of the other rows
   pub record AfterGain (after : List Row) : Type 0 where
@@ -234,7 +234,7 @@ module _ (p : Point) (small : p .tick < 4294967296) (narrow : p .key < 65536) (p
             withRows (withRows page after) (set after (x .place) a ++ more) ≡ withRows page (set after (x .place) a ++ more)
         both a more l =
             let size : length (set after (x .place) a ++ more) ≡ length after + length more =
-                length-append (set after (x .place) a) more ∙ omega (arith, length-set after (x .place) a) in
+            length-append (set after (x .place) a) more ∙ omega (arith, length-set after (x .place) a) in
             with-with page after (set after (x .place) a ++ more) (omega arith) (omega (arith, gain .most))
 
         go : (b : Bool) →

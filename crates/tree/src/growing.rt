@@ -3,6 +3,7 @@ use crate::entering::enter_from;
 use crate::entry::Became;
 use crate::roots::find_root;
 use crate::split::put_page;
+use crate::split::taken_page;
 use crate::types::Root;
 use crate::types::TreeUse;
 use page::Page;
@@ -62,8 +63,12 @@ pub fn enter(
         },
         Became::Copied(child) => put_root(roots, used, done.made, child.page, t),
         Became::Halved(lower, upper) => {
-            let number = used.pages + done.made;
-            put_page(table, number, Page::two_row_root(level + 1, t, lower.high, lower.page, upper.page));
+            let number = taken_page(used, done.made);
+            put_page(
+                table,
+                number,
+                Page::two_row_root(level + 1, t, lower.high, lower.page, upper.page),
+            );
             put_root(roots, used, done.made + 1, number, t)
         }
     }

@@ -15,6 +15,7 @@ ghost use Rattle.page.specs.Row.{word, pageWords, rowLimit, copyLimit};
 ghost use Rattle.page.specs.Fresh.{encodePage};
 ghost use Rattle.page.specs.Entries.{orderSize, InPage};
 ghost use Rattle.tree.specs.Tree.{putPage};
+ghost use Rattle.tree.specs.Overflow.{takenPage};
 ghost use Rattle.tree.specs.PageEdits.{becameOf};
 ghost use Rattle.tree.specs.SplitWords.{scratchWords, Sourced, between, fillPage, addRows, gainPage, copiedTable, middleKey, halvedTable, splitWords};
 
@@ -121,6 +122,15 @@ fn halve_rows(
     middle
 }
 
+// The number of the i-th page that a call takes, counted from 0.
+pub fn taken_page(used: TreeUse, i: u32) -> u32
+    requires { ⌜ used .pages ≤ 1000000 ⌝ }
+    requires { ⌜ i ≤ 32 ⌝ }
+    ensures { λ r. ⌜ r ≡ takenPage used i ⌝ }
+{
+    used.pages + i
+}
+
 // Step 5: the live rows of a page that has too many go to one new page, or to two, which take the next free numbers.
 pub fn split_page(table: &mut [u64], used: TreeUse, made: u32, words: &[u64], t: u32) -> Done
     requires { ⌜ length (now words) ≡ scratchWords ⌝ }
@@ -134,7 +144,7 @@ pub fn split_page(table: &mut [u64], used: TreeUse, made: u32, words: &[u64], t:
 {
     let mut order = [0u64; 67];
     let start = page::key_order(words, words[1] as usize, t, &mut order);
-    let number = used.pages + made;
+    let number = taken_page(used, made);
     let range = words[2];
     let low = words::low_key(range);
     let high = words::high_key(range);
@@ -150,7 +160,7 @@ pub fn split_page(table: &mut [u64], used: TreeUse, made: u32, words: &[u64], t:
             made: made + 1,
         };
     }
-    let second = number + 1;
+    let second = taken_page(used, made + 1);
     let middle = halve_rows(table, number, second, words, &order, start, t);
     let lower = Child {
         page: number,

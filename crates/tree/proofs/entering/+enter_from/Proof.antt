@@ -303,9 +303,9 @@ enter-from-enter-lowest-requires t c κs = let a = c .before .before .before .be
     let within = inside tree p small narrow (a .level) (a .page) can in
     let few = few-rows tree p small narrow (a .level) (a .page) can in
     let survey : c .before .before .before .survey-page .result ≡ surveyOf (a .t) (a .k) (pageAt table (a .page)) =
-        c .before .before .before .survey-page .ensures ∙ ap (surveyOf (a .t) (a .k)) (part-is table (a .page)) in
+    c .before .before .before .survey-page .ensures ∙ ap (surveyOf (a .t) (a .k)) (part-is table (a .page)) in
     let missing : surveyOf (a .t) (a .k) (pageAt table (a .page)) .inner ≡ Missing =
-        sym (ap (λ (s : Survey). s .inner) survey) ∙ c .before .enum-told .given .1 in
+    sym (ap (λ (s : Survey). s .inner) survey) ∙ c .before .enum-told .given .1 in
     let step = lowest-step tree p small narrow (a .page) (a .level) (c .before .before .before .before .before .before .if1 .left) can missing in
     let gain : c .before .before .before .survey-page .result .gain ≡ surveyOf (a .t) (a .k) (pageAt table (a .page)) .gain = ap (λ (s : Survey). s .gain) survey in
     (few, (rw gain (gain-within tree p small narrow (a .page)), rw gain (step .can)))
@@ -432,10 +432,10 @@ enter-from-row-at-requires t c κs = let a = c .before .before .before .before .
     let within = inside tree p small narrow (a .level) (a .page) can in
     let few = few-rows tree p small narrow (a .level) (a .page) can in
     let survey : c .before .before .before .before .before .survey-page .result ≡ surveyOf (a .t) (a .k) (pageAt table (a .page)) =
-        c .before .before .before .before .before .survey-page .ensures ∙ ap (surveyOf (a .t) (a .k)) (part-is table (a .page)) in
+    c .before .before .before .before .before .survey-page .ensures ∙ ap (surveyOf (a .t) (a .k)) (part-is table (a .page)) in
     let q = c .before .before .before .inner .given .0 .0 in
     let at : surveyOf (a .t) (a .k) (pageAt table (a .page)) .inner ≡ At q =
-        sym (ap (λ (s : Survey). s .inner) survey) ∙ c .before .before .before .inner .given .1 in
+    sym (ap (λ (s : Survey). s .inner) survey) ∙ c .before .before .before .inner .given .1 in
     let low = place-inside tree p small narrow (a .page) q at in
     omega (arith, low, few, part-length table (a .page) within)
 
@@ -479,12 +479,12 @@ enter-from-enter-from-requires t c κs = let a = c .before .before .before .befo
     let within = inside tree p small narrow (a .level) (a .page) can in
     let few = few-rows tree p small narrow (a .level) (a .page) can in
     let survey : c .before .before .before .before .before .before .before .survey-page .result ≡ surveyOf (a .t) (a .k) (pageAt table (a .page)) =
-        c .before .before .before .before .before .before .before .survey-page .ensures ∙ ap (surveyOf (a .t) (a .k)) (part-is table (a .page)) in
+    c .before .before .before .before .before .before .before .survey-page .ensures ∙ ap (surveyOf (a .t) (a .k)) (part-is table (a .page)) in
     let q = c .before .before .before .before .before .inner .given .0 .0 in
     let at : surveyOf (a .t) (a .k) (pageAt table (a .page)) .inner ≡ At q =
-        sym (ap (λ (s : Survey). s .inner) survey) ∙ c .before .before .before .before .before .inner .given .1 in
+    sym (ap (λ (s : Survey). s .inner) survey) ∙ c .before .before .before .before .before .inner .given .1 in
     let row : c .before .row-at .result ≡ rowIn (pageAt table (a .page)) q =
-        c .before .row-at .ensures ∙ ap (λ (w : List ℕ). rowIn w q) (part-is table (a .page)) in
+    c .before .row-at .ensures ∙ ap (λ (w : List ℕ). rowIn w q) (part-is table (a .page)) in
     let child : c .before .row-at .result .child ≡ rowIn (pageAt table (a .page)) q .child = ap (λ (r : Row). r .child) row in
     (omega (arith, c .before .before .before .before .before .before .before .before .before .before .before .before .pre .0), rw child (child-step tree p small narrow (a .page) q at (a .level) (c .before .before .before .before .before .before .before .before .before .before .if1 .left) can))
 
@@ -512,15 +512,15 @@ enter-from-enter-above-requires t c κs = let a = c .before .before .before .bef
     let within = inside tree p small narrow (a .level) (a .page) can in
     let few = few-rows tree p small narrow (a .level) (a .page) can in
     let survey : c .before .before .before .before .before .before .before .before .before .before .before .survey-page .result ≡ surveyOf (a .t) (a .k) (pageAt table (a .page)) =
-        c .before .before .before .before .before .before .before .before .before .before .before .survey-page .ensures ∙ ap (surveyOf (a .t) (a .k)) (part-is table (a .page)) in
+    c .before .before .before .before .before .before .before .before .before .before .before .survey-page .ensures ∙ ap (surveyOf (a .t) (a .k)) (part-is table (a .page)) in
     let q = c .before .before .before .before .before .before .before .before .before .inner .given .0 .0 in
     let at : surveyOf (a .t) (a .k) (pageAt table (a .page)) .inner ≡ At q =
-        sym (ap (λ (s : Survey). s .inner) survey) ∙ c .before .before .before .before .before .before .before .before .before .inner .given .1 in
+    sym (ap (λ (s : Survey). s .inner) survey) ∙ c .before .before .before .before .before .before .before .before .before .inner .given .1 in
     let row : c .before .before .before .before .before .row-at .result ≡ rowIn (pageAt table (a .page)) q =
-        c .before .before .before .before .before .row-at .ensures ∙ ap (λ (w : List ℕ). rowIn w q) (part-is table (a .page)) in
+    c .before .before .before .before .before .row-at .ensures ∙ ap (λ (w : List ℕ). rowIn w q) (part-is table (a .page)) in
     let child : c .before .before .before .before .before .row-at .result .child ≡ rowIn (pageAt table (a .page)) q .child = ap (λ (r : Row). r .child) row in
     let is : DoneAs (enterFrom tree p (a .level - 1) (rowIn (pageAt table (a .page)) q .child)) (c .before .before .before .enter-from .last .0) (c .before .before .before .enter-from .result) =
-        rw child at (c .before .before .before .enter-from .ensures) in
+    rw child at (c .before .before .before .enter-from .ensures) in
     let step = above-step tree p small narrow (a .page) q at (a .level) (c .before .before .before .before .before .before .before .before .before .before .before .before .before .before .if1 .left) can (c .before .before .before .enter-from .result) (c .before .before .before .enter-from .last .0) is in
     let gain : c .before .before .before .before .before .before .before .before .before .before .before .survey-page .result .gain ≡ surveyOf (a .t) (a .k) (pageAt table (a .page)) .gain = ap (λ (s : Survey). s .gain) survey in
     let low = place-inside tree p small narrow (a .page) q at in
@@ -566,9 +566,9 @@ enter-from-returns-2 t c = let a = c .before .before .before .before .before .be
     let within = inside tree p small narrow (a .level) (a .page) can in
     let few = few-rows tree p small narrow (a .level) (a .page) can in
     let survey : c .before .before .before .before .before .before .survey-page .result ≡ surveyOf (a .t) (a .k) (pageAt table (a .page)) =
-        c .before .before .before .before .before .before .survey-page .ensures ∙ ap (surveyOf (a .t) (a .k)) (part-is table (a .page)) in
+    c .before .before .before .before .before .before .survey-page .ensures ∙ ap (surveyOf (a .t) (a .k)) (part-is table (a .page)) in
     let missing : surveyOf (a .t) (a .k) (pageAt table (a .page)) .inner ≡ Missing =
-        sym (ap (λ (s : Survey). s .inner) survey) ∙ c .before .before .before .before .enum-told .given .1 in
+    sym (ap (λ (s : Survey). s .inner) survey) ∙ c .before .before .before .before .enum-told .given .1 in
     let step = lowest-step tree p small narrow (a .page) (a .level) (c .before .before .before .before .before .before .before .before .before .if1 .left) can missing in
     let gain : c .before .before .before .before .before .before .survey-page .result .gain ≡ surveyOf (a .t) (a .k) (pageAt table (a .page)) .gain = ap (λ (s : Survey). s .gain) survey in
     rw (gain, step .is) at (c .before .before .enter-lowest .ensures)
@@ -613,15 +613,15 @@ enter-from-returns-3 t c = let a = c .before .before .before .before .before .be
     let within = inside tree p small narrow (a .level) (a .page) can in
     let few = few-rows tree p small narrow (a .level) (a .page) can in
     let survey : c .before .before .before .before .before .before .before .before .before .before .before .before .before .before .survey-page .result ≡ surveyOf (a .t) (a .k) (pageAt table (a .page)) =
-        c .before .before .before .before .before .before .before .before .before .before .before .before .before .before .survey-page .ensures ∙ ap (surveyOf (a .t) (a .k)) (part-is table (a .page)) in
+    c .before .before .before .before .before .before .before .before .before .before .before .before .before .before .survey-page .ensures ∙ ap (surveyOf (a .t) (a .k)) (part-is table (a .page)) in
     let q = c .before .before .before .before .before .before .before .before .before .before .before .before .inner .given .0 .0 in
     let at : surveyOf (a .t) (a .k) (pageAt table (a .page)) .inner ≡ At q =
-        sym (ap (λ (s : Survey). s .inner) survey) ∙ c .before .before .before .before .before .before .before .before .before .before .before .before .inner .given .1 in
+    sym (ap (λ (s : Survey). s .inner) survey) ∙ c .before .before .before .before .before .before .before .before .before .before .before .before .inner .given .1 in
     let row : c .before .before .before .before .before .before .before .before .row-at .result ≡ rowIn (pageAt table (a .page)) q =
-        c .before .before .before .before .before .before .before .before .row-at .ensures ∙ ap (λ (w : List ℕ). rowIn w q) (part-is table (a .page)) in
+    c .before .before .before .before .before .before .before .before .row-at .ensures ∙ ap (λ (w : List ℕ). rowIn w q) (part-is table (a .page)) in
     let child : c .before .before .before .before .before .before .before .before .row-at .result .child ≡ rowIn (pageAt table (a .page)) q .child = ap (λ (r : Row). r .child) row in
     let is : DoneAs (enterFrom tree p (a .level - 1) (rowIn (pageAt table (a .page)) q .child)) (c .before .before .before .before .before .before .enter-from .last .0) (c .before .before .before .before .before .before .enter-from .result) =
-        rw child at (c .before .before .before .before .before .before .enter-from .ensures) in
+    rw child at (c .before .before .before .before .before .before .enter-from .ensures) in
     let step = above-step tree p small narrow (a .page) q at (a .level) (c .before .before .before .before .before .before .before .before .before .before .before .before .before .before .before .before .before .if1 .left) can (c .before .before .before .before .before .before .enter-from .result) (c .before .before .before .before .before .before .enter-from .last .0) is in
     let gain : c .before .before .before .before .before .before .before .before .before .before .before .before .before .before .survey-page .result .gain ≡ surveyOf (a .t) (a .k) (pageAt table (a .page)) .gain = ap (λ (s : Survey). s .gain) survey in
     rw (gain, step .1 .is) at (c .before .before .enter-above .ensures)

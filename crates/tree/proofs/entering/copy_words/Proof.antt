@@ -40,8 +40,7 @@ loop-less c = search needs
 
 loop-again : tie.Need-loop-again Inv-loop μ-loop
 loop-again c = let a = c .before .before .before .args in
-    let l = c .before .before .loop in
-    (
+    let l = c .before .before .loop in (
       search needs,
       simp length-set (search needs),
       ap (λ (w : List ℕ). set w (l .at) (getD (a .from .now) (l .at) 0)) (l .inv .2)

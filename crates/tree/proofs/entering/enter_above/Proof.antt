@@ -26,7 +26,7 @@ row-at-requires c κs = let a = c .before .before .before .before .args in
     let table = a .table .now in
     let whole : length (pageAt table (a .page)) ≡ pageWords = page-length table (a .page) (c .before .before .before .before .pre .1 .1 .1 .inside) in
     let count : word (c .before .load-page .result) 1 ≡ word (pageAt table (a .page)) 1 =
-        ap (λ (w : List ℕ). word w 1) (c .before .load-page .ensures) ∙ loaded-count table (a .page) whole in
+    ap (λ (w : List ℕ). word w 1) (c .before .load-page .ensures) ∙ loaded-count table (a .page) whole in
     let size : length (c .before .load-page .result) ≡ 272 = ap length (c .before .load-page .ensures) ∙ loaded-length table (a .page) whole in
     omega arith
 
@@ -38,7 +38,7 @@ gain-row-requires c κs = let a = c .before .before .before .before .before .bef
     let table = a .table .now in
     let whole : length (pageAt table (a .page)) ≡ pageWords = page-length table (a .page) (c .before .before .before .before .before .before .pre .1 .1 .1 .inside) in
     let count : word (c .before .before .before .load-page .result) 1 ≡ word (pageAt table (a .page)) 1 =
-        ap (λ (w : List ℕ). word w 1) (c .before .before .before .load-page .ensures) ∙ loaded-count table (a .page) whole in
+    ap (λ (w : List ℕ). word w 1) (c .before .before .before .load-page .ensures) ∙ loaded-count table (a .page) whole in
     let size : length (c .before .before .before .load-page .result) ≡ 272 = ap length (c .before .before .before .load-page .ensures) ∙ loaded-length table (a .page) whole in
     (rw count (c .before .before .before .before .before .before .pre .1 .0), omega arith)
 
@@ -50,7 +50,7 @@ link-row-requires c κs = let a = c .before .before .before .before .before .bef
     let table = a .table .now in
     let whole : length (pageAt table (a .page)) ≡ pageWords = page-length table (a .page) (c .before .before .before .before .before .before .before .before .before .pre .1 .1 .1 .inside) in
     let count : word (c .before .before .before .before .before .before .load-page .result) 1 ≡ word (pageAt table (a .page)) 1 =
-        ap (λ (w : List ℕ). word w 1) (c .before .before .before .before .before .before .load-page .ensures) ∙ loaded-count table (a .page) whole in
+    ap (λ (w : List ℕ). word w 1) (c .before .before .before .before .before .before .load-page .ensures) ∙ loaded-count table (a .page) whole in
     let size : length (c .before .before .before .before .before .before .load-page .result) ≡ 272 = ap length (c .before .before .before .before .before .before .load-page .ensures) ∙ loaded-length table (a .page) whole in
     let within : Within (word (c .before .before .before .before .before .before .load-page .result) 1) (a .gain) = rw count (c .before .before .before .before .before .before .before .before .before .pre .1 .0) in
     let grown = gain-grown (a .t) (a .value) (c .before .before .before .before .before .before .load-page .result) (a .gain) within (omega arith) in
@@ -63,10 +63,10 @@ settle-page-requires : tie.Need-settle-page-requires
 settle-page-requires c κs = let a = c .before .before .before .before .before .before .before .before .before .before .before .before .before .args in
     let table = a .table .now in
     let edited : c .before .before .before .link-row .last .0 ≡ linkEdited (a .t) (a .value) table (a .page) (a .gain) (a .place) (a .below .became) =
-        c .before .before .before .link-row .ensures
-        ∙ ap (λ (r : Row). linkWords (a .t) (c .before .before .before .before .before .before .gain-row .last .0) (a .place) r (a .below .became)) (c .before .before .before .before .before .before .before .before .row-at .ensures)
-        ∙ ap (λ (w : List ℕ). linkWords (a .t) w (a .place) (rowIn (c .before .before .before .before .before .before .before .before .before .before .load-page .result) (a .place)) (a .below .became)) (c .before .before .before .before .before .before .gain-row .ensures)
-        ∙ ap (λ (w : List ℕ). linkWords (a .t) (gainWords (a .t) (a .value) w (a .gain)) (a .place) (rowIn w (a .place)) (a .below .became)) (c .before .before .before .before .before .before .before .before .before .before .load-page .ensures) in
+    c .before .before .before .link-row .ensures
+    ∙ ap (λ (r : Row). linkWords (a .t) (c .before .before .before .before .before .before .gain-row .last .0) (a .place) r (a .below .became)) (c .before .before .before .before .before .before .before .before .row-at .ensures)
+    ∙ ap (λ (w : List ℕ). linkWords (a .t) w (a .place) (rowIn (c .before .before .before .before .before .before .before .before .before .before .load-page .result) (a .place)) (a .below .became)) (c .before .before .before .before .before .before .gain-row .ensures)
+    ∙ ap (λ (w : List ℕ). linkWords (a .t) (gainWords (a .t) (a .value) w (a .gain)) (a .place) (rowIn w (a .place)) (a .below .became)) (c .before .before .before .before .before .before .before .before .before .before .load-page .ensures) in
     rw edited (c .before .before .before .before .before .before .before .before .before .before .before .before .before .pre .1 .1 .1)
 
 same-length : tie.Need-same-length
@@ -76,10 +76,10 @@ returns : tie.Need-returns
 returns c = let a = c .before .before .before .before .before .before .before .before .before .before .before .before .before .before .before .before .args in
     let table = a .table .now in
     let edited : c .before .before .before .before .before .before .link-row .last .0 ≡ linkEdited (a .t) (a .value) table (a .page) (a .gain) (a .place) (a .below .became) =
-        c .before .before .before .before .before .before .link-row .ensures
-        ∙ ap (λ (r : Row). linkWords (a .t) (c .before .before .before .before .before .before .before .before .before .gain-row .last .0) (a .place) r (a .below .became)) (c .before .before .before .before .before .before .before .before .before .before .before .row-at .ensures)
-        ∙ ap (λ (w : List ℕ). linkWords (a .t) w (a .place) (rowIn (c .before .before .before .before .before .before .before .before .before .before .before .before .before .load-page .result) (a .place)) (a .below .became)) (c .before .before .before .before .before .before .before .before .before .gain-row .ensures)
-        ∙ ap (λ (w : List ℕ). linkWords (a .t) (gainWords (a .t) (a .value) w (a .gain)) (a .place) (rowIn w (a .place)) (a .below .became)) (c .before .before .before .before .before .before .before .before .before .before .before .before .before .load-page .ensures) in
+    c .before .before .before .before .before .before .link-row .ensures
+    ∙ ap (λ (r : Row). linkWords (a .t) (c .before .before .before .before .before .before .before .before .before .gain-row .last .0) (a .place) r (a .below .became)) (c .before .before .before .before .before .before .before .before .before .before .before .row-at .ensures)
+    ∙ ap (λ (w : List ℕ). linkWords (a .t) w (a .place) (rowIn (c .before .before .before .before .before .before .before .before .before .before .before .before .before .load-page .result) (a .place)) (a .below .became)) (c .before .before .before .before .before .before .before .before .before .gain-row .ensures)
+    ∙ ap (λ (w : List ℕ). linkWords (a .t) (gainWords (a .t) (a .value) w (a .gain)) (a .place) (rowIn w (a .place)) (a .below .became)) (c .before .before .before .before .before .before .before .before .before .before .before .before .before .load-page .ensures) in
     rw edited at (c .before .before .settle-page .ensures)
 
 pub enter-above-spec : {M : Type 1} → statement M

@@ -51,12 +51,13 @@ edit-leaf-requires c κs = let a = c .before .before .before .before .before .be
     let table = a .table .now in
     let whole : length (pageAt table (a .page)) ≡ pageWords = page-length table (a .page) (c .before .before .before .before .before .before .before .pre .1 .inside) in
     let count : word (c .before .load-page .result) 1 ≡ word (pageAt table (a .page)) 1 =
-        ap (λ (w : List ℕ). word w 1) (c .before .load-page .ensures) ∙ loaded-count table (a .page) whole in
+    ap (λ (w : List ℕ). word w 1) (c .before .load-page .ensures) ∙ loaded-count table (a .page) whole in
     let size : length (c .before .load-page .result) ≡ 272 = ap length (c .before .load-page .ensures) ∙ loaded-length table (a .page) whole in
     let found : c .before .before .before .survey-page .result ≡ surveyOf (a .t) (a .k) (pageAt table (a .page)) =
-        c .before .before .before .survey-page .ensures ∙ ap (surveyOf (a .t) (a .k)) (part-is table (a .page)) in
-    (rw (count, found) (found-within (a .t) (pageAt table (a .page)) (isAround (a .k))),
-    (rw (count, found) (found-within (a .t) (pageAt table (a .page)) (startsFrom (a .k))), omega arith))
+    c .before .before .before .survey-page .ensures ∙ ap (surveyOf (a .t) (a .k)) (part-is table (a .page)) in (
+      rw (count, found) (found-within (a .t) (pageAt table (a .page)) (isAround (a .k))),
+      (rw (count, found) (found-within (a .t) (pageAt table (a .page)) (startsFrom (a .k))), omega arith),
+    )
 
 slice-aggregate-settle-page : tie.Need-slice-aggregate-settle-page
 slice-aggregate-settle-page c = search needs
@@ -65,11 +66,11 @@ settle-page-requires : tie.Need-settle-page-requires
 settle-page-requires c κs = let a = c .before .before .before .before .before .before .before .before .before .before .before .args in
     let table = a .table .now in
     let found : c .before .before .before .before .before .before .before .survey-page .result ≡ surveyOf (a .t) (a .k) (pageAt table (a .page)) =
-        c .before .before .before .before .before .before .before .survey-page .ensures ∙ ap (surveyOf (a .t) (a .k)) (part-is table (a .page)) in
+    c .before .before .before .before .before .before .before .survey-page .ensures ∙ ap (surveyOf (a .t) (a .k)) (part-is table (a .page)) in
     let edited : c .before .before .before .edit-leaf .last .0 ≡ leafEdited (a .t) (a .k) (a .value) table (a .page) =
-        c .before .before .before .edit-leaf .ensures
-        ∙ ap (λ (w : List ℕ). leafWords (a .t) (a .k) (a .value) w (c .before .before .before .before .before .before .before .survey-page .result .inner) (c .before .before .before .before .before .before .before .survey-page .result .gain)) (c .before .before .before .before .before .load-page .ensures)
-        ∙ ap (λ (s : Survey). leafWords (a .t) (a .k) (a .value) (loaded table (a .page)) (s .inner) (s .gain)) found in
+    c .before .before .before .edit-leaf .ensures
+    ∙ ap (λ (w : List ℕ). leafWords (a .t) (a .k) (a .value) w (c .before .before .before .before .before .before .before .survey-page .result .inner) (c .before .before .before .before .before .before .before .survey-page .result .gain)) (c .before .before .before .before .before .load-page .ensures)
+    ∙ ap (λ (s : Survey). leafWords (a .t) (a .k) (a .value) (loaded table (a .page)) (s .inner) (s .gain)) found in
     rw edited (c .before .before .before .before .before .before .before .before .before .before .before .pre .1)
 
 same-length : tie.Need-same-length
@@ -79,11 +80,11 @@ returns : tie.Need-returns
 returns c = let a = c .before .before .before .before .before .before .before .before .before .before .before .before .before .before .args in
     let table = a .table .now in
     let found : c .before .before .before .before .before .before .before .before .before .before .survey-page .result ≡ surveyOf (a .t) (a .k) (pageAt table (a .page)) =
-        c .before .before .before .before .before .before .before .before .before .before .survey-page .ensures ∙ ap (surveyOf (a .t) (a .k)) (part-is table (a .page)) in
+    c .before .before .before .before .before .before .before .before .before .before .survey-page .ensures ∙ ap (surveyOf (a .t) (a .k)) (part-is table (a .page)) in
     let edited : c .before .before .before .before .before .before .edit-leaf .last .0 ≡ leafEdited (a .t) (a .k) (a .value) table (a .page) =
-        c .before .before .before .before .before .before .edit-leaf .ensures
-        ∙ ap (λ (w : List ℕ). leafWords (a .t) (a .k) (a .value) w (c .before .before .before .before .before .before .before .before .before .before .survey-page .result .inner) (c .before .before .before .before .before .before .before .before .before .before .survey-page .result .gain)) (c .before .before .before .before .before .before .before .before .load-page .ensures)
-        ∙ ap (λ (s : Survey). leafWords (a .t) (a .k) (a .value) (loaded table (a .page)) (s .inner) (s .gain)) found in
+    c .before .before .before .before .before .before .edit-leaf .ensures
+    ∙ ap (λ (w : List ℕ). leafWords (a .t) (a .k) (a .value) w (c .before .before .before .before .before .before .before .before .before .before .survey-page .result .inner) (c .before .before .before .before .before .before .before .before .before .before .survey-page .result .gain)) (c .before .before .before .before .before .before .before .before .load-page .ensures)
+    ∙ ap (λ (s : Survey). leafWords (a .t) (a .k) (a .value) (loaded table (a .page)) (s .inner) (s .gain)) found in
     rw edited at (c .before .before .settle-page .ensures)
 
 pub enter-leaf-spec : {M : Type 1} → statement M

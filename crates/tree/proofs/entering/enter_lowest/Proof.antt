@@ -24,7 +24,7 @@ gain-row-requires c κs = let a = c .before .before .before .before .args in
     let table = a .table .now in
     let whole : length (pageAt table (a .page)) ≡ pageWords = page-length table (a .page) (c .before .before .before .before .pre .1 .1 .inside) in
     let count : word (c .before .load-page .result) 1 ≡ word (pageAt table (a .page)) 1 =
-        ap (λ (w : List ℕ). word w 1) (c .before .load-page .ensures) ∙ loaded-count table (a .page) whole in
+    ap (λ (w : List ℕ). word w 1) (c .before .load-page .ensures) ∙ loaded-count table (a .page) whole in
     let size : length (c .before .load-page .result) ≡ 272 = ap length (c .before .load-page .ensures) ∙ loaded-length table (a .page) whole in
     (rw count (c .before .before .before .before .pre .1 .0), omega arith)
 
@@ -35,7 +35,7 @@ settle-page-requires : tie.Need-settle-page-requires
 settle-page-requires c κs = let a = c .before .before .before .before .before .before .before .before .args in
     let table = a .table .now in
     let edited : c .before .before .before .gain-row .last .0 ≡ gainEdited (a .t) (a .value) table (a .page) (a .gain) =
-        c .before .before .before .gain-row .ensures ∙ ap (λ (w : List ℕ). gainWords (a .t) (a .value) w (a .gain)) (c .before .before .before .before .before .load-page .ensures) in
+    c .before .before .before .gain-row .ensures ∙ ap (λ (w : List ℕ). gainWords (a .t) (a .value) w (a .gain)) (c .before .before .before .before .before .load-page .ensures) in
     rw edited (c .before .before .before .before .before .before .before .before .pre .1 .1)
 
 same-length : tie.Need-same-length
@@ -45,7 +45,7 @@ returns : tie.Need-returns
 returns c = let a = c .before .before .before .before .before .before .before .before .before .before .before .args in
     let table = a .table .now in
     let edited : c .before .before .before .before .before .before .gain-row .last .0 ≡ gainEdited (a .t) (a .value) table (a .page) (a .gain) =
-        c .before .before .before .before .before .before .gain-row .ensures ∙ ap (λ (w : List ℕ). gainWords (a .t) (a .value) w (a .gain)) (c .before .before .before .before .before .before .before .before .load-page .ensures) in
+    c .before .before .before .before .before .before .gain-row .ensures ∙ ap (λ (w : List ℕ). gainWords (a .t) (a .value) w (a .gain)) (c .before .before .before .before .before .before .before .before .load-page .ensures) in
     rw edited at (c .before .before .settle-page .ensures)
 
 pub enter-lowest-spec : {M : Type 1} → statement M

@@ -1,15 +1,15 @@
-use Rattle.page.specs.Fresh.{encodePage, twoRowRoot}
-use Prim.Native.Nat.{ℕ}
-use Rattle.tree.proofs.EnterRootLaws.{level, root-same, level-same, root-in-use, in-table, low-level, no-missing, can-enter-at, done-at, few-pages, stays-way, copied-can, copied-way, halved-can, halved-room, halved-way}
-use mathlib.Core.Path.{_≡_, refl, ap, sym, _∙_}
+use mathlib.Core.Path.{_≡_, refl, ap, ap₂, sym, _∙_}
 use Prim.Native.Nat.{_<_, _+_}
 use native.Mathlib.Omega.{arith}
 use Rattle.page.specs.declared.fresh.Page.{Page}
+use Rattle.page.specs.Fresh.{encodePage, twoRowRoot}
+use Prim.Native.Nat.{ℕ}
 use Rattle.tree.specs.declared.types.Root.the-variants.{At, Missing}
 use Rattle.tree.specs.Tree.{Tree, rootAt, putPage}
 use Rattle.tree.specs.RowSteps.{Point}
 use Rattle.tree.specs.EnterWords.{pointAt}
 use Rattle.tree.specs.EnterRoot.{Planned}
+use Rattle.tree.proofs.EnterRootLaws.{level, root-same, level-same, root-in-use, in-table, low-level, no-missing, can-enter-at, done-at, few-pages, stays-way, copied-can, copied-way, halved-can, halved-room, halved-way}
 use borrow.Author.Needs.{needs}
 use Rattle.tree.proofs.growing.enter.Statement.{statement}
 use Rattle.tree.proofs.growing.enter.Tie as tie
@@ -133,8 +133,23 @@ put-root-requires c κs = let a = c .before .before .before .before .before .bef
 enum-known-became-2 : tie.Need-enum-known-became-2
 enum-known-became-2 c = search needs
 
-add-number : tie.Need-add-number
-add-number c = let a = c .before .before .before .before .before .before .before .before .before .before .before .before .before .before .before .before .before .before .args in
+taken-page-requires : tie.Need-taken-page-requires
+taken-page-requires c κs = let a = c .before .before .before .before .before .before .before .before .before .before .before .before .before .before .before .before .args in
+    let tree : Tree = record { table = a .table .now; roots = a .roots .now; used = a .used } in
+    let p : Point = pointAt (a .t) (a .k) (a .value) in
+    let pl : Planned tree p = c .before .before .before .before .before .before .before .before .before .before .before .before .before .before .before .before .pre in
+    let small : p .tick < 4294967296 = omega (arith, c .before .before .before .before .before .before .before .before .before .before .before .before .before .before .before .before .fits .t .fits) in
+    let narrow : p .key < 65536 = omega (arith, c .before .before .before .before .before .before .before .before .before .before .before .before .before .before .before .before .fits .k .fits) in
+    let q = c .before .before .before .before .before .before .before .before .before .found .given .0 .0 in
+    let root : rootAt tree (p .tick) ≡ At q = sym (c .before .before .before .before .before .before .before .before .before .before .before .find-root .ensures) ∙ c .before .before .before .before .before .before .before .before .before .found .given .1 in
+    let same = root-same tree p pl q root in
+    let used = root-in-use tree p pl in
+    let is = done-at tree p pl q root (c .before .before .before .before .before .enter-from .result) (c .before .before .before .before .before .enter-from .last .0) (c .before .before .before .before .before .enter-from .ensures) in
+    let few = few-pages tree p pl small narrow (c .before .before .before .before .before .enter-from .result) (c .before .before .before .before .before .enter-from .last .0) is in
+    (pl .used-few, omega (arith, few .0))
+
+add-two-row-root : tie.Need-add-two-row-root
+add-two-row-root c = let a = c .before .before .before .before .before .before .before .before .before .before .before .before .before .before .before .before .before .before .args in
     let tree : Tree = record { table = a .table .now; roots = a .roots .now; used = a .used } in
     let p : Point = pointAt (a .t) (a .k) (a .value) in
     let pl : Planned tree p = c .before .before .before .before .before .before .before .before .before .before .before .before .before .before .before .before .before .before .pre in
@@ -144,12 +159,13 @@ add-number c = let a = c .before .before .before .before .before .before .before
     let root : rootAt tree (p .tick) ≡ At q = sym (c .before .before .before .before .before .before .before .before .before .before .before .before .before .find-root .ensures) ∙ c .before .before .before .before .before .before .before .before .before .before .before .found .given .1 in
     let same = root-same tree p pl q root in
     let used = root-in-use tree p pl in
-    let is = done-at tree p pl q root (c .before .before .before .before .before .before .before .enter-from .result) (c .before .before .before .before .before .before .before .enter-from .last .0) (c .before .before .before .before .before .before .before .enter-from .ensures) in
-    let few = few-pages tree p pl small narrow (c .before .before .before .before .before .before .before .enter-from .result) (c .before .before .before .before .before .before .before .enter-from .last .0) is in
-    omega (arith, few .0, pl .used-few)
+    omega (arith, level-same tree p pl q same, low-level tree p pl)
 
-add-two-row-root : tie.Need-add-two-row-root
-add-two-row-root c = let a = c .before .before .before .before .before .before .before .before .before .before .before .before .before .before .before .before .before .before .before .args in
+two-row-root-requires : tie.Need-two-row-root-requires
+two-row-root-requires c κs = search needs
+
+put-page-requires : tie.Need-put-page-requires
+put-page-requires c κs = let a = c .before .before .before .before .before .before .before .before .before .before .before .before .before .before .before .before .before .before .before .args in
     let tree : Tree = record { table = a .table .now; roots = a .roots .now; used = a .used } in
     let p : Point = pointAt (a .t) (a .k) (a .value) in
     let pl : Planned tree p = c .before .before .before .before .before .before .before .before .before .before .before .before .before .before .before .before .before .before .before .pre in
@@ -159,56 +175,40 @@ add-two-row-root c = let a = c .before .before .before .before .before .before .
     let root : rootAt tree (p .tick) ≡ At q = sym (c .before .before .before .before .before .before .before .before .before .before .before .before .before .before .find-root .ensures) ∙ c .before .before .before .before .before .before .before .before .before .before .before .before .found .given .1 in
     let same = root-same tree p pl q root in
     let used = root-in-use tree p pl in
-    omega (arith, level-same tree p pl q same, low-level tree p pl)
-
-two-row-root-requires : tie.Need-two-row-root-requires
-two-row-root-requires c κs = search needs
-
-put-page-requires : tie.Need-put-page-requires
-put-page-requires c κs = let a = c .before .before .before .before .before .before .before .before .before .before .before .before .before .before .before .before .before .before .before .before .args in
-    let tree : Tree = record { table = a .table .now; roots = a .roots .now; used = a .used } in
-    let p : Point = pointAt (a .t) (a .k) (a .value) in
-    let pl : Planned tree p = c .before .before .before .before .before .before .before .before .before .before .before .before .before .before .before .before .before .before .before .before .pre in
-    let small : p .tick < 4294967296 = omega (arith, c .before .before .before .before .before .before .before .before .before .before .before .before .before .before .before .before .before .before .before .before .fits .t .fits) in
-    let narrow : p .key < 65536 = omega (arith, c .before .before .before .before .before .before .before .before .before .before .before .before .before .before .before .before .before .before .before .before .fits .k .fits) in
-    let q = c .before .before .before .before .before .before .before .before .before .before .before .before .before .found .given .0 .0 in
-    let root : rootAt tree (p .tick) ≡ At q = sym (c .before .before .before .before .before .before .before .before .before .before .before .before .before .before .before .find-root .ensures) ∙ c .before .before .before .before .before .before .before .before .before .before .before .before .before .found .given .1 in
-    let same = root-same tree p pl q root in
-    let used = root-in-use tree p pl in
-    let is = done-at tree p pl q root (c .before .before .before .before .before .before .before .before .before .enter-from .result) (c .before .before .before .before .before .before .before .before .before .enter-from .last .0) (c .before .before .before .before .before .before .before .before .before .enter-from .ensures) in
-    let few = few-pages tree p pl small narrow (c .before .before .before .before .before .before .before .before .before .enter-from .result) (c .before .before .before .before .before .before .before .before .before .enter-from .last .0) is in
-    let room = halved-room tree p pl (c .before .before .before .before .before .before .before .before .before .enter-from .result) (c .before .before .before .before .before .before .before .before .before .enter-from .last .0) is (c .before .before .before .before .before .became2 .given .0 .0) (c .before .before .before .before .before .became2 .given .0 .1 .0) (c .before .before .before .before .before .became2 .given .1) in
-    (omega (arith, room, few .1), rw (c .two-row-root .ensures) (omega arith))
+    let is = done-at tree p pl q root (c .before .before .before .before .before .before .before .before .enter-from .result) (c .before .before .before .before .before .before .before .before .enter-from .last .0) (c .before .before .before .before .before .before .before .before .enter-from .ensures) in
+    let few = few-pages tree p pl small narrow (c .before .before .before .before .before .before .before .before .enter-from .result) (c .before .before .before .before .before .before .before .before .enter-from .last .0) is in
+    let room = halved-room tree p pl (c .before .before .before .before .before .before .before .before .enter-from .result) (c .before .before .before .before .before .before .before .before .enter-from .last .0) is (c .before .before .before .before .became2 .given .0 .0) (c .before .before .before .before .became2 .given .0 .1 .0) (c .before .before .before .before .became2 .given .1) in
+    (omega (arith, room, few .1, c .before .before .taken-page .ensures), rw (c .two-row-root .ensures) (omega arith))
 
 add-put-root : tie.Need-add-put-root
-add-put-root c = let a = c .before .before .before .before .before .before .before .before .before .before .before .before .before .before .before .before .before .before .before .before .before .before .before .before .before .args in
+add-put-root c = let a = c .before .before .before .before .before .before .before .before .before .before .before .before .before .before .before .before .before .before .before .before .before .before .before .before .args in
     let tree : Tree = record { table = a .table .now; roots = a .roots .now; used = a .used } in
     let p : Point = pointAt (a .t) (a .k) (a .value) in
-    let pl : Planned tree p = c .before .before .before .before .before .before .before .before .before .before .before .before .before .before .before .before .before .before .before .before .before .before .before .before .before .pre in
-    let small : p .tick < 4294967296 = omega (arith, c .before .before .before .before .before .before .before .before .before .before .before .before .before .before .before .before .before .before .before .before .before .before .before .before .before .fits .t .fits) in
-    let narrow : p .key < 65536 = omega (arith, c .before .before .before .before .before .before .before .before .before .before .before .before .before .before .before .before .before .before .before .before .before .before .before .before .before .fits .k .fits) in
-    let q = c .before .before .before .before .before .before .before .before .before .before .before .before .before .before .before .before .before .before .found .given .0 .0 in
-    let root : rootAt tree (p .tick) ≡ At q = sym (c .before .before .before .before .before .before .before .before .before .before .before .before .before .before .before .before .before .before .before .before .find-root .ensures) ∙ c .before .before .before .before .before .before .before .before .before .before .before .before .before .before .before .before .before .before .found .given .1 in
+    let pl : Planned tree p = c .before .before .before .before .before .before .before .before .before .before .before .before .before .before .before .before .before .before .before .before .before .before .before .before .pre in
+    let small : p .tick < 4294967296 = omega (arith, c .before .before .before .before .before .before .before .before .before .before .before .before .before .before .before .before .before .before .before .before .before .before .before .before .fits .t .fits) in
+    let narrow : p .key < 65536 = omega (arith, c .before .before .before .before .before .before .before .before .before .before .before .before .before .before .before .before .before .before .before .before .before .before .before .before .fits .k .fits) in
+    let q = c .before .before .before .before .before .before .before .before .before .before .before .before .before .before .before .before .before .found .given .0 .0 in
+    let root : rootAt tree (p .tick) ≡ At q = sym (c .before .before .before .before .before .before .before .before .before .before .before .before .before .before .before .before .before .before .before .find-root .ensures) ∙ c .before .before .before .before .before .before .before .before .before .before .before .before .before .before .before .before .before .found .given .1 in
     let same = root-same tree p pl q root in
     let used = root-in-use tree p pl in
-    let is = done-at tree p pl q root (c .before .before .before .before .before .before .before .before .before .before .before .before .before .before .enter-from .result) (c .before .before .before .before .before .before .before .before .before .before .before .before .before .before .enter-from .last .0) (c .before .before .before .before .before .before .before .before .before .before .before .before .before .before .enter-from .ensures) in
-    let few = few-pages tree p pl small narrow (c .before .before .before .before .before .before .before .before .before .before .before .before .before .before .enter-from .result) (c .before .before .before .before .before .before .before .before .before .before .before .before .before .before .enter-from .last .0) is in
+    let is = done-at tree p pl q root (c .before .before .before .before .before .before .before .before .before .before .before .before .before .enter-from .result) (c .before .before .before .before .before .before .before .before .before .before .before .before .before .enter-from .last .0) (c .before .before .before .before .before .before .before .before .before .before .before .before .before .enter-from .ensures) in
+    let few = few-pages tree p pl small narrow (c .before .before .before .before .before .before .before .before .before .before .before .before .before .enter-from .result) (c .before .before .before .before .before .before .before .before .before .before .before .before .before .enter-from .last .0) is in
     omega (arith, few .0)
 
 put-root-requires-2 : tie.Need-put-root-requires-2
-put-root-requires-2 c κs = let a = c .before .before .before .before .before .before .before .before .before .before .before .before .before .before .before .before .before .before .before .before .before .before .before .before .before .args in
+put-root-requires-2 c κs = let a = c .before .before .before .before .before .before .before .before .before .before .before .before .before .before .before .before .before .before .before .before .before .before .before .before .args in
     let tree : Tree = record { table = a .table .now; roots = a .roots .now; used = a .used } in
     let p : Point = pointAt (a .t) (a .k) (a .value) in
-    let pl : Planned tree p = c .before .before .before .before .before .before .before .before .before .before .before .before .before .before .before .before .before .before .before .before .before .before .before .before .before .pre in
-    let small : p .tick < 4294967296 = omega (arith, c .before .before .before .before .before .before .before .before .before .before .before .before .before .before .before .before .before .before .before .before .before .before .before .before .before .fits .t .fits) in
-    let narrow : p .key < 65536 = omega (arith, c .before .before .before .before .before .before .before .before .before .before .before .before .before .before .before .before .before .before .before .before .before .before .before .before .before .fits .k .fits) in
-    let q = c .before .before .before .before .before .before .before .before .before .before .before .before .before .before .before .before .before .before .found .given .0 .0 in
-    let root : rootAt tree (p .tick) ≡ At q = sym (c .before .before .before .before .before .before .before .before .before .before .before .before .before .before .before .before .before .before .before .before .find-root .ensures) ∙ c .before .before .before .before .before .before .before .before .before .before .before .before .before .before .before .before .before .before .found .given .1 in
+    let pl : Planned tree p = c .before .before .before .before .before .before .before .before .before .before .before .before .before .before .before .before .before .before .before .before .before .before .before .before .pre in
+    let small : p .tick < 4294967296 = omega (arith, c .before .before .before .before .before .before .before .before .before .before .before .before .before .before .before .before .before .before .before .before .before .before .before .before .fits .t .fits) in
+    let narrow : p .key < 65536 = omega (arith, c .before .before .before .before .before .before .before .before .before .before .before .before .before .before .before .before .before .before .before .before .before .before .before .before .fits .k .fits) in
+    let q = c .before .before .before .before .before .before .before .before .before .before .before .before .before .before .before .before .before .found .given .0 .0 in
+    let root : rootAt tree (p .tick) ≡ At q = sym (c .before .before .before .before .before .before .before .before .before .before .before .before .before .before .before .before .before .before .before .find-root .ensures) ∙ c .before .before .before .before .before .before .before .before .before .before .before .before .before .before .before .before .before .found .given .1 in
     let same = root-same tree p pl q root in
     let used = root-in-use tree p pl in
-    let is = done-at tree p pl q root (c .before .before .before .before .before .before .before .before .before .before .before .before .before .before .enter-from .result) (c .before .before .before .before .before .before .before .before .before .before .before .before .before .before .enter-from .last .0) (c .before .before .before .before .before .before .before .before .before .before .before .before .before .before .enter-from .ensures) in
-    let few = few-pages tree p pl small narrow (c .before .before .before .before .before .before .before .before .before .before .before .before .before .before .enter-from .result) (c .before .before .before .before .before .before .before .before .before .before .before .before .before .before .enter-from .last .0) is in
-    halved-can tree p pl (c .before .before .before .before .before .before .before .before .before .before .before .before .before .before .enter-from .result) (c .before .before .before .before .before .before .before .before .before .before .before .before .before .before .enter-from .last .0) is (few .0) (c .before .before .before .before .before .before .before .before .before .before .became2 .given .0 .0) (c .before .before .before .before .before .before .before .before .before .before .became2 .given .0 .1 .0) (c .before .before .before .before .before .before .before .before .before .before .became2 .given .1)
+    let is = done-at tree p pl q root (c .before .before .before .before .before .before .before .before .before .before .before .before .before .enter-from .result) (c .before .before .before .before .before .before .before .before .before .before .before .before .before .enter-from .last .0) (c .before .before .before .before .before .before .before .before .before .before .before .before .before .enter-from .ensures) in
+    let few = few-pages tree p pl small narrow (c .before .before .before .before .before .before .before .before .before .before .before .before .before .enter-from .result) (c .before .before .before .before .before .before .before .before .before .before .before .before .before .enter-from .last .0) is in
+    halved-can tree p pl (c .before .before .before .before .before .before .before .before .before .before .before .before .before .enter-from .result) (c .before .before .before .before .before .before .before .before .before .before .before .before .before .enter-from .last .0) is (few .0) (c .before .before .before .before .before .before .before .before .before .became2 .given .0 .0) (c .before .before .before .before .before .before .before .before .before .became2 .given .0 .1 .0) (c .before .before .before .before .before .before .before .before .before .became2 .given .1)
 
 same-length-2 : tie.Need-same-length-2
 same-length-2 c = search needs
@@ -259,26 +259,26 @@ same-length-7 : tie.Need-same-length-7
 same-length-7 c = search needs
 
 returns-4 : tie.Need-returns-4
-returns-4 c = let a = c .before .before .before .before .before .before .before .before .before .before .before .before .before .before .before .before .before .before .before .before .before .before .before .before .before .before .before .before .args in
+returns-4 c = let a = c .before .before .before .before .before .before .before .before .before .before .before .before .before .before .before .before .before .before .before .before .before .before .before .before .before .before .before .args in
     let tree : Tree = record { table = a .table .now; roots = a .roots .now; used = a .used } in
     let p : Point = pointAt (a .t) (a .k) (a .value) in
-    let pl : Planned tree p = c .before .before .before .before .before .before .before .before .before .before .before .before .before .before .before .before .before .before .before .before .before .before .before .before .before .before .before .before .pre in
-    let small : p .tick < 4294967296 = omega (arith, c .before .before .before .before .before .before .before .before .before .before .before .before .before .before .before .before .before .before .before .before .before .before .before .before .before .before .before .before .fits .t .fits) in
-    let narrow : p .key < 65536 = omega (arith, c .before .before .before .before .before .before .before .before .before .before .before .before .before .before .before .before .before .before .before .before .before .before .before .before .before .before .before .before .fits .k .fits) in
-    let q = c .before .before .before .before .before .before .before .before .before .before .before .before .before .before .before .before .before .before .before .before .before .found .given .0 .0 in
-    let root : rootAt tree (p .tick) ≡ At q = sym (c .before .before .before .before .before .before .before .before .before .before .before .before .before .before .before .before .before .before .before .before .before .before .before .find-root .ensures) ∙ c .before .before .before .before .before .before .before .before .before .before .before .before .before .before .before .before .before .before .before .before .before .found .given .1 in
+    let pl : Planned tree p = c .before .before .before .before .before .before .before .before .before .before .before .before .before .before .before .before .before .before .before .before .before .before .before .before .before .before .before .pre in
+    let small : p .tick < 4294967296 = omega (arith, c .before .before .before .before .before .before .before .before .before .before .before .before .before .before .before .before .before .before .before .before .before .before .before .before .before .before .before .fits .t .fits) in
+    let narrow : p .key < 65536 = omega (arith, c .before .before .before .before .before .before .before .before .before .before .before .before .before .before .before .before .before .before .before .before .before .before .before .before .before .before .before .fits .k .fits) in
+    let q = c .before .before .before .before .before .before .before .before .before .before .before .before .before .before .before .before .before .before .before .before .found .given .0 .0 in
+    let root : rootAt tree (p .tick) ≡ At q = sym (c .before .before .before .before .before .before .before .before .before .before .before .before .before .before .before .before .before .before .before .before .before .before .find-root .ensures) ∙ c .before .before .before .before .before .before .before .before .before .before .before .before .before .before .before .before .before .before .before .before .found .given .1 in
     let same = root-same tree p pl q root in
     let used = root-in-use tree p pl in
-    let is = done-at tree p pl q root (c .before .before .before .before .before .before .before .before .before .before .before .before .before .before .before .before .before .enter-from .result) (c .before .before .before .before .before .before .before .before .before .before .before .before .before .before .before .before .before .enter-from .last .0) (c .before .before .before .before .before .before .before .before .before .before .before .before .before .before .before .before .before .enter-from .ensures) in
-    let few = few-pages tree p pl small narrow (c .before .before .before .before .before .before .before .before .before .before .before .before .before .before .before .before .before .enter-from .result) (c .before .before .before .before .before .before .before .before .before .before .before .before .before .before .before .before .before .enter-from .last .0) is in
+    let is = done-at tree p pl q root (c .before .before .before .before .before .before .before .before .before .before .before .before .before .before .before .before .enter-from .result) (c .before .before .before .before .before .before .before .before .before .before .before .before .before .before .before .before .enter-from .last .0) (c .before .before .before .before .before .before .before .before .before .before .before .before .before .before .before .before .enter-from .ensures) in
+    let few = few-pages tree p pl small narrow (c .before .before .before .before .before .before .before .before .before .before .before .before .before .before .before .before .enter-from .result) (c .before .before .before .before .before .before .before .before .before .before .before .before .before .before .before .before .enter-from .last .0) is in
     let top = level-same tree p pl q same in
-    let lower = c .before .before .before .before .before .before .before .before .before .before .before .before .before .became2 .given .0 .0 in
-    let upper = c .before .before .before .before .before .before .before .before .before .before .before .before .before .became2 .given .0 .1 .0 in
+    let lower = c .before .before .before .before .before .before .before .before .before .before .before .before .became2 .given .0 .0 in
+    let upper = c .before .before .before .before .before .before .before .before .before .before .before .before .became2 .given .0 .1 .0 in
     let new : c .before .before .before .before .before .before .before .before .two-row-root .result ≡ twoRowRoot (level tree p pl + 1) (a .t) (lower .high) (lower .page) (upper .page) =
-        c .before .before .before .before .before .before .before .before .two-row-root .ensures ∙ ap (λ (n : ℕ). twoRowRoot (n + 1) (a .t) (lower .high) (lower .page) (upper .page)) (sym top) in
-    halved-way tree p pl (c .before .before .before .before .before .before .before .before .before .before .before .before .before .before .before .before .before .enter-from .result) (c .before .before .before .before .before .before .before .before .before .before .before .before .before .before .before .before .before .enter-from .last .0) is lower upper (c .before .before .before .before .before .before .before .before .before .before .before .before .before .became2 .given .1) _ _ _
-    (c .before .before .before .before .before .before .before .put-page .ensures ∙ ap (λ (x : Page). putPage (c .before .before .before .before .before .before .before .before .before .before .before .before .before .before .before .before .before .enter-from .last .0) (a .used .pages + c .before .before .before .before .before .before .before .before .before .before .before .before .before .before .before .before .before .enter-from .result .made) (encodePage x)) new)
-    (c .before .before .put-root2 .ensures)
+    c .before .before .before .before .before .before .before .before .two-row-root .ensures ∙ ap (λ (n : ℕ). twoRowRoot (n + 1) (a .t) (lower .high) (lower .page) (upper .page)) (sym top) in
+    halved-way tree p pl (c .before .before .before .before .before .before .before .before .before .before .before .before .before .before .before .before .enter-from .result) (c .before .before .before .before .before .before .before .before .before .before .before .before .before .before .before .before .enter-from .last .0) is lower upper (c .before .before .before .before .before .before .before .before .before .before .before .before .became2 .given .1) _ _ _
+    (c .before .before .before .before .before .before .before .put-page .ensures ∙ ap₂ (λ (n : ℕ) (x : Page). putPage (c .before .before .before .before .before .before .before .before .before .before .before .before .before .before .before .before .enter-from .last .0) n (encodePage x)) (c .before .before .before .before .before .before .before .before .before .before .taken-page .ensures) new)
+    (rw (c .before .before .before .before .before .before .before .before .before .before .taken-page .ensures) at (c .before .before .put-root2 .ensures))
 
 pub enter-spec : {M : Type 1} → statement M
 enter-spec =
@@ -300,7 +300,7 @@ enter-spec =
     enum-known-became
     put-root-requires
     enum-known-became-2
-    add-number
+    taken-page-requires
     add-two-row-root
     two-row-root-requires
     put-page-requires
