@@ -1,0 +1,2 @@
+-- What the tests of the program say.
+pub mod Room
