@@ -11,7 +11,7 @@ wrapping-add-u64-requires-2 c κs = search needs
 
 returns : tie.Need-returns
 unfolding plus
-returns c = cc
+returns c = λ i. record { count = c .before .wrapping-add-u64 .ensures i; sum = c .wrapping-add-u642 .ensures i }
 
 pub plus-spec : {M : Type 1} → statement M
 plus-spec = tie.close (tie.spec wrapping-add-u64-requires wrapping-add-u64-requires-2 returns)
