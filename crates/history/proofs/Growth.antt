@@ -30,7 +30,7 @@ use Rattle.history.proofs.ModelPages.{Page, onlyIf}
 use Rattle.history.proofs.ModelSteps.{State, Outcome, Parts, two, putAt, newPage, topRows, grown, entering, opened}
 use Rattle.history.proofs.ModelPromise.{Full}
 use Rattle.history.proofs.GrownStates.{Paid, Invariant, low, holds-used, full-more, entering-keeps, opened-keeps}
-use Rattle.history.proofs.TableLaws.{put-same, put-length}
+use Rattle.tree.proofs.TableLaws.{put-same, put-length}
 use Rattle.history.proofs.PageCodec.{fresh-length, fresh-rows}
 use Rattle.history.proofs.View.{viewTable, view-put, view-fresh}
 use Rattle.history.proofs.RowViews.{partsOf}

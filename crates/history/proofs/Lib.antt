@@ -21,7 +21,6 @@ pub mod EnteredPages
 pub mod LeafRows
 pub mod GrownStates
 -- Our words as the model's pages, and our steps as its steps
-pub mod TableLaws
 pub mod PageCodec
 pub mod View
 pub mod ReplaceViews

@@ -28,7 +28,7 @@ use Rattle.history.proofs.ModelSteps as modelSteps
 use Rattle.history.proofs.ModelPages.{Entry, Page, orderedEntries, bornAll}
 use Rattle.history.proofs.ModelSteps.{Outcome, stay, copy, two, putAt, totalAmount, plusFirst, lowestOf, newPage, moved, finish}
 use Rattle.history.proofs.ReplacedRows.{tests, split, length-born}
-use Rattle.history.proofs.TableLaws.{page-length, put-length}
+use Rattle.tree.proofs.TableLaws.{page-length, put-length}
 use Rattle.history.proofs.PageCodec.{Fits, with-length, fresh-length}
 use Rattle.history.proofs.View.{entryOf, viewRow, viewRows, viewPage, viewTable, map-take, map-drop, order-view, view-with}
 use Rattle.history.proofs.View.{view-fresh, view-put, lowest-view, total-view}

@@ -34,7 +34,7 @@ use Rattle.history.proofs.ReplacedRows.{split}
 use Rattle.history.proofs.HeldTrees.{chain-le}
 use Rattle.history.proofs.SlotCuts.{Cut, cut, cutAt}
 use Rattle.history.proofs.SlotLaws.{all-split}
-use Rattle.history.proofs.TableLaws.{page-length, put-same, put-other, put-length}
+use Rattle.tree.proofs.TableLaws.{page-length, put-same, put-other, put-length}
 use Rattle.history.proofs.PageCodec.{Fits, rows-fit, with-length, with-level, with-range, with-rows, fresh-length}
 use Rattle.history.proofs.View.{viewTable}
 use Rattle.history.proofs.RowViews.{FoundRow, around-some, around-none}

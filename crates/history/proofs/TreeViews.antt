@@ -27,7 +27,7 @@ use Rattle.history.proofs.ModelTrees.{Tree, Holds}
 use Rattle.history.proofs.ModelSteps.{State, Outcome, Parts, stay, copy, two, putAt, addRoot, topRows, newPage, grown, enter}
 use Rattle.history.proofs.ModelSteps.{entering}
 use Rattle.history.proofs.ModelPromise.{Full}
-use Rattle.history.proofs.TableLaws.{put-length}
+use Rattle.tree.proofs.TableLaws.{put-length}
 use Rattle.history.proofs.PageCodec.{fresh-length}
 use Rattle.history.proofs.View.{viewRow, viewPage, viewTable, view-fresh, view-put}
 use Rattle.history.proofs.RowViews.{partsOf, Covers}

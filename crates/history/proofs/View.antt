@@ -24,7 +24,7 @@ use Rattle.tree.specs.Overflow.{totalOf, lowestKey}
 use Rattle.history.proofs.ModelPages as model
 use Rattle.history.proofs.ModelPages.{Entry, Page, onlyIf, sumLive, liveEntries, lowKeyOf, orderedEntries, bornAll}
 use Rattle.history.proofs.ModelSteps.{putAt, totalAmount, lowestOf}
-use Rattle.history.proofs.TableLaws.{put-same, put-other}
+use Rattle.tree.proofs.TableLaws.{put-same, put-other}
 use Rattle.history.proofs.PageCodec.{Fits, with-level, with-range, with-rows, fresh-level, fresh-range, fresh-rows}
 
 -- A list of rows, with a function of rows at each
