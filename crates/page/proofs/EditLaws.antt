@@ -10,9 +10,9 @@ use Rattle.words.specs.Words.{rowKeys, lowKey, highKey, childPage, lifeWord, bi
 use Rattle.words.specs.Value.{encodeValue, valueAt, valueWords}
 use Rattle.words.specs.Overwrite.{overwrite}
 use Rattle.words.proofs.OverwriteLaws.{overwrite-sets, overwrite-more, overwrite-one}
-use Rattle.page.specs.declared.row.Row.{Row}
-use Rattle.page.specs.Row.{word, rowAt, rowStart, rowWords}
-use Rattle.page.specs.Edit.{ended, putRow, endRow, putCount, appendRow}
+use Rattle.tree.specs.declared.types.Row.{Row}
+use Rattle.tree.specs.Row.{word, rowAt, rowStart, rowWords}
+use Rattle.tree.specs.Edit.{ended, putRow, endRow, putCount, appendRow}
 
 -- the two words of keys and life, then the value's
 pub put-words : (page : List ℕ) (place : ℕ) (r : Row) → rowStart place + rowWords ≤ length page →

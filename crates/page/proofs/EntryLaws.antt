@@ -5,11 +5,11 @@ use mathlib.Core.Path.{_≡_, refl, ap}
 use mathlib.Core.Bool.{Bool, true, false, cond}
 use mathlib.Core.List.{List, [], _∷_, map}
 use lib.Dec.{leb}
-use Rattle.page.specs.Row.{rowAt, rowStart, rowWords, rowsFrom, live}
-use Rattle.page.specs.KeyOrder.{Placed, placedLow, placedHigh, keepIf, livePlaced, insertBy, sortBy}
+use Rattle.tree.specs.Row.{rowAt, rowStart, rowWords, rowsFrom, live}
+use Rattle.tree.specs.KeyOrder.{Placed, placedLow, placedHigh, keepIf, livePlaced, insertBy, sortBy}
 use Rattle.page.specs.Entries.{orderSize, entryOf, entryLow, entryHigh, entryPlace, placedAt}
-use Rattle.page.proofs.Lists.{All}
-use Rattle.page.proofs.Sorted.{sort-all}
+use Rattle.tree.proofs.Lists.{All}
+use Rattle.tree.proofs.Sorted.{sort-all}
 
 -- A row of a page together with its place, which is below n
 pub record Seated (page : List ℕ) (n : ℕ) (x : Placed) : Type 0 where

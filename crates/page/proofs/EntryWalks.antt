@@ -10,14 +10,14 @@ use borrow.Author.Tests.{leb-true, leb-false, le-ltb, lt-ltb, le-leb, lt-leb}
 use Rattle.words.specs.declared.value.Value.{Value}
 use Rattle.words.specs.Value.{zero, plus, valueAt}
 use Rattle.words.proofs.ValueLaws.{Stored, plus-stored, plus-zero, zero-plus, plus-assoc}
-use Rattle.page.specs.Row.{rowStart}
-use Rattle.page.specs.KeyOrder.{Placed, placedLow}
-use Rattle.page.specs.PageTest.{eachKeyOnce, fitsNext, nextKey}
-use Rattle.page.specs.TrueValue.{Search, none, one, first, totalWhere, rowValue}
+use Rattle.tree.specs.Row.{rowStart}
+use Rattle.tree.specs.KeyOrder.{Placed, placedLow}
+use Rattle.tree.specs.PageTest.{eachKeyOnce, fitsNext, nextKey}
+use Rattle.tree.specs.TrueValue.{Search, none, one, first, totalWhere, rowValue}
 use Rattle.page.specs.Entries.{orderSize, entryOf, entryLow, entryHigh, entryPlace, entryCovers, entryHolds, entryAround, addUntil}
-use Rattle.page.proofs.Lists.{All, all-map}
-use Rattle.page.proofs.Sorted.{Sorted}
-use Rattle.page.proofs.OrderTotals.{placedValue}
+use Rattle.tree.proofs.Lists.{All, all-map}
+use Rattle.tree.proofs.Sorted.{Sorted}
+use Rattle.tree.proofs.OrderTotals.{placedValue}
 use Rattle.page.proofs.EntryLaws.{Seated, seated-low, seated-place}
 
 -- Where items and their images have the same key ranges, the walk over them is the same

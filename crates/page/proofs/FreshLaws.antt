@@ -9,11 +9,13 @@ use lib.Seq.{take-suc, length-take-le}
 use Rattle.words.specs.Words.{keyRange}
 use Rattle.words.specs.Overwrite.{overwrite}
 use Rattle.words.proofs.OverwriteLaws.{overwrite-none, overwrite-one, overwrite-sets, overwrite-more, overwrite-all, overwrite-length}
-use Rattle.page.specs.declared.row.Row.{Row}
+use Rattle.tree.specs.declared.types.Row.{Row}
 use Rattle.page.specs.declared.fresh.Page.{Page}
-use Rattle.page.specs.Row.{rowWords, rowLimit, rowStart, pageWords, encodeRow, encodeRows}
-use Rattle.page.specs.Edit.{putRow}
-use Rattle.page.specs.Fresh.{zeros, freshPage, pageRows, encodePage}
+use Rattle.tree.proofs.PageCodec.{encode-length}
+use Rattle.tree.specs.Row.{rowWords, rowLimit, rowStart, pageWords, encodeRow, encodeRows}
+use Rattle.tree.specs.Edit.{putRow}
+use Rattle.tree.specs.Fresh.{zeros, freshPage}
+use Rattle.page.specs.PageValue.{pageRows, encodePage}
 
 -- Words set to zero from a place on, one after the other
 module _ (words : List ℕ) (from : ℕ) where
@@ -49,11 +51,6 @@ pub encode-append : (xs ys : List Row) → encodeRows (xs ++ ys) ≡ encodeRows 
 unfolding encodeRows
 encode-append [] ys = refl
 encode-append (x ∷ xs) ys = ap (_++_ (encodeRow x)) (encode-append xs ys) ∙ sym (append-assoc (encodeRow x) (encodeRows xs) (encodeRows ys))
-
-pub encode-length : (xs : List Row) → length (encodeRows xs) ≡ rowWords * length xs
-unfolding encodeRows
-encode-length [] = refl
-encode-length (x ∷ xs) = length-append (encodeRow x) (encodeRows xs) ∙ omega (arith, encode-length xs)
 
 abbrev pub headerOf : Page → List ℕ
 headerOf p = p .level ∷ (p .count ∷ (keyRange (p .low) (p .high) ∷ (p .birth ∷ [])))

@@ -1,14 +1,4 @@
--- Laws and theorems about one page.
-pub mod Lists
-pub mod Sorted
-pub mod KeyOrderLaws
-pub mod Walk
-pub mod Places
-pub mod Tiling
-pub mod Holding
-pub mod OrderTotals
-pub mod TrueValueSums
-pub mod TrueValueUpTo
+-- Laws of one page's code: the key order in an array, what is read from it, edits, and pages written whole.
 pub mod Tests
 pub mod OrderLaws
 pub mod InsertLaws
@@ -18,5 +8,4 @@ pub mod EntryWalks
 pub mod PageReadings
 pub mod EditLaws
 pub mod FreshLaws
-pub mod PageCodec
 pub mod WithRows

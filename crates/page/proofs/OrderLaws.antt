@@ -11,10 +11,10 @@ use borrow.Author.Tests.{le-leb, lt-leb}
 use Rattle.words.specs.Lists.{All}
 use Rattle.words.specs.declared.value.Value.{Value}
 use Rattle.words.specs.Value.{plus, valueAt}
-use Rattle.page.specs.Row.{rowStart}
+use Rattle.tree.specs.Row.{rowStart}
 use Rattle.page.specs.Entries.{entryLow, entryPlace, addUntil}
-use Rattle.page.specs.PageTest.{fitsNext, nextKey, eachKeyOnce}
-use Rattle.page.specs.TrueValue.{none, one, first}
+use Rattle.tree.specs.PageTest.{fitsNext, nextKey, eachKeyOnce}
+use Rattle.tree.specs.TrueValue.{none, one, first}
 
 module _ (l : List ℕ) (at : ℕ) where
   pub drop-here : at < length l → drop at l ≡ getD l at 0 ∷ drop (at + 1) l

@@ -8,11 +8,10 @@ use mathlib.Core.List.{List, [], _∷_, _++_}
 use lib.ListN.{length, getD, set, length-set, length-append, List·getD-append}
 use lib.Seq.{ext-getD, getD-append-add, getD-set-same, getD-set-other}
 use Rattle.words.proofs.OverwriteLaws.{overwrite-length, word-inside, word-before, word-behind}
-use Rattle.page.specs.declared.row.Row.{Row}
-use Rattle.page.specs.Row.{word, rowAt, rowStart, rowWords, rowsOf, encodeRow, encodeRows, headerWords}
-use Rattle.page.specs.Edit.{withRows, putRow, appendRow}
-use Rattle.page.proofs.FreshLaws.{encode-length}
-use Rattle.page.proofs.PageCodec.{rows-length, row-at-place, put-length, put-before, with-length, with-level, with-count, with-range, with-birth, with-row-words, with-behind}
+use Rattle.tree.specs.declared.types.Row.{Row}
+use Rattle.tree.specs.Row.{word, rowAt, rowStart, rowWords, rowsOf, encodeRow, encodeRows, headerWords}
+use Rattle.tree.specs.Edit.{withRows, putRow, appendRow}
+use Rattle.tree.proofs.PageCodec.{encode-length, rows-length, row-at-place, put-length, put-before, with-length, with-level, with-count, with-range, with-birth, with-row-words, with-behind}
 
 -- A row read from words and written again is the same words
 pub words-again : (words : List ℕ) (at m : ℕ) → m < rowWords → getD (encodeRow (rowAt words at)) m 0 ≡ getD words (at + m) 0

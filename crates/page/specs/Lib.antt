@@ -1,9 +1,4 @@
--- One page: document 01, "Pages and rows".
-pub mod Row
-pub mod KeyOrder
-pub mod PageTest
-pub mod TrueValue
-pub mod Edit
-pub mod Fresh
+-- One page as the code has it: the key order in an array, what an entry has to know of a page, a page as a value.
 pub mod Entries
 pub mod Survey
+pub mod PageValue

@@ -7,9 +7,9 @@ use lib.Dec.{leb}
 use Rattle.page.specs.declared.order.Place.{Place}
 use Rattle.page.specs.declared.order.Place.the-variants.{At, Missing}
 use Rattle.page.specs.declared.survey.Survey.{Survey}
-use Rattle.page.specs.Row.{word, rowsOf, around}
-use Rattle.page.specs.KeyOrder.{Placed, keyOrder}
-use Rattle.page.specs.TrueValue.{Search, none, one, first}
+use Rattle.tree.specs.Row.{word, rowsOf, around}
+use Rattle.tree.specs.KeyOrder.{Placed, keyOrder}
+use Rattle.tree.specs.TrueValue.{Search, none, one, first}
 
 abbrev pub placeFound : Search Placed → Place
 placeFound none = Missing

@@ -1,10 +1,10 @@
 // Edits of the rows in a page's own words.
-use crate::row::Row;
+use tree::Row;
 ghost use mathlib.Core.Path.{_≡_};
 ghost use Prim.Native.Nat.{_+_, _≤_};
 ghost use lib.ListN.{length};
-ghost use Rattle.page.specs.Row.{rowStart, rowWords, word};
-ghost use Rattle.page.specs.Edit.{putRow, endRow, appendRow};
+ghost use Rattle.tree.specs.Row.{rowStart, rowWords, word};
+ghost use Rattle.tree.specs.Edit.{putRow, endRow, appendRow};
 
 // Writes a row over the one at a place.
 pub fn put_row(page: &mut [u64], place: usize, row: Row)

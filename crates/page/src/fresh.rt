@@ -1,13 +1,14 @@
 // A page as a value: what a call builds before it writes a page whole.
 use crate::edit::put_row;
-use crate::row::Row;
+use tree::Row;
 use words::Value;
 ghost use mathlib.Core.Path.{_≡_};
 ghost use Prim.Native.Nat.{_+_, _-_, _≤_, _<_};
 ghost use lib.ListN.{length};
 ghost use Rattle.words.specs.Overwrite.{overwrite};
-ghost use Rattle.page.specs.Row.{pageWords, rowLimit};
-ghost use Rattle.page.specs.Fresh.{zeros, newRow, emptyPage, withRow, twoRowRoot, encodePage};
+ghost use Rattle.tree.specs.Row.{pageWords, rowLimit};
+ghost use Rattle.tree.specs.Fresh.{zeros, newRow};
+ghost use Rattle.page.specs.PageValue.{emptyPage, withRow, twoRowRoot, encodePage};
 
 // A page: its header, and the rows in its first `count` places.
 pub struct Page {

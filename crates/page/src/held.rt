@@ -3,24 +3,19 @@ use crate::order::Place;
 use crate::order::entry_low;
 use crate::order::entry_place;
 use crate::order::find_holding;
-use crate::row::Row;
+use tree::Row;
 use crate::row::row_at;
 use crate::test::order_tested;
+use tree::Held;
 use words::Value;
 ghost use mathlib.Core.Path.{_≡_};
 ghost use Prim.Native.Nat.{_+_, _≤_};
 ghost use lib.ListN.{length, drop};
 ghost use Rattle.words.specs.Value.{valueAt};
 ghost use Rattle.words.specs.Value as value;
-ghost use Rattle.page.specs.Row.{rowStart, rowWords, pageWords};
-ghost use Rattle.page.specs.TrueValue.{heldIn};
+ghost use Rattle.tree.specs.Row.{rowStart, rowWords, pageWords};
+ghost use Rattle.tree.specs.TrueValue.{heldIn};
 ghost use Rattle.page.specs.Entries.{orderSize, InPage, addUntil, heldFrom};
-
-// What a lookup finds in a page: a spoiled page, or the row that holds (t, k) and its true value.
-pub enum Held {
-    Spoiled,
-    Found { row: Row, value: Value },
-}
 
 // The value of the row at a place.
 fn value_of(page: &[u64], place: usize) -> Value

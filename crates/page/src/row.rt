@@ -1,4 +1,5 @@
-// A row of a page: four words, taken apart.
+// A row of a page, read from its four words.
+use tree::Row;
 use words::Value;
 ghost use mathlib.Core.Path.{_≡_};
 ghost use mathlib.Core.Bool.{_&&_};
@@ -6,16 +7,7 @@ ghost use Prim.Native.Nat.{_+_, _*_, _≤_};
 ghost use lib.ListN.{length};
 ghost use lib.Dec.{leb, ltb};
 ghost use Rattle.words.specs.Words.{birthOf, endOf};
-ghost use Rattle.page.specs.Row.{rowStart, rowWords, rowAt};
-
-pub struct Row {
-    pub low: u16,
-    pub high: u16,
-    pub child: u32,
-    pub birth: u32,
-    pub end: u32,
-    pub value: Value,
-}
+ghost use Rattle.tree.specs.Row.{rowStart, rowWords, rowAt};
 
 // The row at a place of the page.
 pub fn row_at(page: &[u64], place: usize) -> Row

@@ -9,8 +9,8 @@ ghost use mathlib.Core.Bool.{cond};
 ghost use Prim.Native.Nat.{_≤_};
 ghost use lib.ListN.{length, drop};
 ghost use Rattle.page.specs.declared.survey.Surveyed.the-variants.{Spoiled, Sound};
-ghost use Rattle.page.specs.Row.{word, pageWords, rowLimit};
-ghost use Rattle.page.specs.PageTest.{soundAt};
+ghost use Rattle.tree.specs.Row.{word, pageWords, rowLimit};
+ghost use Rattle.tree.specs.PageTest.{soundAt};
 ghost use Rattle.page.specs.Entries.{orderSize, surveyFrom};
 ghost use Rattle.page.specs.Survey.{surveyOf};
 

@@ -1,8 +1,8 @@
 // Refusal 26, as far as one page's own words go.
 ghost use mathlib.Core.Path.{_≡_};
 ghost use lib.ListN.{length};
-ghost use Rattle.page.specs.Row.{pageWords};
-ghost use Rattle.page.specs.PageTest.{headerFits, soundAt};
+ghost use Rattle.tree.specs.Row.{pageWords};
+ghost use Rattle.tree.specs.PageTest.{headerFits, soundAt};
 ghost use Rattle.page.specs.Entries.{orderSize, TestedAs};
 use crate::order::Place;
 use crate::order::holds_each_key_once;

@@ -7,9 +7,9 @@ use lib.Dec.{leb, ltb, eqb}
 use Rattle.words.specs.Words.{keyLimit, openEnd, rootEntry}
 use Rattle.words.specs.Overwrite.{overwrite}
 use Rattle.words.specs.Value.{zero}
-use Rattle.page.specs.Row.{pageWords}
-use Rattle.page.specs.Fresh.{freshPage, newRow}
-use Rattle.page.specs.TrueValue.{Search, none, one}
+use Rattle.tree.specs.Row.{pageWords}
+use Rattle.tree.specs.Fresh.{freshPage, newRow}
+use Rattle.tree.specs.TrueValue.{Search, none, one}
 use Rattle.tree.specs.declared.types.Plan.{Plan}
 use Rattle.tree.specs.declared.types.Plan.the-variants as planned
 use Rattle.tree.specs.declared.types.RootChange.the-variants.{Kept, Added, Replaced}

@@ -11,12 +11,12 @@ use borrow.Author.Tests.{leb-true}
 use Rattle.words.specs.Words.{keyLimit}
 use Rattle.words.specs.declared.value.Value.{Value}
 use Rattle.words.specs.Value as value
-use Rattle.page.specs.declared.row.Row.{Row}
-use Rattle.page.specs.declared.held.Held.the-variants as held
-use Rattle.page.specs.Row.{rowsOf}
-use Rattle.page.specs.KeyOrder.{Placed}
-use Rattle.page.specs.PageTest.{soundAt}
-use Rattle.page.specs.TrueValue.{Search, none, one, trueValue, holdingRow, heldAs}
+use Rattle.tree.specs.declared.types.Row.{Row}
+use Rattle.tree.specs.declared.types.Held.the-variants as held
+use Rattle.tree.specs.Row.{rowsOf}
+use Rattle.tree.specs.KeyOrder.{Placed}
+use Rattle.tree.specs.PageTest.{soundAt}
+use Rattle.tree.specs.TrueValue.{Search, none, one, trueValue, holdingRow, heldAs}
 use Rattle.tree.specs.declared.types.Root.{Root}
 use Rattle.tree.specs.declared.types.Root.the-variants.{At, Missing}
 use Rattle.tree.specs.declared.types.Lookup.{Lookup}

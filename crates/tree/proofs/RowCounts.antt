@@ -1,69 +1,63 @@
--- How many items pass a test after one item was replaced and others were added; the live rows of a page, counted.
-use Prim.Native.Nat.{ℕ, zero, suc, _+_, _≤_, _<_}
+-- How many rows a step makes: no two live rows have one low key, so only one row is replaced.
+use Prim.Native.Nat.{ℕ, _+_, _≤_, _<_}
 use native.Mathlib.Omega.{arith}
-use mathlib.Core.Path.{_≡_, refl, sym, ap, _∙_}
+use native.Mathlib.Decide.{ℕ-discrete}
+use mathlib.Core.Path.{_≡_, refl}
+use mathlib.Core.List.{List, [], _∷_}
 use mathlib.Core.Bool.{Bool, true, false, cond}
-use mathlib.Core.List.{List, [], _∷_, _++_}
-use lib.ListN.{length, getD, set, length-map}
-use Rattle.page.specs.declared.row.Row.{Row}
-use Rattle.page.specs.Row.{rowWords, rowsFrom, live}
-use Rattle.page.specs.KeyOrder.{Placed, keyOrder}
-use Rattle.page.specs.TrueValue.{one, first}
-use Rattle.page.specs.Edit.{bornAt}
-use Rattle.page.proofs.Lists.{sumBy, sum-append, one-if, count}
-use Rattle.page.proofs.Places.{order-sum}
-use Rattle.tree.specs.Overflow.{copiedRows}
+use mathlib.Core.Logic.{_⊎_, inl, inr}
+use lib.Dec.{leb, ltb, eqb}
+use lib.ListN.{length}
+use Rattle.tree.proofs.ModelPages.{onlyIf, Entry, Row, sumLive, replaced, fieldHolding}
+use Rattle.tree.proofs.ModelTrees.{Slot, sumSlots, Chain}
+use Rattle.tree.proofs.ModelSteps.{plusAmount, noneFurther, gained}
+use Rattle.tree.proofs.ModelPromise.{sumBelow}
+use Rattle.tree.proofs.ReplacedRows.{tests, split, length-replaced}
+use Rattle.tree.proofs.GainedSlots.{moreFirst}
 
-module _ {A : Type 0} (test : A → Bool) where
-  pub count-set : (xs : List A) (i : ℕ) (x d : A) → i < length xs
-      → one-if test (getD xs i d) + count test (set xs i x) ≡ one-if test x + count test xs
-  count-set [] i x d h = absurd (omega arith)
-  count-set (y ∷ ys) zero x d h = omega arith
-  count-set (y ∷ ys) (suc i) x d h = omega (arith, count-set ys i x d (omega arith))
-
-  pub count-at-most : (xs : List A) → count test xs ≤ length xs
-  count-at-most [] = omega arith
-  count-at-most (x ∷ xs) = go (test x) (count-at-most xs)
-    where
-      go : (b : Bool) → count test xs ≤ length xs → cond b 1 0 + count test xs ≤ suc (length xs)
-      go true ih = omega arith
-      go false ih = omega arith
-
-  one-if-is : (x : A) {b : Bool} → test x ≡ b → one-if test x ≡ cond b 1 0
-  one-if-is x e = ap (λ (c : Bool). cond c 1 0) e
-
-  -- An item that passes, replaced by one that does, with others added behind; and by one that does not
-  module _ (xs : List A) (i : ℕ) (d : A) (inside : i < length xs) (here : test (getD xs i d) ≡ true) (x : A) (more : List A) where
-    pub count-kept : test x ≡ true → count test (set xs i x ++ more) ≡ count test xs + count test more
-    count-kept e =
-        omega (arith, sum-append (one-if test) (set xs i x) more, count-set xs i x d inside, one-if-is (getD xs i d) here, one-if-is x e)
-
-    pub count-lost : test x ≡ false → count test (set xs i x ++ more) + 1 ≡ count test xs + count test more
-    count-lost e =
-        omega (arith, sum-append (one-if test) (set xs i x) more, count-set xs i x d inside, one-if-is (getD xs i d) here, one-if-is x e)
-
--- What a search finds passes its test
-pub first-passes : {A : Type 0} (test : A → Bool) (xs : List A) {x : A} → first test xs ≡ one x → test x ≡ true
-unfolding first
-first-passes test [] e = let z : _≡_ {A = ℕ} 0 1 = cc in absurd (omega arith)
-first-passes {A} test (y ∷ ys) {x} e = go (test y) refl (λ r. first-passes test ys r) e
+-- One live row at most has a low key.
+pub starts-once : {A : Type 0} (P : ℕ → ℕ → ℕ → A → Type 0) (m j lo hi : ℕ) (tr : List (Slot A)) → Chain P lo hi tr
+    → sumSlots (λ e. onlyIf (eqb (e .low) m) j) tr ≤ onlyIf (leb lo m) j
+starts-once P m j lo hi [] c = omega arith
+starts-once P m j lo hi (e ∷ es) c =
+    go (ℕ-discrete (e .entry .low) m) (split lo m) (split (e .entry .high) m) (starts-once P m j (e .entry .high) hi es (c .rest))
   where
-    go : (b : Bool) → test y ≡ b → (first test ys ≡ one x → test x ≡ true) → cond b (one y) (first test ys) ≡ one x → test x ≡ true
-    go true f ih r = let s : y ≡ x = cc in rw (← s) f
-    go false f ih r = ih r
+    go : Dec (e .entry .low ≡ m) → (lo ≤ m) ⊎ (m < lo) → (e .entry .high ≤ m) ⊎ (m < e .entry .high)
+        → sumSlots (λ e. onlyIf (eqb (e .low) m) j) es ≤ onlyIf (leb (e .entry .high) m) j
+        → sumSlots (λ e. onlyIf (eqb (e .low) m) j) (e ∷ es) ≤ onlyIf (leb lo m) j
+    go (yes a) (inl b) (inl d) h = absurd (omega arith)
+    go (yes a) (inl b) (inr d) h = simp tests (omega (arith, simp tests at h))
+    go (yes a) (inr b) d h = absurd (omega arith)
+    go (no a) (inl b) (inl d) h = simp tests (omega (arith, simp tests at h))
+    go (no a) (inl b) (inr d) h = simp tests (omega (arith, simp tests at h))
+    go (no a) (inr b) (inl d) h = absurd (omega arith)
+    go (no a) (inr b) (inr d) h = simp tests (omega (arith, simp tests at h))
 
--- The live rows, counted in key order, and in a page's copy
-pub live-count : (t : ℕ) (rows : List Row) → length (keyOrder t rows) ≡ count (live t) rows
-live-count t rows = sym (ones (keyOrder t rows)) ∙ order-sum t (λ (r : Row). 1) rows
+pub one-start : {A : Type 0} (P : ℕ → ℕ → ℕ → A → Type 0) (m j lo hi : ℕ) (tr : List (Slot A)) → Chain P lo hi tr
+    → sumSlots (λ e. onlyIf (eqb (e .low) m) j) tr ≤ j
+one-start P m j lo hi tr c = go (leb lo m) (starts-once P m j lo hi tr c)
   where
-    ones : (xs : List Placed) → sumBy (λ (x : Placed). 1) xs ≡ length xs
-    ones [] = refl
-    ones (x ∷ xs) = omega (arith, ones xs)
+    go : (b : Bool) → sumSlots (λ e. onlyIf (eqb (e .low) m) j) tr ≤ onlyIf b j → sumSlots (λ e. onlyIf (eqb (e .low) m) j) tr ≤ j
+    go true h = h
+    go false h = omega arith
 
-pub copied-count : (t : ℕ) (rows : List Row) → length (copiedRows t rows) ≡ count (live t) rows
-copied-count t rows = length-map (keyOrder t rows) (λ (x : Placed). bornAt t (x .row)) ∙ live-count t rows
+-- How many rows a step makes.
+module _ {A : Type 0} (P : ℕ → ℕ → ℕ → A → Type 0) (t lo hi : ℕ) (tr : List (Slot A)) (rs : List Row) (c : Chain P lo hi tr)
+    (same : (f : Entry → ℕ) → sumSlots f tr ≡ sumLive t f rs) where
+  pub one-more : (m : ℕ) (a : Entry → Entry) → length (replaced t m a noneFurther rs) ≤ length rs + 1
+  one-more m a = omega (arith, length-replaced t m a noneFurther rs, same (λ e. onlyIf (eqb (e .low) m) 1), one-start P m 1 lo hi tr c)
 
-pub rows-count : (words : List ℕ) (at n : ℕ) → length (rowsFrom words at n) ≡ n
-unfolding rowsFrom
-rows-count words at zero = refl
-rows-count words at (suc n) = ap suc (rows-count words (at + rowWords) n)
+  pub gained-length : (k v : ℕ) → length (gained t k v rs) ≤ length rs + 1
+  gained-length k v = one-more (cond (ltb (fieldHolding t k (λ e. e .low) rs) k) (fieldHolding t k (λ e. e .high) rs) k) (plusAmount v)
+
+  pub two-more : (m : ℕ) (a b : Entry → Entry) → length (replaced t m a (λ e. b e ∷ []) rs) ≤ length rs + 2
+  two-more m a b =
+      omega (arith, length-replaced t m a (λ e. b e ∷ []) rs, same (λ e. onlyIf (eqb (e .low) m) 2), one-start P m 2 lo hi tr c)
+
+pub length-more : {A : Type 0} (v : ℕ) (ys : List (Slot A)) → length (moreFirst v ys) ≡ length ys
+length-more v [] = refl
+length-more v (y ∷ ys) = refl
+
+pub below-more : {A : Type 0} (R : ℕ → A → ℕ) (v : ℕ) (ys : List (Slot A)) → sumBelow R (moreFirst v ys) ≡ sumBelow R ys
+below-more R v [] = refl
+below-more R v (y ∷ ys) = refl

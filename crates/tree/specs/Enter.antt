@@ -5,10 +5,10 @@ use mathlib.Core.Bool.{cond}
 use lib.Dec.{eqb}
 use Rattle.words.specs.Words.{birthOf, rootEntry, keyLimit}
 use Rattle.words.specs.Overwrite.{overwrite}
-use Rattle.page.specs.Row.{rowsOf}
-use Rattle.page.specs.KeyOrder.{Placed}
-use Rattle.page.specs.TrueValue.{Search, none, one}
-use Rattle.page.specs.Fresh.{freshPage, twoRows}
+use Rattle.tree.specs.Row.{rowsOf}
+use Rattle.tree.specs.KeyOrder.{Placed}
+use Rattle.tree.specs.TrueValue.{Search, none, one}
+use Rattle.tree.specs.Fresh.{freshPage, twoRows}
 use Rattle.tree.specs.declared.types.RootChange.{RootChange}
 use Rattle.tree.specs.declared.types.RootChange.the-variants.{Kept, Added, Replaced}
 use Rattle.tree.specs.Tree.{Tree, pageAt, putPage, levelOf, lastRoot}

@@ -1,4 +1,13 @@
 -- One tree: document 01, "Pages and rows", "The pass book" (path, pages opened, height) and refusal 26.
+
+-- One page
+pub mod Row
+pub mod KeyOrder
+pub mod PageTest
+pub mod TrueValue
+pub mod Edit
+pub mod Fresh
+-- A tree in its page table and its root list
 pub mod Tree
 pub mod Lookup
 pub mod Path
@@ -6,8 +15,7 @@ pub mod RowSteps
 pub mod Overflow
 pub mod Enter
 pub mod Plan
-pub mod PlanSteps
-pub mod PageEdits
-pub mod SplitWords
-pub mod EnterWords
-pub mod EnterRoot
+-- A tree grown from opening, as the theorems speak of it
+pub mod PointSums
+pub mod Grown
+pub mod Alike

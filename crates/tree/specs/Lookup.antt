@@ -6,10 +6,10 @@ use Rattle.words.specs.Words.{keyLimit}
 use Rattle.words.specs.declared.value.Value.{Value}
 use Rattle.words.specs.Value.{plus}
 use Rattle.words.specs.Value as value
-use Rattle.page.specs.declared.row.Row.{Row}
-use Rattle.page.specs.declared.held.Held.{Held}
-use Rattle.page.specs.declared.held.Held.the-variants as held
-use Rattle.page.specs.TrueValue.{heldIn}
+use Rattle.tree.specs.declared.types.Row.{Row}
+use Rattle.tree.specs.declared.types.Held.{Held}
+use Rattle.tree.specs.declared.types.Held.the-variants as held
+use Rattle.tree.specs.TrueValue.{heldIn}
 use Rattle.tree.specs.declared.types.Root.{Root}
 use Rattle.tree.specs.declared.types.Root.the-variants.{At, Missing}
 use Rattle.tree.specs.declared.types.Lookup.{Lookup}

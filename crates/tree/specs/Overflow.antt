@@ -6,12 +6,12 @@ use lib.ListN.{length, take, drop}
 use lib.Dec.{leb}
 use Rattle.words.specs.declared.value.Value.{Value}
 use Rattle.words.specs.Words.{lowKey, highKey}
-use Rattle.page.specs.declared.row.Row.{Row}
-use Rattle.page.specs.Row.{word, rowLimit, copyLimit}
-use Rattle.page.specs.KeyOrder.{Placed, keyOrder}
-use Rattle.page.specs.TrueValue.{totalWhere, rowValue}
-use Rattle.page.specs.Edit.{bornAt, withRows}
-use Rattle.page.specs.Fresh.{freshPage}
+use Rattle.tree.specs.declared.types.Row.{Row}
+use Rattle.tree.specs.Row.{word, rowLimit, copyLimit}
+use Rattle.tree.specs.KeyOrder.{Placed, keyOrder}
+use Rattle.tree.specs.TrueValue.{totalWhere, rowValue}
+use Rattle.tree.specs.Edit.{bornAt, withRows}
+use Rattle.tree.specs.Fresh.{freshPage}
 use Rattle.tree.specs.declared.types.TreeUse.{TreeUse}
 use Rattle.tree.specs.Tree.{Tree, pageAt, putPage}
 use Rattle.tree.specs.RowSteps.{Became, stays, copied, halved, gained}

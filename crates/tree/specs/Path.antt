@@ -1,9 +1,9 @@
 -- "The path of a lookup is the root for t, then from each page above level 0 the child of the row that is live at t and has low key ≤ k < high key."
 use Prim.Native.Nat.{ℕ, zero, suc}
 use mathlib.Core.List.{List, [], _∷_}
-use Rattle.page.specs.Row.{rowsOf}
-use Rattle.page.specs.KeyOrder.{Placed}
-use Rattle.page.specs.TrueValue.{Search, none, one, holdingRow}
+use Rattle.tree.specs.Row.{rowsOf}
+use Rattle.tree.specs.KeyOrder.{Placed}
+use Rattle.tree.specs.TrueValue.{Search, none, one, holdingRow}
 use Rattle.tree.specs.declared.types.Root.{Root}
 use Rattle.tree.specs.declared.types.Root.the-variants.{At, Missing}
 use Rattle.tree.specs.Tree.{Tree, pageAt, levelOf, rootAt}

@@ -4,10 +4,10 @@ use Prim.Native.Nat.{ℕ, zero, suc}
 use mathlib.Core.Bool.{Bool, true, false, cond, _&&_, not}
 use lib.Dec.{eqb}
 use Rattle.words.specs.Words.{keyLimit}
-use Rattle.page.specs.declared.row.Row.{Row}
-use Rattle.page.specs.Row.{rowsOf}
-use Rattle.page.specs.KeyOrder.{Placed}
-use Rattle.page.specs.TrueValue.{Search, none, one}
+use Rattle.tree.specs.declared.types.Row.{Row}
+use Rattle.tree.specs.Row.{rowsOf}
+use Rattle.tree.specs.KeyOrder.{Placed}
+use Rattle.tree.specs.TrueValue.{Search, none, one}
 use Rattle.tree.specs.declared.types.Root.{Root}
 use Rattle.tree.specs.declared.types.Root.the-variants.{At, Missing}
 use Rattle.tree.specs.declared.types.Plan.{Plan}

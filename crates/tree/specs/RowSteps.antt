@@ -6,12 +6,12 @@ use lib.ListN.{set}
 use lib.Dec.{leb, eqb}
 use Rattle.words.specs.declared.value.Value.{Value}
 use Rattle.words.specs.Value.{zero, plus}
-use Rattle.page.specs.declared.row.Row.{Row}
-use Rattle.page.specs.Row.{around}
-use Rattle.page.specs.KeyOrder.{Placed, keyOrder}
-use Rattle.page.specs.TrueValue.{Search, none, one, first}
-use Rattle.page.specs.Edit.{ended, bornAt}
-use Rattle.page.specs.Fresh.{newRow}
+use Rattle.tree.specs.declared.types.Row.{Row}
+use Rattle.tree.specs.Row.{around}
+use Rattle.tree.specs.KeyOrder.{Placed, keyOrder}
+use Rattle.tree.specs.TrueValue.{Search, none, one, first}
+use Rattle.tree.specs.Edit.{ended, bornAt}
+use Rattle.tree.specs.Fresh.{newRow}
 
 -- "A point is a tick, a key, a count of 1 and a weight": here with any value
 pub record Point : Type 0 where

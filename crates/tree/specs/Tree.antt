@@ -6,8 +6,8 @@ use lib.ListN.{length, take, drop}
 use lib.Dec.{leb, ltb}
 use Rattle.words.specs.Words.{birthOf, rootPage}
 use Rattle.words.specs.Overwrite.{overwrite}
-use Rattle.page.specs.Row.{word, pageWords}
-use Rattle.page.specs.PageTest.{soundAt}
+use Rattle.tree.specs.Row.{word, pageWords}
+use Rattle.tree.specs.PageTest.{soundAt}
 use Rattle.tree.specs.declared.types.TreeUse.{TreeUse}
 use Rattle.tree.specs.declared.types.Root.{Root}
 use Rattle.tree.specs.declared.types.Root.the-variants.{At, Missing}

@@ -1,5 +1,21 @@
-// What a tree's calls take and give.
+// A row of a page, and what a tree's calls take and give.
 use words::Value;
+
+// A row of a page: four words, taken apart.
+pub struct Row {
+    pub low: u16,
+    pub high: u16,
+    pub child: u32,
+    pub birth: u32,
+    pub end: u32,
+    pub value: Value,
+}
+
+// What a lookup finds in a page: a spoiled page, or the row that holds (t, k) and its true value.
+pub enum Held {
+    Spoiled,
+    Found { row: Row, value: Value },
+}
 
 // The pages and the roots that a tree uses.
 pub struct TreeUse {

@@ -2,7 +2,7 @@
 use Prim.Native.Nat.{ℕ, _+_, _*_, _≤_, _<_}
 use mathlib.Core.Path.{_≡_}
 use Rattle.words.specs.Words.{openEnd}
-use Rattle.page.specs.Row.{pageWords}
+use Rattle.tree.specs.Row.{pageWords}
 use Rattle.tree.specs.Tree.{pageLimit}
 use Rattle.tree.specs.declared.types.TreeUse.{TreeUse}
 use Rattle.tree.specs.declared.types.RootChange.{RootChange}

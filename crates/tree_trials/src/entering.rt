@@ -56,14 +56,14 @@ fn add_point(
     if cannot_plan(table.len(), roots.len(), used, t) {
         return used;
     }
-    let plan = tree::plan(table, roots, used, t, k);
+    let plan = plan::plan(table, roots, used, t, k);
     let Plan::Ready { made, root } = plan else {
         return used;
     };
     if lacks_room(table.len(), roots.len(), used, made, root) {
         return used;
     }
-    tree::enter(table, roots, used, t, k, value)
+    enter::enter(table, roots, used, t, k, value)
 }
 
 // The key of a point: another one for each point up to the 29,999th, above 0, and in no order of size, so that rows are cut all over the page.

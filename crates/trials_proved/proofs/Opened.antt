@@ -8,7 +8,7 @@ use lib.ListN.{length, length-append, drop}
 use borrow.Author.Tests.{le-leb, lt-leb, lt-ltb, ne-eqb}
 use Rattle.words.specs.Words.{keyLimit, openEnd}
 use Rattle.words.specs.Value.{zero as nothing}
-use Rattle.page.specs.Row.{pageWords}
+use Rattle.tree.specs.Row.{pageWords}
 use Rattle.tree.specs.declared.types.Lookup.{Lookup}
 use Rattle.tree.specs.declared.types.Lookup.the-variants.{Found}
 use Rattle.tree.specs.Tree.{Tree}

@@ -4,8 +4,8 @@ use mathlib.Core.Path.{_≡_, refl}
 use mathlib.Core.List.{List, [], _∷_}
 use borrow.Author.Tests.{lt-leb}
 use Rattle.words.specs.Words.{keyLimit, openEnd}
-use Rattle.page.specs.Row.{word, rowStart, rowAt}
-use Rattle.page.specs.Fresh.{newRow}
+use Rattle.tree.specs.Row.{word, rowStart, rowAt}
+use Rattle.tree.specs.Fresh.{newRow}
 use Rattle.store.specs.declared.types.Answer.the-variants.{Refused, Opened, Started, Ended, Totals}
 use Rattle.store.specs.Head.{Store}
 use Rattle.store.specs.Writing.{openStore, startPass}

@@ -1,12 +1,12 @@
 -- One name for every shut definition that a trial runs through: a proof that says `unfolding computing` computes with all of them.
 use Rattle.words.specs.Overwrite.{overwrite}
 use Rattle.words.specs.Value.{plus, minus}
-use Rattle.page.specs.Row.{rowsFrom, encodeRows}
-use Rattle.page.specs.KeyOrder.{livePlaced, insertBy, sortBy}
-use Rattle.page.specs.PageTest.{eachKeyOnce}
-use Rattle.page.specs.TrueValue.{totalWhere, first}
-use Rattle.page.specs.Edit.{withRows}
-use Rattle.page.specs.Fresh.{zeros, freshPage}
+use Rattle.tree.specs.Row.{rowsFrom, encodeRows}
+use Rattle.tree.specs.KeyOrder.{livePlaced, insertBy, sortBy}
+use Rattle.tree.specs.PageTest.{eachKeyOnce}
+use Rattle.tree.specs.TrueValue.{totalWhere, first}
+use Rattle.tree.specs.Edit.{withRows}
+use Rattle.tree.specs.Fresh.{zeros, freshPage}
 use Rattle.tree.specs.Tree.{rootFor}
 use Rattle.tree.specs.Lookup.{lookupFrom, lookup}
 use Rattle.tree.specs.RowSteps.{gainRows, leafRows, relinkRow}

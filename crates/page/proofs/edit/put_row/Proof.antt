@@ -5,7 +5,7 @@ use mathlib.Core.Path.{ap₂, _∙_}
 use lib.ListN.{length-set, set}
 use Rattle.words.specs.Value.{encodeValue}
 use Rattle.words.specs.Overwrite.{overwrite}
-use Rattle.page.specs.Row.{rowStart}
+use Rattle.tree.specs.Row.{rowStart}
 use Rattle.page.proofs.EditLaws.{put-words}
 use borrow.Author.Needs.{needs}
 use Rattle.page.proofs.edit.put_row.Statement.{statement}

@@ -6,7 +6,7 @@ use Prim.Native.Nat.{_≤_, _-_}
 use lib.ListN.{length}
 use native.Mathlib.Omega.{arith}
 use Rattle.words.specs.Overwrite.{overwrite}
-use Rattle.page.specs.Fresh.{zeros}
+use Rattle.tree.specs.Fresh.{zeros}
 use Rattle.page.proofs.FreshLaws.{clear-none, clear-more, clear-done}
 use borrow.Author.Needs.{needs}
 use Rattle.page.proofs.fresh.clear_from.Statement.{statement}

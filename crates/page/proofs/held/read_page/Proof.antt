@@ -1,6 +1,6 @@
 use native.Mathlib.Omega.{arith}
 use mathlib.Core.Path.{_∙_}
-use Rattle.page.specs.Row.{word}
+use Rattle.tree.specs.Row.{word}
 use Rattle.page.proofs.PageReadings.{tested-spoiled, tested-sound, sound-few, in-page, held-says}
 use borrow.Author.Needs.{needs}
 use Rattle.page.proofs.held.read_page.Statement.{statement}

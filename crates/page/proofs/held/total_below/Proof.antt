@@ -7,7 +7,7 @@ use Rattle.words.specs.declared.value.Value.{Value}
 use Rattle.words.specs.Value.{zero, plus}
 use Rattle.page.specs.Entries.{orderSize, entryLow, entryPlace, InPage, addUntil}
 use Rattle.page.proofs.OrderLaws.{until-more, until-stop, until-none, all-here}
-use Rattle.page.specs.Row.{rowStart, rowWords}
+use Rattle.tree.specs.Row.{rowStart, rowWords}
 use borrow.Author.Needs.{needs}
 use Rattle.page.proofs.held.total_below.Statement.{statement}
 use Rattle.page.proofs.held.total_below.Tie as tie

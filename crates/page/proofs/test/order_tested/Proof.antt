@@ -1,7 +1,7 @@
 use native.Mathlib.Omega.{arith}
 use mathlib.Core.Path.{_≡_, sym, _∙_}
 use mathlib.Core.Bool.{true}
-use Rattle.page.specs.PageTest.{headerFits}
+use Rattle.tree.specs.PageTest.{headerFits}
 use Rattle.page.proofs.PageReadings.{few, unfit, walked, ordered}
 use borrow.Author.Needs.{needs}
 use Rattle.page.proofs.test.order_tested.Statement.{statement}

@@ -1,4 +1,4 @@
-use Rattle.page.specs.Fresh.{noRows}
+use Rattle.page.specs.PageValue.{noRows}
 use borrow.Author.Needs.{needs}
 use Rattle.page.proofs.fresh.Page.empty.Statement.{statement}
 use Rattle.page.proofs.fresh.Page.empty.Tie as tie

@@ -1,5 +1,5 @@
-use Rattle.page.specs.Row.{rowLimit, rowStart, pageWords}
-use Rattle.page.specs.Fresh.{zeros}
+use Rattle.tree.specs.Row.{rowLimit, rowStart, pageWords}
+use Rattle.tree.specs.Fresh.{zeros}
 use mathlib.Core.Path.{_≡_, refl, ap, _∙_}
 use Prim.Native.Nat.{_≤_, _-_}
 use lib.ListN.{length}
@@ -8,7 +8,7 @@ use Prim.Native.Nat.{ℕ}
 use mathlib.Core.List.{List}
 use lib.ListN.{length-set}
 use Rattle.words.specs.Overwrite.{overwrite}
-use Rattle.page.proofs.Lists.{length-mapped}
+use Rattle.tree.proofs.Lists.{length-mapped}
 use Rattle.page.proofs.FreshLaws.{upTo, header-words, row-words, whole-words}
 use borrow.Author.Needs.{needs}
 use Rattle.page.proofs.fresh.Page.write.Statement.{statement}

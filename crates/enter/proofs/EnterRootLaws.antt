@@ -1,0 +1,328 @@
+-- The whole entry: what a plan says of it, and what its root does, in each of the three ways that a root can go.
+use Prim.Native.Nat.{ℕ, zero, suc, _+_, _*_, _≤_, _<_}
+use native.Mathlib.Omega.{arith}
+use mathlib.Core.Path.{_≡_, refl, sym, ap, ap₂, _∙_}
+use mathlib.Core.Bool.{Bool, true, false, cond, _&&_, not, and-eq-true-iff}
+use mathlib.Core.List.{List, []}
+use lib.Dec.{ltb, eqb}
+use lib.ListN.{length}
+use borrow.Author.Tests.{leb-true, ltb-true, ne-eqb}
+use Rattle.words.specs.Words.{birthOf, keyLimit}
+use Rattle.tree.specs.declared.types.Row.{Row}
+use Rattle.tree.specs.Row.{word, rowsOf, pageWords}
+use Rattle.tree.specs.KeyOrder.{Placed}
+use Rattle.tree.specs.TrueValue.{Search, none, one}
+use Rattle.tree.specs.Fresh.{freshPage, twoRows}
+use Rattle.page.specs.PageValue.{noRows, twoRowRoot, encodePage}
+use Rattle.tree.specs.declared.types.TreeUse.{TreeUse}
+use Rattle.tree.specs.declared.types.Root.{Root}
+use Rattle.tree.specs.declared.types.Root.the-variants.{At, Missing}
+use Rattle.tree.specs.declared.types.RootChange.{RootChange}
+use Rattle.tree.specs.declared.types.RootChange.the-variants.{Added}
+use Rattle.tree.specs.declared.types.Plan.the-variants.{Spoiled, Ready}
+use Rattle.tree.specs.Tree.{Tree, pageAt, putPage, levelOf, rootAt, rootInUse, topLevel, lastRoot, metAt}
+use Rattle.tree.specs.RowSteps.{Point, Child, Became, stays, copied, halved, rowAround}
+use Rattle.tree.specs.Overflow.{Written, takenPage, finishPage}
+use Rattle.tree.specs.Enter.{Entered, enterAbove, enterBelow, enterFrom, withRoot, enteredAs, enterRoot}
+use Rattle.tree.specs.Plan.{soundBelow, descentSound, topMustSplit, planRoot, plan, enteredRoot, enter}
+use Rattle.enter.specs.declared.entry.Child as declared
+use Rattle.enter.specs.declared.entry.Done.{Done}
+use Rattle.enter.specs.declared.entry.Became.the-variants.{Stays, Copied, Halved}
+use Rattle.enter.specs.PageEdits.{becameOf, childOf}
+use Rattle.enter.specs.EnterWords.{useOf, CanEnter, DoneAs}
+use Rattle.lookup.proofs.LookupLaws.{level-in-table}
+use Rattle.enter.proofs.EnterFacts.{enter-facts}
+use Rattle.enter.specs.EnterRoot.{rootTree, CanPut, RootPut, Planned, EnteredAs}
+
+-- Entering from a page down does not look at the root list
+finish-roots : (table a b : List ℕ) (used : TreeUse) (t : ℕ) (so : Written) (page : ℕ) (rows : List Row) →
+    finishPage (record { table = table; roots = a; used = used }) t so page rows ≡ finishPage (record { table = table; roots = b; used = used }) t so page rows
+unfolding finishPage
+finish-roots table a b used t so page rows = refl
+
+pub enter-roots : (table a b : List ℕ) (used : TreeUse) (p : Point) (level page : ℕ) →
+    enterFrom (record { table = table; roots = a; used = used }) p level page ≡ enterFrom (record { table = table; roots = b; used = used }) p level page
+unfolding enterFrom finishPage
+enter-roots table a b used p zero page = refl
+enter-roots table a b used p (suc l) page = go (rowAround p (rowsOf (pageAt table page))) (λ (child : ℕ). enter-roots table a b used p l child)
+  where
+    left : ℕ → Written
+    left child = enterFrom (record { table = table; roots = a; used = used }) p l child
+
+    right : ℕ → Written
+    right child = enterFrom (record { table = table; roots = b; used = used }) p l child
+
+    go : (s : Search Placed) → ((child : ℕ) → left child ≡ right child) →
+        enterBelow (record { table = table; roots = a; used = used }) p page left s ≡ enterBelow (record { table = table; roots = b; used = used }) p page right s
+    go none ih = refl
+    go (one x) ih = ap (enterAbove (record { table = table; roots = b; used = used }) p page x) (ih (x .row .child))
+
+pub descent-roots : (table a b : List ℕ) (used : TreeUse) (p : Point) (level low high page : ℕ) →
+    descentSound (record { table = table; roots = a; used = used }) p level low high page ≡ descentSound (record { table = table; roots = b; used = used }) p level low high page
+unfolding descentSound
+descent-roots table a b used p zero low high page = refl
+descent-roots table a b used p (suc l) low high page =
+    ap (_&&_ (metAt (record { table = table; roots = b; used = used }) (p .tick) (suc l) low high page))
+    (go (rowAround p (rowsOf (pageAt table page))) (λ (r : Row). descent-roots table a b used p l (r .low) (r .high) (r .child)))
+  where
+    left : Row → Bool
+    left r = descentSound (record { table = table; roots = a; used = used }) p l (r .low) (r .high) (r .child)
+
+    right : Row → Bool
+    right r = descentSound (record { table = table; roots = b; used = used }) p l (r .low) (r .high) (r .child)
+
+    go : (s : Search Placed) → ((r : Row) → left r ≡ right r) → soundBelow left s ≡ soundBelow right s
+    go none ih = refl
+    go (one x) ih = ih (x .row)
+
+-- What a plan that is Ready says
+pub record RootPlan (tree : Tree) (p : Point) (made : ℕ) (change : RootChange) (page : ℕ) : Type 0 where
+  pub root-is : rootAt tree (p .tick) ≡ At page
+  pub in-use : page < tree .used .pages
+  pub low-level : levelOf (tree .table) page ≤ topLevel
+  pub sound : descentSound tree p (levelOf (tree .table) page) 0 keyLimit page ≡ true
+  pub made-is : enterRoot tree p page .made ≡ made
+  pub change-is : enterRoot tree p page .root ≡ change
+
+pub plan-facts : (tree : Tree) (p : Point) {made : ℕ} {change : RootChange} → plan tree p ≡ Ready made change → (page : ℕ) × RootPlan tree p made change page
+unfolding plan
+plan-facts tree p {made} {change} e = go (rootAt tree (p .tick)) refl e
+  where
+    ready : (page : ℕ) → rootAt tree (p .tick) ≡ At page → (b : Bool) →
+        (rootInUse tree page && (descentSound tree p (levelOf (tree .table) page) 0 keyLimit page && not (topMustSplit tree p page))) ≡ b →
+        cond b (Ready (enterRoot tree p page .made) (enterRoot tree p page .root)) Spoiled ≡ Ready made change → (page : ℕ) × RootPlan tree p made change page
+    ready page r false b f = let z : _≡_ {A = ℕ} 0 1 = cc in absurd (omega arith)
+    ready page r true b f =
+        let x = and-eq-true-iff (rootInUse tree page) _ .0 b in
+        let y = and-eq-true-iff (ltb page (tree .used .pages)) _ .0 (x .0) in
+        let z = and-eq-true-iff (descentSound tree p (levelOf (tree .table) page) 0 keyLimit page) _ .0 (x .1) in (
+          page,
+          record {
+            root-is = r;
+            in-use = ltb-true _ _ (y .0);
+            low-level = leb-true _ _ (y .1);
+            sound = z .0;
+            made-is = cc;
+            change-is = cc;
+          },
+        )
+
+    go : (r : Root) → rootAt tree (p .tick) ≡ r → planRoot tree p r ≡ Ready made change → (page : ℕ) × RootPlan tree p made change page
+    go Missing r f = let z : _≡_ {A = ℕ} 0 1 = cc in absurd (omega arith)
+    go (At page) r f = ready page r _ refl f
+
+-- A root entry that is put in changes the root list and the use alike, whatever the table
+module _ (tree : Tree) (t page made : ℕ) (table : List ℕ) where
+  parts : (b : Bool) → eqb (birthOf (lastRoot tree)) t ≡ b →
+      (withRoot tree t page table made .tree .table ≡ table)
+      × (withRoot tree t page table made .tree .roots ≡ withRoot (rootTree (tree .roots) (tree .used)) t page [] made .tree .roots)
+      × (withRoot tree t page table made .tree .used ≡ withRoot (rootTree (tree .roots) (tree .used)) t page [] made .tree .used)
+      × (withRoot tree t page table made .made ≡ made)
+  parts true e = (rw e, rw e, rw e, rw e)
+  parts false e = (rw e, rw e, rw e, rw e)
+
+  pub put-parts :
+      (withRoot tree t page table made .tree .table ≡ table)
+      × (withRoot tree t page table made .tree .roots ≡ withRoot (rootTree (tree .roots) (tree .used)) t page [] made .tree .roots)
+      × (withRoot tree t page table made .tree .used ≡ withRoot (rootTree (tree .roots) (tree .used)) t page [] made .tree .used)
+      × (withRoot tree t page table made .made ≡ made)
+  put-parts = parts _ refl
+
+  pub put-added : (birthOf (lastRoot tree) ≡ t → ⊥) → withRoot tree t page table made .root ≡ Added
+  put-added n = rw (ne-eqb _ _ n)
+
+-- The page that a two-row root is
+pub two-rows-are : (level birth middle lower upper : ℕ) → encodePage (twoRowRoot level birth middle lower upper) ≡ freshPage level 0 keyLimit birth (twoRows birth middle lower upper)
+unfolding noRows
+two-rows-are level birth middle lower upper = refl
+
+-- The entry that a plan allows, way by way
+module _ (tree : Tree) (p : Point) (pl : Planned tree p) where
+  pub rootPage : ℕ
+  rootPage = plan-facts tree p (pl .plan-is) .0
+
+  pub facts : RootPlan tree p (pl .made) (pl .change) rootPage
+  unfolding rootPage
+  facts = plan-facts tree p (pl .plan-is) .1
+
+  pub level : ℕ
+  level = levelOf (tree .table) rootPage
+
+  pub so : Written
+  so = enterFrom tree p level rootPage
+
+  entered : enterRoot tree p rootPage ≡ enteredAs tree (p .tick) level so (so .became)
+  unfolding enterRoot level so
+  entered = refl
+
+  enter-is : enter tree p ≡ enteredAs tree (p .tick) level so (so .became) .tree
+  unfolding enter
+  enter-is = ap (enteredRoot tree p) (facts .root-is) ∙ ap (λ (e : Entered). e .tree) entered
+
+  made-by : (b : Became) → so .made ≤ enteredAs tree (p .tick) level so b .made
+  made-by stays = omega arith
+  made-by (copied c) = omega (arith, put-parts tree (p .tick) (c .page) (so .made) (so .table) .3)
+  made-by (halved c d) = omega (arith, put-parts tree (p .tick) (takenPage (tree .used) (so .made)) (so .made + 1) (putPage (so .table) (takenPage (tree .used) (so .made)) (freshPage (level + 1) 0 keyLimit (p .tick) (twoRows (p .tick) (c .high) (c .page) (d .page)))) .3)
+
+  made-all : enteredAs tree (p .tick) level so (so .became) .made ≡ pl .made
+  made-all = ap (λ (e : Entered). e .made) (sym entered) ∙ facts .made-is
+
+  change-all : enteredAs tree (p .tick) level so (so .became) .root ≡ pl .change
+  change-all = ap (λ (e : Entered). e .root) (sym entered) ∙ facts .change-is
+
+  pub so-same : enterFrom (useOf (tree .table) (tree .used)) p level rootPage ≡ so
+  unfolding so
+  so-same = enter-roots (tree .table) [] (tree .roots) (tree .used) p level rootPage
+
+  -- the pages in use lie in the table, and so do those that are made
+  pub in-table : tree .used .pages * pageWords ≤ length (tree .table)
+  in-table = omega (arith, pl .room)
+
+  pub can-enter : CanEnter (useOf (tree .table) (tree .used)) p level rootPage
+  unfolding level
+  can-enter =
+      record {
+        sound = (0, (keyLimit, descent-roots (tree .table) [] (tree .roots) (tree .used) p level 0 keyLimit rootPage ∙ facts .sound));
+        room = omega (arith, ap (λ (w : Written). w .made) so-same, made-by (so .became), made-all, pl .room);
+        in-table = in-table;
+        used-few = pl .used-few;
+        low-level = facts .low-level;
+      }
+
+  -- the root that the code finds, and its level
+  pub root-same : (q : ℕ) → rootAt tree (p .tick) ≡ At q → rootPage ≡ q
+  root-same q e = let f : At rootPage ≡ At q = sym (facts .root-is) ∙ e in cc
+
+  pub level-same : (q : ℕ) → rootPage ≡ q → level ≡ word (tree .table) (q * pageWords)
+  unfolding level
+  level-same q e = ap (levelOf (tree .table)) e ∙ level-in-table (tree .table) q
+
+  pub can-enter-at : (q : ℕ) → rootAt tree (p .tick) ≡ At q → CanEnter (useOf (tree .table) (tree .used)) p (word (tree .table) (q * pageWords)) q
+  can-enter-at q e =
+      let same = root-same q e in
+      let high : word (tree .table) (q * pageWords) ≡ level = sym (level-same q same) in
+      rw (high, ← same) can-enter
+
+  pub done-at : (q : ℕ) → rootAt tree (p .tick) ≡ At q → (done : Done) (now : List ℕ) →
+      DoneAs (enterFrom (useOf (tree .table) (tree .used)) p (word (tree .table) (q * pageWords)) q) now done →
+      DoneAs (enterFrom (useOf (tree .table) (tree .used)) p level rootPage) now done
+  done-at q e done now is =
+      let same = root-same q e in
+      let high : word (tree .table) (q * pageWords) ≡ level = sym (level-same q same) in
+      rw (high, ← same) at is
+
+  pub low-level : level ≤ topLevel
+  unfolding level
+  low-level = facts .low-level
+
+  pub root-in-use : rootPage < tree .used .pages
+  root-in-use = facts .in-use
+
+  pub few-pages : p .tick < 4294967296 → p .key < 65536 → (done : Done) (now : List ℕ) →
+      DoneAs (enterFrom (useOf (tree .table) (tree .used)) p level rootPage) now done → (done .made ≤ 8) × (length now ≡ length (tree .table))
+  few-pages small narrow done now is =
+      let e = enter-facts (useOf (tree .table) (tree .used)) p small narrow in-table level (can-enter .sound .0) (can-enter .sound .1 .0) rootPage (can-enter .sound .1 .1) (can-enter .room) in
+      (omega (arith, e .most, is .made-is, low-level), ap length (is .table-is) ∙ e .same-length)
+
+  -- what came back from the root page
+  module _ (done : Done) (now : List ℕ) (is : DoneAs (enterFrom (useOf (tree .table) (tree .used)) p level rootPage) now done) where
+    now-is : now ≡ so .table
+    now-is = is .table-is ∙ ap (λ (w : Written). w .table) so-same
+
+    pub done-made : done .made ≡ so .made
+    done-made = is .made-is ∙ ap (λ (w : Written). w .made) so-same
+
+    became : becameOf (done .became) ≡ so .became
+    became = is .became-is ∙ ap (λ (w : Written). w .became) so-same
+
+    enter-as : (b : Became) → becameOf (done .became) ≡ b → enter tree p ≡ enteredAs tree (p .tick) level so b .tree
+    enter-as b e = enter-is ∙ ap (λ (x : Became). enteredAs tree (p .tick) level so x .tree) (sym became ∙ e)
+
+    made-as : (b : Became) → becameOf (done .became) ≡ b → enteredAs tree (p .tick) level so b .made ≡ pl .made
+    made-as b e = ap (λ (x : Became). enteredAs tree (p .tick) level so x .made) (sym e ∙ became) ∙ made-all
+
+    change-as : (b : Became) → becameOf (done .became) ≡ b → enteredAs tree (p .tick) level so b .root ≡ pl .change
+    change-as b e = ap (λ (x : Became). enteredAs tree (p .tick) level so x .root) (sym e ∙ became) ∙ change-all
+
+    pub stays-way : done .became ≡ Stays → (r : TreeUse) → r ≡ record { pages = tree .used .pages + done .made; roots = tree .used .roots } →
+        EnteredAs tree p now (tree .roots) r
+    stays-way e r f =
+        let w = enter-as stays (ap becameOf e) in
+        record {
+          table-is = now-is ∙ ap (λ (x : Tree). x .table) (sym w);
+          roots-are = ap (λ (x : Tree). x .roots) (sym w);
+          use-is = f ∙ ap (λ (n : ℕ). record { pages = tree .used .pages + n; roots = tree .used .roots }) done-made ∙ ap (λ (x : Tree). x .used) (sym w);
+        }
+
+    place-for : (page made : ℕ) (table : List ℕ) → withRoot tree (p .tick) page table made .root ≡ pl .change →
+        (birthOf (lastRoot (rootTree (tree .roots) (tree .used))) ≡ p .tick → ⊥) → tree .used .roots < length (tree .roots)
+    place-for page made table e n = pl .place (sym e ∙ put-added tree (p .tick) page made table n)
+
+    module _ (few : done .made ≤ 8) where
+      pub copied-can : (c : declared.Child) → done .became ≡ Copied c → CanPut (tree .roots) (tree .used) (done .made) (p .tick)
+      copied-can c e =
+          record {
+            some = pl .some;
+            inside = pl .inside;
+            place = place-for (c .page) (so .made) (so .table) (change-as (copied (childOf c)) (ap becameOf e));
+            used-few = pl .used-few;
+            roots-few = omega (arith, pl .used-few, pl .roots-few);
+            made-few = omega arith;
+          }
+
+      pub halved-can : (c d : declared.Child) → done .became ≡ Halved c d → CanPut (tree .roots) (tree .used) (done .made + 1) (p .tick)
+      halved-can c d e =
+          record {
+            some = pl .some;
+            inside = pl .inside;
+            place = place-for _ _ _ (change-as (halved (childOf c) (childOf d)) (ap becameOf e));
+            used-few = pl .used-few;
+            roots-few = omega (arith, pl .used-few, pl .roots-few);
+            made-few = omega arith;
+          }
+
+    pub copied-way : (c : declared.Child) → done .became ≡ Copied c → (after : List ℕ) (r : TreeUse) →
+        RootPut (tree .roots) (tree .used) (done .made) (c .page) (p .tick) after r → EnteredAs tree p now after r
+    copied-way c e after r put =
+        let w = enter-as (copied (childOf c)) (ap becameOf e) in
+        let parts = put-parts tree (p .tick) (c .page) (so .made) (so .table) in
+        let root : ℕ → Tree = λ (n : ℕ). withRoot (rootTree (tree .roots) (tree .used)) (p .tick) (c .page) [] n .tree in
+        record {
+          table-is = now-is ∙ sym (parts .0) ∙ ap (λ (x : Tree). x .table) (sym w);
+          roots-are = put .list ∙ ap (λ (n : ℕ). root n .roots) done-made ∙ sym (parts .1) ∙ ap (λ (x : Tree). x .roots) (sym w);
+          use-is = put .use-is ∙ ap (λ (n : ℕ). root n .used) done-made ∙ sym (parts .2) ∙ ap (λ (x : Tree). x .used) (sym w);
+        }
+
+    -- two halves: the new root takes the next page
+    pub halved-room : (c d : declared.Child) → done .became ≡ Halved c d → (tree .used .pages + done .made + 1) * pageWords ≤ length (tree .table)
+    halved-room c d e =
+        let m = made-as (halved (childOf c) (childOf d)) (ap becameOf e) in
+        let parts = put-parts tree (p .tick) (takenPage (tree .used) (so .made)) (so .made + 1) (putPage (so .table) (takenPage (tree .used) (so .made)) (freshPage (level + 1) 0 keyLimit (p .tick) (twoRows (p .tick) (c .high) (c .page) (d .page)))) in
+        omega (arith, pl .room, m, parts .3, done-made)
+
+    pub halved-way : (c d : declared.Child) → done .became ≡ Halved c d → (top : List ℕ) (after : List ℕ) (r : TreeUse) →
+        top ≡ putPage now (tree .used .pages + done .made) (encodePage (twoRowRoot (level + 1) (p .tick) (c .high) (c .page) (d .page))) →
+        RootPut (tree .roots) (tree .used) (done .made + 1) (tree .used .pages + done .made) (p .tick) after r → EnteredAs tree p top after r
+    halved-way c d e top after r is-top put =
+        let w = enter-as (halved (childOf c) (childOf d)) (ap becameOf e) in
+        let new : List ℕ = freshPage (level + 1) 0 keyLimit (p .tick) (twoRows (p .tick) (c .high) (c .page) (d .page)) in
+        let number : ℕ = takenPage (tree .used) (so .made) in
+        let parts = put-parts tree (p .tick) number (so .made + 1) (putPage (so .table) number new) in
+        let root : ℕ → Tree = λ (n : ℕ). withRoot (rootTree (tree .roots) (tree .used)) (p .tick) (tree .used .pages + n) [] (n + 1) .tree in
+        record {
+          table-is =
+              is-top
+              ∙ ap (putPage now (tree .used .pages + done .made)) (two-rows-are (level + 1) (p .tick) (c .high) (c .page) (d .page))
+              ∙ ap₂ (λ (x : List ℕ) (n : ℕ). putPage x (tree .used .pages + n) new) now-is done-made
+              ∙ sym (parts .0)
+              ∙ ap (λ (x : Tree). x .table) (sym w);
+          roots-are = put .list ∙ ap (λ (n : ℕ). root n .roots) done-made ∙ sym (parts .1) ∙ ap (λ (x : Tree). x .roots) (sym w);
+          use-is = put .use-is ∙ ap (λ (n : ℕ). root n .used) done-made ∙ sym (parts .2) ∙ ap (λ (x : Tree). x .used) (sym w);
+        }
+
+-- A planned entry has a root
+pub no-missing : (tree : Tree) (p : Point) → Planned tree p → rootAt tree (p .tick) ≡ Missing → ⊥
+no-missing tree p pl e =
+    let f = plan-facts tree p (pl .plan-is) .1 .root-is in
+    let z : _≡_ {A = ℕ} 0 1 = cc in
+    omega arith

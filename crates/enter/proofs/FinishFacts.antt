@@ -1,0 +1,185 @@
+-- What finishing a page leaves alone: every other page in use, and the table's length. New pages have numbers that were not in use.
+use Prim.Native.Nat.{ℕ, zero, suc, _+_, _*_, _-_, _≤_, _<_}
+use native.Mathlib.Omega.{arith}
+use native.Mathlib.Decide.{decLe}
+use mathlib.Core.Path.{_≡_, refl, ap, _∙_}
+use mathlib.Core.Bool.{Bool, true, false}
+use mathlib.Core.List.{List, [], _∷_, map}
+use lib.ListN.{length, take, drop, length-append, length-replicate, length-take, length-drop, length-map}
+use borrow.Author.Tests.{le-leb, lt-leb}
+use Rattle.words.specs.Lists.{All}
+use Rattle.words.specs.declared.value.Value.{Value}
+use Rattle.words.specs.Words.{lowKey, highKey}
+use Rattle.tree.specs.declared.types.Row.{Row}
+use Rattle.tree.specs.Row.{word, live, rowWords, rowLimit, copyLimit, pageWords, encodeRows}
+use Rattle.tree.specs.KeyOrder.{Placed, placedLow, keepIf, livePlaced, sortBy, keyOrder}
+use Rattle.tree.specs.Edit.{bornAt, withRows}
+use Rattle.tree.specs.Fresh.{zeros, freshPage}
+use Rattle.tree.proofs.Lists.{all-map}
+use Rattle.tree.proofs.Places.{live-order}
+use Rattle.tree.proofs.PageCodec.{encode-length, Fits, with-length}
+use Rattle.page.proofs.OrderRowLaws.{insert-length}
+use Rattle.tree.specs.Tree.{Tree, pageAt, putPage}
+use Rattle.tree.specs.RowSteps.{stays}
+use Rattle.tree.specs.Overflow.{Written, takenPage, copiedRows, lowerCount, lowestKey, gainFirst, totalOf, copyPage, halvePage, splitPage, finishPage}
+use Rattle.tree.proofs.TableLaws.{put-length, put-other}
+use Rattle.enter.proofs.StepRows.{ChildrenFit}
+use Rattle.enter.proofs.SettleLaws.{finish-stays, finish-splits}
+
+-- Rows that are copied are no more than there were, and fit as they did
+live-most : (t from : ℕ) (rows : List Row) → length (livePlaced t from rows) ≤ length rows
+unfolding livePlaced
+live-most t from [] = omega arith
+live-most t from (r ∷ rs) = go (live t r) (live-most t (suc from) rs)
+  where
+    go : (b : Bool) → length (livePlaced t (suc from) rs) ≤ length rs →
+        length (keepIf b (record { place = from; row = r }) (livePlaced t (suc from) rs)) ≤ suc (length rs)
+    go true h = omega arith
+    go false h = omega arith
+
+sort-length : (xs : List Placed) → length (sortBy placedLow xs) ≡ length xs
+unfolding sortBy
+sort-length [] = refl
+sort-length (x ∷ xs) = insert-length placedLow x (sortBy placedLow xs) ∙ ap suc (sort-length xs)
+
+pub copied-most : (t : ℕ) (rows : List Row) → length (copiedRows t rows) ≤ length rows
+copied-most t rows =
+    omega (arith, length-map (keyOrder t rows) (λ (x : Placed). bornAt t (x .row)), sort-length (livePlaced t 0 rows), live-most t 0 rows)
+
+copied-fit : (t : ℕ) → t < 4294967296 → (rows : List Row) → All Fits rows → All Fits (copiedRows t rows)
+copied-fit t small rows fit = mapped (keyOrder t rows) (live-order Fits t rows (all-map Fits _ (λ (r : Row) (f : Fits r) l. f) rows fit))
+  where
+    mapped : (xs : List Placed) → All (λ (x : Placed). Fits (x .row)) xs → All Fits (map (λ (x : Placed). bornAt t (x .row)) xs)
+    mapped [] h = tt
+    mapped (x ∷ xs) h = (record { low = h .0 .low; high = h .0 .high; birth = small }, mapped xs (h .1))
+
+all-drop : (n : ℕ) (rows : List Row) → All Fits rows → All Fits (drop n rows)
+all-drop zero rows h = h
+all-drop (suc n) [] h = tt
+all-drop (suc n) (r ∷ rs) h = all-drop n rs (h .1)
+
+lowest-fits : (d : ℕ) (rows : List Row) → d < 65536 → All Fits rows → lowestKey d rows < 65536
+lowest-fits d [] small h = small
+lowest-fits d (r ∷ rs) small h = h .0 .low
+
+gain-first-length : (v : Value) (rows : List Row) → length (gainFirst v rows) ≡ length rows
+gain-first-length v [] = refl
+gain-first-length v (r ∷ rs) = refl
+
+pub fresh-length : (level low high birth : ℕ) (rows : List Row) → length rows ≤ rowLimit → length (freshPage level low high birth rows) ≡ pageWords
+unfolding freshPage zeros
+fresh-length level low high birth rows few =
+    omega (arith, length-append (encodeRows rows) (zeros (rowWords * (rowLimit - length rows))), encode-length rows, length-replicate {A = ℕ} (rowWords * (rowLimit - length rows)) 0)
+
+pub record Finished (tree : Tree) (so : Written) (page : ℕ) (o : Written) : Type 0 where
+  pub same-length : length (o .table) ≡ length (so .table)
+  pub other : (q : ℕ) → q < tree .used .pages → (q ≡ page → ⊥) → pageAt (o .table) q ≡ pageAt (so .table) q
+  pub children : ChildrenFit (o .became)
+  pub least : so .made ≤ o .made
+  pub most : o .made ≤ so .made + 2
+
+module _ (tree : Tree) (t : ℕ) (small : t < 4294967296) (so : Written) (page : ℕ) (rows : List Row) (fit : All Fits rows) (few : length rows ≤ 67)
+    (whole : length (pageAt (tree .table) page) ≡ pageWords) (inside : page * pageWords + pageWords ≤ length (so .table)) where
+  old : List ℕ
+  old = pageAt (tree .table) page
+
+  moved : List Row
+  moved = copiedRows t rows
+
+  stays-facts : length rows ≤ rowLimit →
+      Finished tree so page (record { table = putPage (so .table) page (withRows (pageAt (tree .table) page) rows); made = so .made; became = stays })
+  stays-facts h =
+      let size : length (withRows (pageAt (tree .table) page) rows) ≡ pageWords = with-length (pageAt (tree .table) page) rows (omega arith) ∙ whole in
+      record {
+        same-length = put-length (so .table) page (withRows (pageAt (tree .table) page) rows) inside size;
+        other = λ q l n. put-other (so .table) page (withRows (pageAt (tree .table) page) rows) inside size q n;
+        children = tt;
+        least = omega arith;
+        most = omega arith;
+      }
+
+  copy-facts : length moved ≤ copyLimit → (tree .used .pages + (so .made + 1)) * pageWords ≤ length (so .table) →
+      Finished tree so page (copyPage tree t so old moved)
+  unfolding old moved
+  copy-facts h room =
+      let n : ℕ = takenPage (tree .used) (so .made) in
+      let new : List ℕ = freshPage (word old 0) (lowKey (word old 2)) (highKey (word old 2)) t moved in
+      let size : length new ≡ pageWords = fresh-length (word old 0) (lowKey (word old 2)) (highKey (word old 2)) t moved (omega arith) in
+      let fits : n * pageWords + pageWords ≤ length (so .table) = omega arith in
+      record {
+        same-length = put-length (so .table) n new fits size;
+        other = λ q l a. put-other (so .table) n new fits size q (omega arith);
+        children = (omega arith, omega arith);
+        least = omega arith;
+        most = omega arith;
+      }
+
+  lower : List Row
+  lower = take (lowerCount moved) moved
+
+  upper : List Row
+  upper = drop (lowerCount moved) moved
+
+  halve-facts : (tree .used .pages + (so .made + 2)) * pageWords ≤ length (so .table) →
+      Finished tree so page (halvePage tree t so old lower upper (lowestKey (highKey (word old 2)) upper))
+  unfolding old moved lower upper
+  halve-facts room =
+      let many : length (copiedRows t rows) ≤ length rows = copied-most t rows in
+      let middle : ℕ = lowestKey (highKey (word old 2)) upper in
+      let n : ℕ = takenPage (tree .used) (so .made) in
+      let m : ℕ = takenPage (tree .used) (so .made + 1) in
+      let first : List ℕ = freshPage (word old 0) (lowKey (word old 2)) middle t lower in
+      let second : List ℕ = freshPage (word old 0) middle (highKey (word old 2)) t (gainFirst (totalOf lower) upper) in
+      let a : length lower ≤ rowLimit = omega (arith, length-take (lowerCount moved) moved) in
+      let b : length (gainFirst (totalOf lower) upper) ≤ rowLimit =
+      omega (arith, gain-first-length (totalOf lower) upper, length-drop (lowerCount moved) moved) in
+      let first-size : length first ≡ pageWords = fresh-length (word old 0) (lowKey (word old 2)) middle t lower a in
+      let second-size : length second ≡ pageWords = fresh-length (word old 0) middle (highKey (word old 2)) t (gainFirst (totalOf lower) upper) b in
+      let first-fits : n * pageWords + pageWords ≤ length (so .table) = omega arith in
+      let between : List ℕ = putPage (so .table) n first in
+      let long : length between ≡ length (so .table) = put-length (so .table) n first first-fits first-size in
+      let second-fits : m * pageWords + pageWords ≤ length between = omega arith in
+      let mid : middle < 65536 = lowest-fits (highKey (word old 2)) upper (omega arith) (all-drop (lowerCount moved) moved (copied-fit t small rows fit)) in
+      record {
+        same-length = put-length between m second second-fits second-size ∙ long;
+        other = λ q l a. put-other between m second second-fits second-size q (omega arith) ∙ put-other (so .table) n first first-fits first-size q (omega arith);
+        children = ((omega arith, mid), (mid, omega arith));
+        least = omega arith;
+        most = omega arith;
+      }
+
+  split-facts : (tree .used .pages + splitPage tree t so old moved .made) * pageWords ≤ length (so .table) → Finished tree so page (splitPage tree t so old moved)
+  unfolding old moved lower upper
+  split-facts room = go (decLe (length moved) copyLimit) room
+    where
+      go : Dec (length moved ≤ copyLimit) → (tree .used .pages + splitPage tree t so old moved .made) * pageWords ≤ length (so .table) →
+          Finished tree so page (splitPage tree t so old moved)
+      go (yes h) r =
+          let e : splitPage tree t so old moved ≡ copyPage tree t so old moved = rw (le-leb _ _ h) in
+          rw e (copy-facts h (rw e at r))
+      go (no h) r =
+          let over : copyLimit < length moved = omega arith in
+          let e : splitPage tree t so old moved ≡ halvePage tree t so old lower upper (lowestKey (highKey (word old 2)) upper) = rw (lt-leb _ _ over) in
+          rw e (halve-facts (rw e at r))
+
+  pub finish-facts : (tree .used .pages + finishPage tree t so page rows .made) * pageWords ≤ length (so .table) → Finished tree so page (finishPage tree t so page rows)
+  unfolding old moved
+  finish-facts room = go (decLe (length rows) rowLimit)
+    where
+      go : Dec (length rows ≤ rowLimit) → Finished tree so page (finishPage tree t so page rows)
+      go (yes h) = rw (finish-stays tree t so page rows h) (stays-facts h)
+      go (no h) =
+          let e = finish-splits tree t so page rows (omega arith) in
+          rw e (split-facts (rw e at room))
+
+-- Finishing a page makes no fewer pages than were made before it
+pub finish-least : (tree : Tree) (t : ℕ) (so : Written) (page : ℕ) (rows : List Row) → so .made ≤ finishPage tree t so page rows .made
+finish-least tree t so page rows = go (decLe (length rows) rowLimit)
+  where
+    split : Dec (length (copiedRows t rows) ≤ copyLimit) → so .made ≤ splitPage tree t so (pageAt (tree .table) page) (copiedRows t rows) .made
+    split (yes h) = rw (le-leb _ _ h) (omega arith)
+    split (no h) = let over : copyLimit < length (copiedRows t rows) = omega arith in rw (lt-leb _ _ over) (omega arith)
+
+    go : Dec (length rows ≤ rowLimit) → so .made ≤ finishPage tree t so page rows .made
+    go (yes h) = rw (finish-stays tree t so page rows h) (omega arith)
+    go (no h) = rw (finish-splits tree t so page rows (omega arith)) (split (decLe (length (copiedRows t rows)) copyLimit))

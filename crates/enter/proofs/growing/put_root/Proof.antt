@@ -1,0 +1,99 @@
+use borrow.Author.Tests.{eq-eqb, ne-eqb}
+use mathlib.Core.Path.{_≡_, sym, _∙_}
+use Prim.Native.Nat.{_-_}
+use native.Mathlib.Omega.{arith}
+use Rattle.words.specs.Words.{birthOf, lifeWord}
+use Rattle.words.proofs.OverwriteLaws.{overwrite-one}
+use Rattle.tree.specs.Row.{word}
+use borrow.Author.Needs.{needs}
+use Rattle.enter.proofs.growing.put_root.Statement.{statement}
+use Rattle.enter.proofs.growing.put_root.Tie as tie
+
+cast-count : tie.Need-cast-count
+cast-count c = search needs
+
+life-requires : tie.Need-life-requires
+life-requires c κs = search needs
+
+sub-last : tie.Need-sub-last
+sub-last c = search needs
+
+mul-last : tie.Need-mul-last
+mul-last c = search needs
+
+slice-read-last : tie.Need-slice-read-last
+slice-read-last c = search needs
+
+birth-of-requires : tie.Need-birth-of-requires
+birth-of-requires c κs = search needs
+
+sub-roots : tie.Need-sub-roots
+sub-roots c = search needs
+
+mul-roots : tie.Need-mul-roots
+mul-roots c = search needs
+
+slice-write-roots : tie.Need-slice-write-roots
+slice-write-roots c = search needs
+
+add-t18 : tie.Need-add-t18
+add-t18 c = search needs
+
+same-length : tie.Need-same-length
+same-length c = search needs
+
+returns : tie.Need-returns
+returns c = let a = c .before .before .before .before .before .before .before .args in
+    let born : birthOf (word (a .roots .now) (a .used .roots - 1)) ≡ a .t = sym (c .before .before .birth-of .ensures) ∙ c .before .if1 .taken in
+    record {
+      list = rw (eq-eqb _ _ born, c .before .before .before .before .life .ensures) (overwrite-one (a .roots .now) (a .used .roots - 1) (lifeWord (a .t) (a .page)) (omega (arith, c .before .before .before .before .before .before .before .pre .some, c .before .before .before .before .before .before .before .pre .inside)));
+      use-is = rw (eq-eqb _ _ born);
+    }
+
+mul-roots-2 : tie.Need-mul-roots-2
+mul-roots-2 c = search needs
+
+slice-write-roots-2 : tie.Need-slice-write-roots-2
+slice-write-roots-2 c = let a = c .before .before .before .before .before .before .args in
+    let other : birthOf (word (a .roots .now) (a .used .roots - 1)) ≡ a .t → ⊥ = λ e. c .if1 .left (c .before .birth-of .ensures ∙ e) in
+    omega (arith, c .before .before .before .before .before .before .pre .place other)
+
+add-t13 : tie.Need-add-t13
+add-t13 c = search needs
+
+add-t20 : tie.Need-add-t20
+add-t20 c = omega (arith, c .before .before .before .before .before .before .before .before .pre .roots-few)
+
+same-length-2 : tie.Need-same-length-2
+same-length-2 c = search needs
+
+returns-2 : tie.Need-returns-2
+returns-2 c = let a = c .before .before .before .before .before .before .before .before .args in
+    let other : birthOf (word (a .roots .now) (a .used .roots - 1)) ≡ a .t → ⊥ = λ e. c .before .before .if1 .left (c .before .before .before .birth-of .ensures ∙ e) in
+    record {
+      list = rw (ne-eqb _ _ other, c .before .before .before .before .before .life .ensures) (overwrite-one (a .roots .now) (a .used .roots) (lifeWord (a .t) (a .page)) (c .before .before .before .before .before .before .before .before .pre .place other));
+      use-is = rw (ne-eqb _ _ other);
+    }
+
+pub put-root-spec : {M : Type 1} → statement M
+put-root-spec =
+    tie.close
+    (tie.spec
+    cast-count
+    life-requires
+    sub-last
+    mul-last
+    slice-read-last
+    birth-of-requires
+    sub-roots
+    mul-roots
+    slice-write-roots
+    add-t18
+    same-length
+    returns
+    mul-roots-2
+    slice-write-roots-2
+    add-t13
+    add-t20
+    same-length-2
+    returns-2)

@@ -1,0 +1,81 @@
+-- Entering a point as the code does it: each page is edited in a copy with room for more rows, then written back or split.
+use Prim.Native.Nat.{ℕ, _+_, _*_, _≤_}
+use mathlib.Core.Path.{_≡_}
+use mathlib.Core.List.{List, [], _++_}
+use mathlib.Core.Bool.{true, cond}
+use lib.ListN.{length, take}
+use lib.Dec.{leb}
+use Rattle.words.specs.declared.value.Value.{Value}
+use Rattle.page.specs.declared.order.Place.{Place}
+use Rattle.tree.specs.Row.{word, rowsOf, rowLimit, pageWords}
+use Rattle.page.specs.Survey.{surveyOf}
+use Rattle.page.specs.Entries.{orderSize}
+use Rattle.tree.specs.Fresh.{zeros}
+use Rattle.tree.specs.declared.types.TreeUse.{TreeUse}
+use Rattle.enter.specs.declared.entry.Done.{Done}
+use Rattle.enter.specs.declared.entry.Became as outcome
+use Rattle.tree.specs.Tree.{Tree, pageAt, putPage, topLevel}
+use Rattle.tree.specs.RowSteps.{Point, stays}
+use Rattle.tree.specs.Enter.{enterFrom}
+use Rattle.tree.specs.Plan.{descentSound}
+use Rattle.tree.specs.Overflow.{Written, splitPage, copiedRows}
+use Rattle.enter.specs.PageEdits.{becameOf, leafWords, gainWords, linkWords, rowIn}
+
+-- The copy of a page has room for the 3 rows that one entry may append
+abbrev pub copyWords : ℕ
+copyWords = 272
+
+abbrev pub loaded : List ℕ → ℕ → List ℕ
+loaded table page = pageAt table page ++ zeros 12
+
+-- A tree of which only the use matters
+abbrev pub useOf : List ℕ → TreeUse → Tree
+useOf table used = record { table = table; roots = []; used = used }
+
+abbrev pub madeSo : List ℕ → ℕ → Written
+madeSo table made = record { table = table; made = made; became = stays }
+
+-- The edited copy goes back into the page's own words, or its live rows into new pages
+unfoldable pub settled : TreeUse → ℕ → Written → ℕ → List ℕ → Written
+settled used t so page words =
+    cond (leb (word words 1) rowLimit)
+    (record { table = putPage (so .table) page (take pageWords words); made = so .made; became = stays })
+    (splitPage (useOf (so .table) used) t so words (copiedRows t (rowsOf words)))
+
+-- What the code answers and leaves is this
+pub record DoneAs (so : Written) (table : List ℕ) (done : Done) : Type 0 where
+  pub table-is : table ≡ so .table
+  pub made-is : done .made ≡ so .made
+  pub became-is : becameOf (done .became) ≡ so .became
+
+-- A copy that can be settled: as many words and rows as the code has room for, and pages left for its split
+pub record CanSettle (used : TreeUse) (t : ℕ) (so : Written) (page : ℕ) (words : List ℕ) : Type 0 where
+  pub size : length words ≡ copyWords
+  pub rows : word words 1 ≤ orderSize
+  pub few : so .made ≤ 16
+  pub inside : page * pageWords + pageWords ≤ length (so .table)
+  pub used-few : used .pages ≤ 1000000
+  pub room : (used .pages + settled used t so page words .made) * pageWords ≤ length (so .table)
+
+-- An entry from a page down that the plan found sound and that has room
+pub record CanEnter (tree : Tree) (p : Point) (level page : ℕ) : Type 0 where
+  pub sound : (low : ℕ) × ((high : ℕ) × (descentSound tree p level low high page ≡ true))
+  pub room : (tree .used .pages + enterFrom tree p level page .made) * pageWords ≤ length (tree .table)
+  pub in-table : tree .used .pages * pageWords ≤ length (tree .table)
+  pub used-few : tree .used .pages ≤ 1000000
+  pub low-level : level ≤ topLevel
+
+abbrev pub pointAt : ℕ → ℕ → Value → Point
+pointAt t k v = record { tick = t; key = k; value = v }
+
+-- The edits of a leaf, of a lowest page above it, and of a page above the lowest
+abbrev pub leafEdited : ℕ → ℕ → Value → List ℕ → ℕ → List ℕ
+leafEdited t k v table page =
+    let s = surveyOf t k (pageAt table page) in
+    leafWords t k v (loaded table page) (s .inner) (s .gain)
+
+abbrev pub gainEdited : ℕ → Value → List ℕ → ℕ → Place → List ℕ
+gainEdited t v table page gain = gainWords t v (loaded table page) gain
+
+abbrev pub linkEdited : ℕ → Value → List ℕ → ℕ → Place → ℕ → outcome.Became → List ℕ
+linkEdited t v table page gain place became = linkWords t (gainWords t v (loaded table page) gain) place (rowIn (loaded table page) place) became

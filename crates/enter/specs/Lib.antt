@@ -1,0 +1,5 @@
+-- Entering a point as the code does it.
+pub mod PageEdits
+pub mod SplitWords
+pub mod EnterWords
+pub mod EnterRoot

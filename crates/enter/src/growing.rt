@@ -1,0 +1,75 @@
+// Entering a point into a tree: from the root for its tick down, and what a root overflow does to the root list.
+use crate::entering::enter_from;
+use crate::entry::Became;
+use lookup::find_root;
+use crate::split::put_page;
+use crate::split::taken_page;
+use tree::Root;
+use tree::TreeUse;
+use page::Page;
+use words::Value;
+ghost use mathlib.Core.Path.{_≡_};
+ghost use Prim.Native.Nat.{_+_, _≤_, _<_};
+ghost use lib.ListN.{length};
+ghost use Rattle.tree.specs.Tree.{Tree};
+ghost use Rattle.enter.specs.EnterRoot.{rootTree, RootPut, CanPut, Planned, EnteredAs};
+ghost use Rattle.enter.specs.EnterWords.{pointAt};
+
+// Puts a root born at t into the list: over the last entry where that was born at t, else behind it. Returns what the tree uses then.
+fn put_root(roots: &mut [u64], used: TreeUse, made: u32, page: u32, t: u32) -> TreeUse
+    requires { ⌜ CanPut (now roots) used made t ⌝ }
+    ensures { λ r. ⌜ RootPut (now (roots .entry)) used made page t (now (roots .exit)) r ⌝ }
+{
+    let count = used.roots as usize;
+    let entry = words::life(t, page);
+    let last = roots[count - 1];
+    if words::birth_of(last) == t {
+        roots[count - 1] = entry;
+        return TreeUse {
+            pages: used.pages + made,
+            roots: used.roots,
+        };
+    }
+    roots[count] = entry;
+    TreeUse {
+        pages: used.pages + made,
+        roots: used.roots + 1,
+    }
+}
+
+// Enters a point that was planned and has room; it cannot refuse. Returns what the tree uses then.
+pub fn enter(
+    table: &mut [u64],
+    roots: &mut [u64],
+    used: TreeUse,
+    t: u32,
+    k: u16,
+    value: Value,
+) -> TreeUse
+    requires { ⌜ Planned (record { table = now table; roots = now roots; used = used }) (pointAt t k value) ⌝ }
+    ensures { λ r. ⌜ EnteredAs (record { table = now (table .entry); roots = now (roots .entry); used = used }) (pointAt t k value) (now (table .exit)) (now (roots .exit)) r ⌝ }
+{
+    let found = find_root(roots, used.roots as usize, t);
+    let Root::At(root) = found else {
+        return used;
+    };
+    let level = table[root as usize * 260];
+    let done = enter_from(table, used, level, root, k, value, t);
+    let became = done.became;
+    match became {
+        Became::Stays => TreeUse {
+            pages: used.pages + done.made,
+            roots: used.roots,
+        },
+        Became::Copied(child) => put_root(roots, used, done.made, child.page, t),
+        Became::Halved(lower, upper) => {
+            let number = taken_page(used, done.made);
+            put_page(
+                table,
+                number,
+                Page::two_row_root(level + 1, t, lower.high, lower.page, upper.page),
+            );
+            put_root(roots, used, done.made + 1, number, t)
+        }
+    }
+}

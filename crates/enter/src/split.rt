@@ -1,0 +1,179 @@
+// The pages that an overflow makes. The rows of the page that overflowed are copied in key order from its words, of which `order` has the entries.
+use crate::edits::born_at;
+use crate::edits::gained_row;
+use crate::entry::Became;
+use crate::entry::Child;
+use crate::entry::Done;
+use tree::TreeUse;
+use page::Page;
+use words::Value;
+ghost use mathlib.Core.Path.{_≡_};
+ghost use Prim.Native.Nat.{_+_, _*_, _-_, _≤_, _<_};
+ghost use lib.ListN.{length, drop};
+ghost use Rattle.words.specs.Value as value;
+ghost use Rattle.tree.specs.Row.{word, pageWords, rowLimit, copyLimit};
+ghost use Rattle.page.specs.PageValue.{encodePage};
+ghost use Rattle.page.specs.Entries.{orderSize, InPage};
+ghost use Rattle.tree.specs.Tree.{putPage};
+ghost use Rattle.tree.specs.Overflow.{takenPage};
+ghost use Rattle.enter.specs.PageEdits.{becameOf};
+ghost use Rattle.enter.specs.SplitWords.{scratchWords, Sourced, between, fillPage, addRows, gainPage, copiedTable, middleKey, halvedTable, splitWords};
+
+// The page with the rows of the entries from one place of the order up to another, each born at t and open.
+fn filled(words: &[u64], order: &[u64], from: usize, to: usize, blank: Page, t: u32) -> Page
+    requires { ⌜ length (now order) ≡ orderSize ⌝ }
+    requires { ⌜ from ≤ to ⌝ }
+    requires { ⌜ to ≤ orderSize ⌝ }
+    requires { ⌜ blank .count + (to - from) ≤ rowLimit ⌝ }
+    requires { ⌜ InPage (now words) (drop from (now order)) ⌝ }
+    ensures { λ r. ⌜ r ≡ fillPage (now (words .entry)) t blank (between from to (now (order .entry))) ⌝ }
+{
+    let mut page = blank;
+    let mut at = from;
+    while at < to {
+        let row = page::row_at(words, page::entry_place(order[at]));
+        page = page.with_row(born_at(row, t));
+        at += 1;
+    }
+    page
+}
+
+// The total of the rows of the entries from one place of the order up to another.
+fn total_of(words: &[u64], order: &[u64], from: usize, to: usize) -> Value
+    requires { ⌜ length (now order) ≡ orderSize ⌝ }
+    requires { ⌜ from ≤ to ⌝ }
+    requires { ⌜ to ≤ orderSize ⌝ }
+    requires { ⌜ InPage (now words) (drop from (now order)) ⌝ }
+    ensures { λ r. ⌜ r ≡ addRows (now (words .entry)) value.zero (between from to (now (order .entry))) ⌝ }
+{
+    let mut total = Value::zero();
+    let mut at = from;
+    while at < to {
+        let row = page::row_at(words, page::entry_place(order[at]));
+        total = total.plus(row.value);
+        at += 1;
+    }
+    total
+}
+
+// The page with a value added to its first row.
+fn gain_first(mut page: Page, value: Value) -> Page
+    ensures { λ r. ⌜ r ≡ gainPage value page ⌝ }
+{
+    let first = page.rows[0];
+    page.rows[0] = gained_row(first, value);
+    page
+}
+
+// Writes a page into its own part of the table.
+pub fn put_page(table: &mut [u64], number: u32, page: Page)
+    requires { ⌜ (number + 1) * pageWords ≤ length (now table) ⌝ }
+    requires { ⌜ page .count ≤ rowLimit ⌝ }
+    ensures { λ _. ⌜ now (table .exit) ≡ putPage (now (table .entry)) number (encodePage page) ⌝ }
+{
+    let from = number as usize * 260;
+    let to = from + 260;
+    page.write(&mut table[from..to]);
+}
+
+// All live rows go to one new page of the old page's level and key range.
+fn copy_rows(table: &mut [u64], number: u32, words: &[u64], order: &[u64], start: usize, t: u32)
+    requires { ⌜ Sourced t (now words) (now order) start ⌝ }
+    requires { ⌜ orderSize ≤ start + copyLimit ⌝ }
+    requires { ⌜ (number + 1) * pageWords ≤ length (now table) ⌝ }
+    ensures { λ _. ⌜ now (table .exit) ≡ copiedTable (now (table .entry)) number (now (words .entry)) t ⌝ }
+{
+    let range = words[2];
+    let blank = Page::empty(words[0], words::low_key(range), words::high_key(range), t);
+    put_page(table, number, filled(words, order, start, 67, blank, t));
+}
+
+// The live rows go to two new pages, which are cut at the low key of the upper page's first row: that key is the result.
+fn halve_rows(
+    table: &mut [u64],
+    first: u32,
+    second: u32,
+    words: &[u64],
+    order: &[u64],
+    start: usize,
+    t: u32,
+) -> u16
+    requires { ⌜ Sourced t (now words) (now order) start ⌝ }
+    requires { ⌜ start + copyLimit < orderSize ⌝ }
+    requires { ⌜ (first + 1) * pageWords ≤ length (now table) ⌝ }
+    requires { ⌜ (second + 1) * pageWords ≤ length (now table) ⌝ }
+    ensures { λ r. ⌜ r ≡ middleKey (now (words .entry)) t ⌝ }
+    ensures { λ _. ⌜ now (table .exit) ≡ halvedTable (now (table .entry)) first second (now (words .entry)) t ⌝ }
+{
+    let live = 67 - start;
+    let cut = start + (live + 1) / 2;
+    let level = words[0];
+    let range = words[2];
+    let middle = page::row_at(words, page::entry_place(order[cut])).low;
+    let lower = Page::empty(level, words::low_key(range), middle, t);
+    let upper = Page::empty(level, middle, words::high_key(range), t);
+    let below = total_of(words, order, start, cut);
+    put_page(table, first, filled(words, order, start, cut, lower, t));
+    put_page(
+        table,
+        second,
+        gain_first(filled(words, order, cut, 67, upper, t), below),
+    );
+    middle
+}
+
+// The number of the i-th page that a call takes, counted from 0.
+pub fn taken_page(used: TreeUse, i: u32) -> u32
+    requires { ⌜ used .pages ≤ 1000000 ⌝ }
+    requires { ⌜ i ≤ 32 ⌝ }
+    ensures { λ r. ⌜ r ≡ takenPage used i ⌝ }
+{
+    used.pages + i
+}
+
+// Step 5: the live rows of a page that has too many go to one new page, or to two, which take the next free numbers.
+pub fn split_page(table: &mut [u64], used: TreeUse, made: u32, words: &[u64], t: u32) -> Done
+    requires { ⌜ length (now words) ≡ scratchWords ⌝ }
+    requires { ⌜ word (now words) 1 ≤ orderSize ⌝ }
+    requires { ⌜ made ≤ 16 ⌝ }
+    requires { ⌜ used .pages ≤ 1000000 ⌝ }
+    requires { ⌜ (used .pages + splitWords (now table) used made (now words) t .made) * pageWords ≤ length (now table) ⌝ }
+    ensures { λ _. ⌜ now (table .exit) ≡ splitWords (now (table .entry)) used made (now (words .entry)) t .table ⌝ }
+    ensures { λ r. ⌜ r .made ≡ splitWords (now (table .entry)) used made (now (words .entry)) t .made ⌝ }
+    ensures { λ r. ⌜ becameOf (r .became) ≡ splitWords (now (table .entry)) used made (now (words .entry)) t .became ⌝ }
+{
+    let mut order = [0u64; 67];
+    let start = page::key_order(words, words[1] as usize, t, &mut order);
+    let number = taken_page(used, made);
+    let range = words[2];
+    let low = words::low_key(range);
+    let high = words::high_key(range);
+    if 67 - start <= Page::COPIED {
+        copy_rows(table, number, words, &order, start, t);
+        let copy = Child {
+            page: number,
+            low,
+            high,
+        };
+        return Done {
+            became: Became::Copied(copy),
+            made: made + 1,
+        };
+    }
+    let second = taken_page(used, made + 1);
+    let middle = halve_rows(table, number, second, words, &order, start, t);
+    let lower = Child {
+        page: number,
+        low,
+        high: middle,
+    };
+    let upper = Child {
+        page: second,
+        low: middle,
+        high,
+    };
+    Done {
+        became: Became::Halved(lower, upper),
+        made: made + 2,
+    }
+}

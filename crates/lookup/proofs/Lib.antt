@@ -1,0 +1,3 @@
+-- Laws of the root search and of the lookup.
+pub mod RootSearch
+pub mod LookupLaws

@@ -1,0 +1,6 @@
+// The root search and the lookup of one tree, in a lent page table and a lent root list.
+mod descent;
+mod roots;
+
+pub use descent::lookup;
+pub use roots::find_root;

@@ -1,0 +1,118 @@
+-- The plan at the root: step 8 by counts, and one law for each way through the code's tests.
+use Prim.Native.Nat.{ℕ, _+_, _*_, _≤_, _<_}
+use native.Mathlib.Omega.{arith}
+use native.Mathlib.Decide.{decLe}
+use mathlib.Core.Path.{_≡_, refl, sym, ap, _∙_}
+use mathlib.Core.Bool.{Bool, true, false, cond, _&&_, not, and-eq-true-iff}
+use mathlib.Core.List.{List}
+use lib.Dec.{eqb}
+use lib.ListN.{take}
+use borrow.Author.Tests.{le-ltb, lt-ltb, le-leb, lt-leb}
+use Rattle.words.specs.Words.{openEnd, keyLimit, birthOf}
+use Rattle.tree.specs.Row.{word, pageWords}
+use Rattle.plan.specs.declared.planning.Planned.{Planned}
+use Rattle.plan.specs.declared.planning.Planned.the-variants as planned
+use Rattle.tree.specs.declared.types.Root.the-variants.{At, Missing}
+use Rattle.tree.specs.declared.types.Plan.{Plan}
+use Rattle.tree.specs.declared.types.Plan.the-variants.{Spoiled, Ready}
+use Rattle.tree.specs.declared.types.RootChange.the-variants.{Kept, Added, Replaced}
+use Rattle.tree.specs.Tree.{Tree, levelOf, lastRoot, rootFor, rootAt, rootInUse, topLevel}
+use Rattle.tree.specs.RowSteps.{Point, Became, stays, copied, halved}
+use Rattle.tree.specs.Overflow.{Written}
+use Rattle.tree.specs.Enter.{Entered, enteredAs, enterFrom, enterRoot}
+use Rattle.tree.specs.Plan.{isHalved, topMustSplit, descentSound, planRoot, plan}
+use Rattle.plan.specs.PlanSteps.{planTop, planFrom}
+use Rattle.lookup.proofs.RootSearch.{root-none}
+use Rattle.lookup.proofs.LookupLaws.{level-in-table}
+use Rattle.plan.proofs.PlanLaws.{partsIn, outcome, plan-from-is}
+
+-- What the root's own plan makes of the whole
+abbrev pub planEnd : ℕ → ℕ → ℕ → Planned → Plan
+planEnd top last t planned.Spoiled = Spoiled
+planEnd top last t (planned.Made made parts) = planTop made parts top last t
+
+-- A root entry is added or replaces the last one, whatever else is written
+root-said : (q : Bool) (a b : Entered) (m : ℕ) → a .made ≡ m → b .made ≡ m → a .root ≡ Replaced → b .root ≡ Added →
+    Ready m (cond q Replaced Added) ≡ Ready (cond q a b .made) (cond q a b .root)
+root-said true a b m p q r s = λ i. Ready (sym p i) (sym r i)
+root-said false a b m p q r s = λ i. Ready (sym q i) (sym s i)
+
+not-split : (e : Bool) (x : Plan) → x ≡ cond (not (e && false)) x Spoiled
+not-split true x = refl
+not-split false x = refl
+
+split-test : (e : Bool) (x : Plan) → cond e Spoiled x ≡ cond (not (e && true)) x Spoiled
+split-test true x = refl
+split-test false x = refl
+
+join-tests : (a b : Bool) (x : Plan) → cond a (cond b x Spoiled) Spoiled ≡ cond (a && b) x Spoiled
+join-tests true b x = refl
+join-tests false b x = refl
+
+end-test : (top last t : ℕ) (b : Bool) (x : Planned) → planEnd top last t (cond b x planned.Spoiled) ≡ cond b (planEnd top last t x) Spoiled
+end-test top last t true x = refl
+end-test top last t false x = refl
+
+top-is : (tree : Tree) (t top : ℕ) (so : Written) (b : Became) → planTop (so .made) (partsIn b) top (lastRoot tree) t
+    ≡ cond (not (eqb top topLevel && isHalved b)) (Ready (enteredAs tree t top so b .made) (enteredAs tree t top so b .root)) Spoiled
+unfolding planTop
+top-is tree t top so stays = not-split (eqb top topLevel) (Ready (so .made) Kept)
+top-is tree t top so (copied c) =
+    root-said (eqb (birthOf (lastRoot tree)) t) _ _ (so .made) refl refl refl refl
+    ∙ not-split (eqb top topLevel) (Ready (enteredAs tree t top so (copied c) .made) (enteredAs tree t top so (copied c) .root))
+top-is tree t top so (halved c d) =
+    ap (λ (x : Plan). cond (eqb top topLevel) Spoiled x)
+    (root-said (eqb (birthOf (lastRoot tree)) t) _ _ (so .made + 1) refl refl refl refl)
+    ∙ split-test (eqb top topLevel) (Ready (enteredAs tree t top so (halved c d) .made) (enteredAs tree t top so (halved c d) .root))
+
+-- Where there is a root, there is a last entry
+pub some-root : (roots : List ℕ) (t used : ℕ) {page : ℕ} → rootFor t (take used roots) ≡ At page → 0 < used
+some-root roots t used {page} e = go (decLe used 0)
+  where
+    go : Dec (used ≤ 0) → 0 < used
+    go (yes h) =
+        let none : rootFor t (take used roots) ≡ Missing = root-none roots t h in
+        let z : _≡_ {A = ℕ} 0 1 = cc in
+        absurd (omega arith)
+    go (no h) = omega arith
+
+module _ (tree : Tree) (p : Point) where
+  pub no-root-plan : rootAt tree (p .tick) ≡ Missing → plan tree p ≡ Spoiled
+  unfolding plan
+  no-root-plan e = ap (planRoot tree p) e
+
+  module _ (page : ℕ) (found : rootAt tree (p .tick) ≡ At page) where
+    pub unused-plan : tree .used .pages ≤ page → plan tree p ≡ Spoiled
+    unfolding plan
+    unused-plan h = ap (planRoot tree p) found ∙ rw (le-ltb page (tree .used .pages) h)
+
+    pub too-high-plan : page < tree .used .pages → topLevel < word (tree .table) (page * pageWords) → plan tree p ≡ Spoiled
+    unfolding plan
+    too-high-plan h high =
+        let above : topLevel < levelOf (tree .table) page = rw (level-in-table (tree .table) page) high in
+        ap (planRoot tree p) found ∙ rw (lt-ltb page (tree .used .pages) h, lt-leb (levelOf (tree .table) page) topLevel above)
+
+    module _ (small : p .tick < openEnd) (h : page < tree .used .pages) (fits : word (tree .table) (page * pageWords) ≤ topLevel) where
+      in-use : rootInUse tree page ≡ true
+      in-use =
+          let low : levelOf (tree .table) page ≤ topLevel = rw (level-in-table (tree .table) page) fits in
+          and-eq-true-iff _ _ .1 (lt-ltb page (tree .used .pages) h, le-leb (levelOf (tree .table) page) topLevel low)
+
+      abbrev fromLevel : ℕ → Plan
+      fromLevel level =
+          planEnd level (lastRoot tree) (p .tick) (planFrom (tree .table) (tree .used .pages) (p .tick) (p .key) level 0 keyLimit page)
+
+      pub opened-plan : plan tree p ≡ fromLevel (word (tree .table) (page * pageWords))
+      unfolding plan enterRoot
+      opened-plan =
+          let level : ℕ = levelOf (tree .table) page in
+          let so : Written = enterFrom tree p level page in
+          let sound : Bool = descentSound tree p level 0 keyLimit page in
+          let whole : Plan = Ready (enterRoot tree p page .made) (enterRoot tree p page .root) in
+          ap (planRoot tree p) found
+          ∙ ap (λ (b : Bool). cond (b && (sound && not (topMustSplit tree p page))) whole Spoiled) in-use
+          ∙ sym (ap (planEnd level (lastRoot tree) (p .tick)) (plan-from-is tree p small level 0 keyLimit page)
+          ∙ end-test level (lastRoot tree) (p .tick) sound (outcome so)
+          ∙ ap (λ (x : Plan). cond sound x Spoiled) (top-is tree (p .tick) level so (so .became))
+          ∙ join-tests sound (not (topMustSplit tree p page)) whole)
+          ∙ ap fromLevel (level-in-table (tree .table) page)

@@ -1,0 +1,241 @@
+// The plan of an entry, made before anything is written: whether a spoiled page is met, how many pages the entry makes, and what it
+// does to the root list. Only counts of rows decide that, so the plan reads each page once and copies no row.
+use lookup::find_root;
+use tree::Plan;
+use tree::Root;
+use tree::RootChange;
+use tree::TreeUse;
+use page::Page;
+use page::Place;
+use tree::Row;
+use page::Surveyed;
+ghost use mathlib.Core.Path.{_≡_};
+ghost use mathlib.Core.Bool.{cond};
+ghost use Prim.Native.Nat.{_+_, _*_, _≤_, _<_};
+ghost use lib.ListN.{length};
+ghost use lib.Dec.{eqb};
+ghost use Rattle.words.specs.declared.value.Value.{Value};
+ghost use Rattle.words.specs.Words.{openEnd, birthOf};
+ghost use Rattle.tree.specs.Row.{pageWords};
+ghost use Rattle.tree.specs.declared.types.RootChange.the-variants as change;
+ghost use Rattle.tree.specs.Tree.{topLevel};
+ghost use Rattle.tree.specs.Plan.{plan};
+ghost use Rattle.plan.specs.PlanSteps.{InWords, appended, metWords, metPage, Few, FewParts};
+ghost use Rattle.plan.specs.PlanSteps.{partsOf, planPage, planAbove, planFrom, planTop};
+
+// The rows of a page before the entry: how many, how many live, and how many rows are appended where the row that gains the point,
+// or the row around the key, is replaced: 0 for a row that is altered where it is, else 1.
+pub struct Counts {
+    pub rows: usize,
+    pub live: usize,
+    pub gain: usize,
+    pub inner: usize,
+}
+
+// What step 1 meets: a spoiled page, a page without a row around the key, or one with such a row.
+pub enum Met {
+    Spoiled,
+    Lowest(Counts),
+    Around { counts: Counts, row: Row },
+}
+
+// What the entry does from a page down: it meets a spoiled page, or makes so many pages, of which the last `parts` take the rows of the page
+// itself: 0 where the page keeps its rows.
+pub enum Planned {
+    Spoiled,
+    Made { made: u32, parts: u32 },
+}
+
+// How many rows are appended where the row at a place is replaced at t.
+fn appended_for(words: &[u64], place: Place, t: u32) -> usize
+    requires { ⌜ InWords (now words) place ⌝ }
+    ensures { λ r. ⌜ r ≡ appended t (now (words .entry)) place ⌝ }
+{
+    let Place::At(at) = place else {
+        return 0;
+    };
+    let row = page::row_at(words, at);
+    if row.birth == t {
+        return 0;
+    }
+    1
+}
+
+// One page of the descent, as one of this level and key range.
+fn meet_words(words: &[u64], level: u64, low: u16, high: u16, t: u32, k: u16) -> Met
+    requires { ⌜ length (now words) ≡ pageWords ⌝ }
+    ensures { λ r. ⌜ r ≡ metWords t k level low high (now (words .entry)) ⌝ }
+{
+    let surveyed = page::survey_sound(words, level, low, high, t, k);
+    let Surveyed::Sound(survey) = surveyed else {
+        return Met::Spoiled;
+    };
+    let gain = survey.gain;
+    let inner = survey.inner;
+    let counts = Counts {
+        rows: survey.rows,
+        live: survey.live,
+        gain: appended_for(words, gain, t),
+        inner: appended_for(words, inner, t),
+    };
+    match inner {
+        Place::Missing => Met::Lowest(counts),
+        Place::At(at) => {
+            let row = page::row_at(words, at);
+            Met::Around { counts, row }
+        }
+    }
+}
+
+// The same in the table: a page number that is not in use is spoiled too.
+fn meet_page(
+    table: &[u64],
+    pages: u32,
+    page: u32,
+    level: u64,
+    low: u16,
+    high: u16,
+    t: u32,
+    k: u16,
+) -> Met
+    requires { ⌜ pages * pageWords ≤ length (now table) ⌝ }
+    ensures { λ r. ⌜ r ≡ metPage (now (table .entry)) pages t k level low high page ⌝ }
+{
+    if page < pages {
+        let from = page as usize * 260;
+        let to = from + 260;
+        return meet_words(&table[from..to], level, low, high, t, k);
+    }
+    Met::Spoiled
+}
+
+// How many pages take the rows of a page that has so many rows, and so many live ones, after the steps.
+fn parts_of(rows: usize, live: usize) -> u32
+    ensures { λ r. ⌜ r ≡ partsOf rows live ⌝ }
+{
+    if rows <= Page::ROWS {
+        return 0;
+    }
+    if live <= Page::COPIED {
+        return 1;
+    }
+    2
+}
+
+// A page after its steps, with the pages made before it.
+fn plan_page(made: u32, rows: usize, live: usize) -> Planned
+    requires { ⌜ made ≤ 6 ⌝ }
+    ensures { λ r. ⌜ r ≡ planPage made rows live ⌝ }
+{
+    let parts = parts_of(rows, live);
+    Planned::Made {
+        made: made + parts,
+        parts,
+    }
+}
+
+// A page above the lowest, after its step 3 and, where its child's rows went to new pages, its step 7.
+fn plan_above(counts: Counts, below: Planned) -> Planned
+    requires { ⌜ Few counts ⌝ }
+    requires { ⌜ FewParts 6 below ⌝ }
+    ensures { λ r. ⌜ r ≡ planAbove counts below ⌝ }
+{
+    let Planned::Made { made, parts } = below else {
+        return Planned::Spoiled;
+    };
+    let rows = counts.rows + counts.gain;
+    if parts == 0 {
+        return plan_page(made, rows, counts.live);
+    }
+    let more = parts as usize - 1;
+    plan_page(made, rows + counts.inner + more, counts.live + more)
+}
+
+// What the entry does from a page of a level down: steps 1 to 7.
+fn plan_from(
+    table: &[u64],
+    pages: u32,
+    page: u32,
+    level: u64,
+    low: u16,
+    high: u16,
+    t: u32,
+    k: u16,
+) -> Planned
+    requires { ⌜ pages * pageWords ≤ length (now table) ⌝ }
+    requires { ⌜ level ≤ topLevel ⌝ }
+    ensures { λ r. ⌜ r ≡ planFrom (now (table .entry)) pages t k level low high page ⌝ }
+{
+    let met = meet_page(table, pages, page, level, low, high, t, k);
+    match met {
+        Met::Spoiled => Planned::Spoiled,
+        Met::Lowest(counts) => plan_page(0, counts.rows + counts.gain, counts.live),
+        Met::Around { counts, row } => {
+            if level == 0 {
+                return plan_page(0, counts.rows + counts.inner + 1, counts.live + 1);
+            }
+            let below = plan_from(table, pages, row.child, level - 1, row.low, row.high, t, k);
+            plan_above(counts, below)
+        }
+    }
+}
+
+// What a new root does to the root list, whose last entry is `last`: it adds an entry, or replaces the last one if that was born at t.
+fn root_change(last: u64, t: u32) -> RootChange
+    ensures { λ r. ⌜ r ≡ cond (eqb (birthOf last) t) change.Replaced change.Added ⌝ }
+{
+    if words::birth_of(last) == t {
+        return RootChange::Replaced;
+    }
+    RootChange::Added
+}
+
+// Step 8, for a root of level `top`: two halves get a new root, unless the root is at level 3 already.
+fn plan_top(made: u32, parts: u32, top: u64, last: u64, t: u32) -> Plan
+    requires { ⌜ made ≤ 8 ⌝ }
+    ensures { λ r. ⌜ r ≡ planTop made parts top last t ⌝ }
+{
+    if parts == 0 {
+        return Plan::Ready {
+            made,
+            root: RootChange::Kept,
+        };
+    }
+    let root = root_change(last, t);
+    if parts == 1 {
+        return Plan::Ready { made, root };
+    }
+    if top == 3 {
+        return Plan::Spoiled;
+    }
+    Plan::Ready {
+        made: made + 1,
+        root,
+    }
+}
+
+// What entering a point of any value at tick t and key k would do. Nothing is written.
+pub fn plan(table: &[u64], roots: &[u64], used: TreeUse, t: u32, k: u16) -> Plan
+    requires { ⌜ used .pages * pageWords ≤ length (now table) ⌝ }
+    requires { ⌜ used .roots ≤ length (now roots) ⌝ }
+    requires { ⌜ t < openEnd ⌝ }
+    ensures { λ r. ⌜ ((v : Value) → r ≡ plan (record { table = now (table .entry); roots = now (roots .entry); used = used }) (record { tick = t; key = k; value = v })) ⌝ }
+{
+    let found = find_root(roots, used.roots as usize, t);
+    let Root::At(root) = found else {
+        return Plan::Spoiled;
+    };
+    if used.pages <= root {
+        return Plan::Spoiled;
+    }
+    let top = table[root as usize * 260];
+    if 3 < top {
+        return Plan::Spoiled;
+    }
+    let planned = plan_from(table, used.pages, root, top, 0, 30000, t, k);
+    let Planned::Made { made, parts } = planned else {
+        return Plan::Spoiled;
+    };
+    let last = roots[used.roots as usize - 1];
+    plan_top(made, parts, top, last, t)
+}

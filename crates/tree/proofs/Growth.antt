@@ -1,0 +1,357 @@
+-- What holds of every grown tree: after opening, and after each point that found room.
+use Prim.Native.Nat.{ℕ, suc, _+_, _*_, _/_, _%_, _^_, _≤_, _<_, min}
+use native.Mathlib.Omega.{arith}
+use mathlib.Core.Path.{_≡_, refl, sym, ap, _∙_, subst}
+use mathlib.Core.Bool.{Bool, true, false, cond, _&&_, _||_, not, and-eq-true-iff, false≢true}
+use mathlib.Core.List.{List, [], _∷_}
+use lib.Dec.{leb, eqb}
+use lib.ListN.{length, take}
+use borrow.Author.Tests.{le-leb, lt-ltb, eq-eqb, eqb-true}
+use Rattle.words.specs.Words.{keyLimit, rootEntry}
+use Rattle.words.specs.declared.value.Value.{Value}
+use Rattle.words.specs.Value as value
+use Rattle.words.proofs.OverwriteLaws.{overwrite-length}
+use Rattle.words.proofs.Measure.{Measure, countOf, sumOf, count-measure, sum-measure}
+use Rattle.tree.specs.Row.{rowsOf}
+use Rattle.tree.specs.Fresh.{newRow}
+use Rattle.tree.proofs.Lists.{sumBy}
+use Rattle.tree.proofs.TrueValueSums.{numberIf, total-measure}
+use Rattle.tree.specs.declared.types.Root.the-variants.{At}
+use Rattle.tree.specs.declared.types.RootChange.the-variants.{Added}
+use Rattle.tree.specs.declared.types.Plan.the-variants.{Spoiled, Ready}
+use Rattle.tree.specs.Tree.{Tree, pageAt, levelOf, rootAt, rootFor}
+use Rattle.tree.specs.RowSteps.{Point, Became, stays, copied, halved}
+use Rattle.tree.specs.Enter.{enterFrom, enterRoot}
+use Rattle.tree.specs.Plan.{isHalved, topMustSplit, descentSound, planRoot, plan, enteredRoot, enter}
+use Rattle.tree.specs.Grown.{firstPage, openedTree, grow, lastTick, InTime, Room, Admitted}
+use Rattle.tree.specs.PointSums.{dominated, pointValue, sumOfPoints, isTaken}
+use Rattle.tree.proofs.ModelSteps as modelSteps
+use Rattle.tree.proofs.ModelPages.{Page, onlyIf}
+use Rattle.tree.proofs.ModelSteps.{State, Outcome, Parts, two, putAt, newPage, topRows, grown, entering, opened}
+use Rattle.tree.proofs.ModelPromise.{Full}
+use Rattle.tree.proofs.GrownStates.{Paid, Invariant, low, holds-used, full-more, entering-keeps, opened-keeps}
+use Rattle.tree.proofs.TableLaws.{put-same, put-length}
+use Rattle.tree.proofs.PageCodec.{fresh-length, fresh-rows}
+use Rattle.tree.proofs.View.{viewTable, view-put, view-fresh}
+use Rattle.tree.proofs.RowViews.{partsOf}
+use Rattle.tree.proofs.RootLaws.{take-written, written-word, root-behind}
+use Rattle.tree.proofs.PageViews.{Agrees}
+use Rattle.tree.proofs.TreeViews.{pageOf, stateOf, WordsKept, state-path, modelOut, root-agrees, grew, grew-words}
+use Rattle.tree.proofs.TreeViews.{entered-state}
+use Rattle.tree.proofs.Descent.{descent-sound}
+
+-- A key that is zero or that some point has: each leaf row starts at such a key
+abbrev pub isKnown : List Point → ℕ → Bool
+isKnown points k = eqb k 0 || isTaken points k
+
+abbrev pub Known : List Point → ℕ → Type 0
+Known points k = isKnown points k ≡ true
+
+known-more : (p : Point) (points : List Point) (k : ℕ) → Known points k → Known (p ∷ points) k
+known-more p points k h = go (eqb k 0) (eqb k (p .key)) h
+  where
+    go : (a b : Bool) → (a || isTaken points k) ≡ true → (a || (b || isTaken points k)) ≡ true
+    go true b e = refl
+    go false true e = refl
+    go false false e = e
+
+pub known-new : (p : Point) (points : List Point) → Known (p ∷ points) (p .key)
+known-new p points = go (eqb (p .key) 0) (eqb (p .key) (p .key)) (eq-eqb (p .key) (p .key) refl)
+  where
+    go : (a b : Bool) → b ≡ true → (a || (b || isTaken points (p .key))) ≡ true
+    go true b e = refl
+    go false true e = refl
+    go false false e = absurd (false≢true e)
+
+-- What a lookup adds, in plain numbers
+abbrev pub numbers : (Value → ℕ) → ℕ → ℕ → List Point → ℕ
+numbers measure t k [] = 0
+numbers measure t k (p ∷ points) = numbers measure t k points + onlyIf (leb (p .tick) t) (onlyIf (leb (p .key) k) (measure (p .value)))
+
+pub numbers-sum : (measure : Value → ℕ) → Measure measure → (t k : ℕ) (points : List Point)
+    → measure (sumOfPoints t k points) ≡ numbers measure t k points % 2 ^ 64
+numbers-sum measure m t k points = total-measure measure m pointValue (dominated t k) points ∙ ap (λ (n : ℕ). n % 2 ^ 64) (same points)
+  where
+    same : (ps : List Point) → sumBy (numberIf (λ (p : Point). measure (pointValue p)) (dominated t k)) ps ≡ numbers measure t k ps
+    same [] = refl
+    same (p ∷ ps) = go (leb (p .tick) t) (leb (p .key) k) (same ps)
+      where
+        go : (a b : Bool) → sumBy (numberIf (λ (p : Point). measure (pointValue p)) (dominated t k)) ps ≡ numbers measure t k ps
+            → cond (a && b) (measure (p .value)) 0 + sumBy (numberIf (λ (p : Point). measure (pointValue p)) (dominated t k)) ps
+            ≡ numbers measure t k ps + onlyIf a (onlyIf b (measure (p .value)))
+        go true true h = omega arith
+        go true false h = omega arith
+        go false b h = omega arith
+
+-- The tree, read by a measure, has the model's invariant for these points
+abbrev pub Tells : (Value → ℕ) → Tree → List Point → Type 0
+Tells measure tree points =
+    Invariant (Known points) (lastTick points) (stateOf measure tree) (λ t k. numbers measure t k points) (72 + 8 * length points)
+
+pub record Kept (tree : Tree) (points : List Point) : Type 0 where
+  pub words : WordsKept tree (lastTick points)
+  pub counts : Tells countOf tree points
+  pub sumEntries : Tells sumOf tree points
+
+-- An entry into a grown tree
+module _ (measure : Value → ℕ) (m : Measure measure) (tree : Tree) (points : List Point) (p : Point)
+    (words : WordsKept tree (lastTick points)) (tells : Tells measure tree points) (time : InTime (lastTick points) p)
+    (page : ℕ) (is-root : rootAt tree (p .tick) ≡ At page) where
+  pub now-paid : Paid (Known points) (viewTable measure (tree .table)) (tree .used .pages) (p .tick)
+      (λ k. numbers measure (p .tick) k points) page (72 + 8 * length points)
+  now-paid =
+      subst
+      (λ (x : ℕ). Paid (Known points) (viewTable measure (tree .table)) (tree .used .pages) (p .tick)
+      (λ k. numbers measure (p .tick) k points) x
+      (72 + 8 * length points))
+      (ap pageOf is-root) (tells .current (p .tick) (time .later) (time .tick))
+
+  pub now-full : Full (Known (p ∷ points)) (levelOf (tree .table) page) (now-paid .tree)
+  now-full =
+      full-more (Known points) (Known (p ∷ points)) (known-more p points) (levelOf (tree .table) page) (now-paid .tree) (now-paid .full)
+
+  abbrev pub out : Outcome
+  out =
+      modelOut measure m tree p (lastTick points) words (time .later) (time .tick) (time .key) page is-root (Known (p ∷ points))
+      (known-new p points)
+      (now-paid .tree) (now-paid .held) now-full
+
+  pub now-agrees : Agrees measure tree 0 keyLimit (enterFrom tree p (levelOf (tree .table) page) page) out
+  now-agrees =
+      root-agrees measure m tree p (lastTick points) words (time .later) (time .tick) (time .key) page is-root (Known (p ∷ points))
+      (known-new p points)
+      (now-paid .tree) (now-paid .held) now-full
+
+  pub next-inv : Invariant (Known (p ∷ points)) (p .tick) (entering (p .tick) (p .key) (measure (p .value)) (stateOf measure tree))
+      (λ t k. numbers measure t k (p ∷ points)) (72 + 8 * length points + 8)
+  next-inv =
+      entering-keeps (lastTick points) (p .tick) (p .key) (measure (p .value)) (stateOf measure tree) (λ t k. numbers measure t k points)
+      (72 + 8 * length points) (Known points) (Known (p ∷ points)) (known-more p points) (known-new p points) tells (time .later)
+      (time .tick) (time .key)
+
+  level-low : levelOf (tree .table) page ≤ 3
+  level-low =
+      low (Known points) (viewTable measure (tree .table)) (tree .used .pages) (p .tick) (λ k. numbers measure (p .tick) k points) page
+      (72 + 8 * length points) now-paid
+
+  -- "a level 3 root whose rows must go to two pages": it would give a root of level 4
+  halved-low : (lower upper middle : ℕ) → out .parts ≡ two lower upper middle → suc (levelOf (tree .table) page) ≤ 3
+  halved-low lower upper middle e =
+      let after : LevelNow (grown (p .tick) (levelOf (tree .table) page) root (out .store) (out .used) (two lower upper middle)) =
+      subst (λ (parts : Parts). LevelNow (grown (p .tick) (levelOf (tree .table) page) root (out .store) (out .used) parts)) e
+      (subst (λ (x : ℕ). LevelNow (from-page x)) (ap pageOf is-root) (next-inv .levels (p .tick) (time .tick))) in
+      let there : cond (leb (p .tick) (p .tick)) (out .used) (root (p .tick)) ≡ out .used = rw (le-leb (p .tick) (p .tick) (omega arith)) in
+      omega (arith, ap level-at there, top-level, after)
+    where
+      root : ℕ → ℕ
+      root w = pageOf (rootAt tree w)
+
+      LevelNow : State → Type 0
+      LevelNow st = (st .store (st .root (p .tick))) .level ≤ 3
+
+      from-page : ℕ → State
+      from-page x =
+          let n = levelOf (tree .table) x in
+          let o = modelSteps.enter n (p .tick) (p .key) (measure (p .value)) (viewTable measure (tree .table)) (tree .used .pages) x in
+          grown (p .tick) n root (o .store) (o .used) (o .parts)
+
+      top : Page
+      top = newPage (p .tick) (suc (levelOf (tree .table) page)) 0 keyLimit (topRows lower upper middle)
+
+      level-at : ℕ → ℕ
+      level-at x = (putAt (out .store) (out .used) top x) .level
+
+      top-level : (putAt (out .store) (out .used) top (out .used)) .level ≡ suc (levelOf (tree .table) page)
+      top-level = rw (eq-eqb (out .used) (out .used) refl)
+
+  no-split : topMustSplit tree p page ≡ false
+  no-split =
+      go (enterFrom tree p (levelOf (tree .table) page) page .became) (now-agrees .0 .parts) (eqb (levelOf (tree .table) page) 3) refl
+    where
+      go : (b : Became) → partsOf b ≡ out .parts → (c : Bool) → eqb (levelOf (tree .table) page) 3 ≡ c → (c && isHalved b) ≡ false
+      go b e false f = refl
+      go stays e true f = refl
+      go (copied x) e true f = refl
+      go (halved x y) e true f =
+          absurd (omega (arith, halved-low (x .page) (y .page) (x .high) (sym e), eqb-true (levelOf (tree .table) page) 3 f))
+
+  -- The plan is never spoiled
+  pub plan-ready : plan tree p ≡ Ready (enterRoot tree p page .made) (enterRoot tree p page .root)
+  unfolding plan
+  plan-ready =
+      ap (planRoot tree p) is-root
+      ∙ ap (λ (b : Bool). cond b (Ready (enterRoot tree p page .made) (enterRoot tree p page .root)) Spoiled)
+      (and-eq-true-iff _ _ .1 (
+        and-eq-true-iff _ _ .1 (lt-ltb page (tree .used .pages) in-use, le-leb (levelOf (tree .table) page) 3 level-low),
+        and-eq-true-iff _ _ .1 (descent, ap not no-split),
+      ))
+    where
+      in-use : page < tree .used .pages
+      in-use =
+          holds-used (levelOf (tree .table) page) (viewTable measure (tree .table)) (tree .used .pages) (p .tick) 0 keyLimit page
+          (now-paid .tree) (now-paid .held)
+
+      descent : descentSound tree p (levelOf (tree .table) page) 0 keyLimit page ≡ true
+      descent =
+          descent-sound measure m tree p (time .tick) (words .small) (levelOf (tree .table) page) 0 keyLimit page (now-paid .tree)
+          (omega arith) (time .key)
+          (now-paid .held)
+
+  pub enter-is : enter tree p ≡ enterRoot tree p page .tree
+  unfolding enter
+  enter-is = ap (enteredRoot tree p) is-root
+
+  module _ (room : Room tree p) where
+    is-made : enterRoot tree p page .made ≡ room .made
+    is-made =
+        let e : Ready (enterRoot tree p page .made) (enterRoot tree p page .root) ≡ Ready (room .made) (room .root) =
+        sym plan-ready ∙ room .planned in
+        cc
+
+    is-change : enterRoot tree p page .root ≡ room .root
+    is-change =
+        let e : Ready (enterRoot tree p page .made) (enterRoot tree p page .root) ≡ Ready (room .made) (room .root) =
+        sym plan-ready ∙ room .planned in
+        cc
+
+    pages-left : tree .used .pages + enterRoot tree p page .made ≤ min (length (tree .table) / 260) 1000000
+    pages-left = omega (arith, is-made, room .pages, words .pages, words .limit)
+
+    pub table-room : (tree .used .pages + enterRoot tree p page .made) * 260 ≤ length (tree .table)
+    table-room = omega (arith, pages-left)
+
+    list-room : enterRoot tree p page .root ≡ Added → tree .used .roots < length (tree .roots)
+    list-room e = room .place (sym is-change ∙ e)
+
+    pub next-words : WordsKept (enter tree p) (p .tick)
+    next-words =
+        subst (λ (new : Tree). WordsKept new (p .tick)) (sym enter-is)
+        (grew-words measure m tree p (lastTick points) words (time .later) (time .tick) (time .key) page is-root (Known (p ∷ points))
+        (known-new p points)
+        (now-paid .tree) (now-paid .held) now-full table-room (omega (arith, pages-left)) list-room)
+
+    -- The table and the list keep their lengths
+    pub next-lengths : (length (enter tree p .table) ≡ length (tree .table)) × (length (enter tree p .roots) ≡ length (tree .roots))
+    next-lengths =
+        let g =
+        grew measure m tree p (lastTick points) words (time .later) (time .tick) (time .key) page is-root (Known (p ∷ points))
+        (known-new p points)
+        (now-paid .tree) (now-paid .held) now-full table-room list-room in
+        (ap (λ (new : Tree). length (new .table)) enter-is ∙ g .table, ap (λ (new : Tree). length (new .roots)) enter-is ∙ g .list)
+
+    pub next-state : stateOf measure (enter tree p) ≡ entering (p .tick) (p .key) (measure (p .value)) (stateOf measure tree)
+    next-state =
+        ap (stateOf measure) enter-is
+        ∙ entered-state measure m tree p (lastTick points) words (time .later) (time .tick) (time .key) page is-root
+        (Known (p ∷ points)) (known-new p points)
+        (now-paid .tree) (now-paid .held) now-full table-room list-room
+
+    pub next-tells : Tells measure (enter tree p) (p ∷ points)
+    next-tells =
+        subst
+        (λ (st : State). Invariant (Known (p ∷ points)) (p .tick) st (λ t k. numbers measure t k (p ∷ points))
+        (72 + 8 * length (p ∷ points)))
+        (sym next-state)
+        (subst
+        (λ (c : ℕ). Invariant (Known (p ∷ points)) (p .tick) (entering (p .tick) (p .key) (measure (p .value)) (stateOf measure tree))
+        (λ t k. numbers measure t k (p ∷ points)) c)
+        (omega arith) next-inv)
+
+-- A tree just opened
+module _ (table roots : List ℕ) (room : 260 ≤ length table) (list : 1 ≤ length roots) where
+  first-whole : length firstPage ≡ 260
+  first-whole = fresh-length 0 0 keyLimit 0 (newRow 0 0 keyLimit 0 value.zero ∷ []) (omega arith)
+
+  opened-table : pageAt (openedTree table roots .table) 0 ≡ firstPage
+  opened-table = put-same table 0 firstPage (omega arith) first-whole
+
+  pub opened-lengths : (length (openedTree table roots .table) ≡ length table) × (length (openedTree table roots .roots) ≡ length roots)
+  opened-lengths = (put-length table 0 firstPage (omega arith) first-whole, overwrite-length roots 0 (rootEntry 0 0 ∷ []) list)
+
+  opened-entries : take 1 (openedTree table roots .roots) ≡ rootEntry 0 0 ∷ []
+  opened-entries = take-written roots 0 (rootEntry 0 0) (omega arith)
+
+  opened-root : (w : ℕ) → rootAt (openedTree table roots) w ≡ At 0
+  opened-root w =
+      ap (rootFor w) opened-entries
+      ∙ root-behind w (rootEntry 0 0) []
+      ∙ ap (λ (b : Bool). cond b (At 0) (rootFor w [])) (le-leb 0 w (omega arith))
+
+  pub opened-words : WordsKept (openedTree table roots) 0
+  opened-words =
+      record {
+        small = λ x l. few x (omega arith);
+        pages = omega (arith, put-length table 0 firstPage (omega arith) first-whole);
+        limit = omega arith;
+        roots =
+            record {
+              some = omega arith;
+              listed = omega (arith, overwrite-length roots 0 (rootEntry 0 0 ∷ []) list);
+              fewer = omega arith;
+              born = omega (arith, written-word roots 0 0 (rootEntry 0 0) (omega arith) refl);
+              found = λ w. (0, opened-root w);
+            };
+      }
+    where
+      few : (x : ℕ) → x ≡ 0 → length (rowsOf (pageAt (openedTree table roots .table) x)) ≤ 64
+      few x e =
+          let rows = newRow 0 0 keyLimit 0 value.zero ∷ [] in
+          let back : rowsOf firstPage ≡ rows =
+          fresh-rows 0 0 keyLimit 0 rows (omega arith) (record { low = omega arith; high = omega arith; birth = omega arith }, tt) in
+          rw e (rw opened-table (omega (arith, ap length back)))
+
+  module _ (measure : Value → ℕ) (m : Measure measure) where
+    opened-state : stateOf measure (openedTree table roots) ≡ opened (viewTable measure table)
+    opened-state =
+        state-path
+        (view-put measure table 0 firstPage (omega arith) first-whole
+        ∙ ap (putAt (viewTable measure table) 0)
+        (view-fresh measure 0 0 keyLimit 0 (newRow 0 0 keyLimit 0 value.zero ∷ []) (omega arith) (omega arith)
+        (record { low = omega arith; high = omega arith; birth = omega arith }, tt)
+        ∙ (λ i. newPage 0 0 0 keyLimit (record { low = 0; high = keyLimit; amount = m .of-zero i; page = 0 } ∷ []))))
+        refl (λ i w. ap pageOf (opened-root w) i)
+
+    pub opened-tells : Tells measure (openedTree table roots) []
+    opened-tells =
+        subst (λ (st : State). Invariant (Known []) 0 st (λ t k. 0) 72) (sym opened-state)
+        (opened-keeps (viewTable measure table) (Known []) refl)
+
+-- Every grown tree
+pub kept : (table roots : List ℕ) (points : List Point) → Admitted table roots points → Kept (grow table roots points) points
+unfolding grow
+kept table roots [] h =
+    record {
+      words = opened-words table roots (h .0) (h .1);
+      counts = opened-tells table roots (h .0) (h .1) countOf count-measure;
+      sumEntries = opened-tells table roots (h .0) (h .1) sumOf sum-measure;
+    }
+kept table roots (p ∷ points) h = after (kept table roots points (h .2))
+  where
+    tree : Tree
+    tree = grow table roots points
+
+    after : Kept (grow table roots points) points → Kept (enter (grow table roots points) p) (p ∷ points)
+    after k =
+        let root = k .words .roots .found (p .tick) in
+        record {
+          words =
+              next-words countOf count-measure (grow table roots points) points p (k .words) (k .counts) (h .0) (root .0) (root .1)
+              (h .1);
+          counts =
+              next-tells countOf count-measure (grow table roots points) points p (k .words) (k .counts) (h .0) (root .0) (root .1)
+              (h .1);
+          sumEntries =
+              next-tells sumOf sum-measure (grow table roots points) points p (k .words) (k .sumEntries) (h .0) (root .0) (root .1)
+              (h .1);
+        }
+
+-- Read by any measure
+pub told : (measure : Value → ℕ) → Measure measure → (table roots : List ℕ) (points : List Point) → Admitted table roots points
+    → Tells measure (grow table roots points) points
+unfolding grow
+told measure m table roots [] h = opened-tells table roots (h .0) (h .1) measure m
+told measure m table roots (p ∷ points) h =
+    let words = kept table roots points (h .2) .words in
+    let root = words .roots .found (p .tick) in
+    next-tells measure m (grow table roots points) points p words (told measure m table roots points (h .2)) (h .0) (root .0) (root .1)
+    (h .1)

@@ -1,0 +1,100 @@
+-- A lookup in a grown tree, at any tick and key: it meets no spoiled page and adds exactly the points up to that tick and key.
+use Prim.Native.Nat.{ℕ, _+_, _%_, _^_, _<_}
+use native.Mathlib.Omega.{arith}
+use mathlib.Core.Path.{_≡_, sym, ap, _∙_}
+use mathlib.Core.Bool.{Bool, cond, and-eq-true-iff}
+use mathlib.Core.List.{List}
+use borrow.Author.Tests.{le-leb, lt-ltb}
+use Rattle.words.specs.Words.{keyLimit, openEnd}
+use Rattle.words.specs.declared.value.Value.{Value}
+use Rattle.words.proofs.Measure.{Measure, countOf, sumOf, count-measure, sum-measure}
+use Rattle.words.proofs.ValueLaws.{Stored}
+use Rattle.tree.proofs.OrderTotals.{total-stored}
+use Rattle.tree.specs.declared.types.Lookup.the-variants.{Spoiled, Found}
+use Rattle.tree.specs.Tree.{Tree, levelOf, rootAt}
+use Rattle.tree.specs.RowSteps.{Point}
+use Rattle.tree.specs.Lookup.{lookupFrom, lookupRoot, lookup}
+use Rattle.tree.specs.Grown.{lastTick}
+use Rattle.tree.specs.PointSums.{pointValue, dominated, sumOfPoints}
+use Rattle.tree.proofs.ModelPages.{_≈_}
+use Rattle.tree.proofs.GrownStates.{Version, holds-used}
+use Rattle.tree.proofs.View.{viewTable}
+use Rattle.tree.proofs.TreeViews.{pageOf, WordsKept}
+use Rattle.tree.proofs.Reading.{Reads, reads}
+use Rattle.tree.proofs.HeldPaths.{found-root}
+use Rattle.tree.proofs.Growth.{numbers, numbers-sum, Tells, Kept}
+
+-- Read by one measure
+module _ (measure : Value → ℕ) (m : Measure measure) (tree : Tree) (points : List Point)
+    (words : WordsKept tree (lastTick points)) (tells : Tells measure tree points) (t k : ℕ) (tick : t < openEnd) (key : k < keyLimit) where
+  abbrev page : ℕ
+  page = pageOf (rootAt tree t)
+
+  abbrev level : ℕ
+  level = levelOf (tree .table) page
+
+  version : Version (viewTable measure (tree .table)) (tree .used .pages) t (λ q. numbers measure t q points) page
+  version = tells .versions t tick
+
+  read : Reads measure tree t k level 0 keyLimit page (version .tree)
+  read = reads measure m tree (words .small) t k tick level 0 keyLimit page (version .tree) (omega arith) key (version .held)
+
+  read-lookup : lookup tree t k ≡ Found (read .value) (level + 1)
+  unfolding lookup
+  read-lookup =
+      ap (lookupRoot tree t k) (found-root tree words t)
+      ∙ ap (λ (b : Bool). cond b (lookupFrom tree t k level 0 keyLimit page) Spoiled)
+      (and-eq-true-iff _ _ .1 (lt-ltb page (tree .used .pages) in-use, le-leb level 3 (tells .levels t tick)))
+      ∙ read .is
+    where
+      in-use : page < tree .used .pages
+      in-use = holds-used level (viewTable measure (tree .table)) (tree .used .pages) t 0 keyLimit page (version .tree) (version .held)
+
+  read-sum : measure (read .value) ≈ measure (sumOfPoints t k points)
+  read-sum = read .sum ∙ version .adds k key ∙ sym (rest (numbers-sum measure m t k points))
+    where
+      rest : measure (sumOfPoints t k points) ≡ numbers measure t k points % 2 ^ 64
+          → measure (sumOfPoints t k points) ≈ numbers measure t k points
+      rest e = omega arith
+
+small-same : (a b : ℕ) → a < 2 ^ 64 → b < 2 ^ 64 → a ≈ b → a ≡ b
+small-same a b p q h = omega arith
+
+same-found : {v w : Value} {m n : ℕ} → Found v m ≡ Found w n → v ≡ w
+same-found e = cc
+
+-- The count and the sum together
+pub lookup-sum : (tree : Tree) (points : List Point) → Kept tree points → (t k : ℕ) → t < openEnd → k < keyLimit
+    → lookup tree t k ≡ Found (sumOfPoints t k points) (levelOf (tree .table) (pageOf (rootAt tree t)) + 1)
+lookup-sum tree points kept t k tick key =
+    read-lookup countOf count-measure tree points (kept .words) (kept .counts) t k tick key
+    ∙ ap (λ (v : Value). Found v (levelOf (tree .table) (pageOf (rootAt tree t)) + 1))
+    (λ i. record { count = counts-same i; sum = sums-same i })
+  where
+    total-small : Stored (sumOfPoints t k points)
+    total-small = total-stored pointValue (dominated t k) points
+
+    by-count : Value
+    by-count = read countOf count-measure tree points (kept .words) (kept .counts) t k tick key .value
+
+    by-sum : Value
+    by-sum = read sumOf sum-measure tree points (kept .words) (kept .sumEntries) t k tick key .value
+
+    same : by-count ≡ by-sum
+    same =
+        same-found
+        (sym (read-lookup countOf count-measure tree points (kept .words) (kept .counts) t k tick key)
+        ∙ read-lookup sumOf sum-measure tree points (kept .words) (kept .sumEntries) t k tick key)
+
+    counts-same : by-count .count ≡ sumOfPoints t k points .count
+    counts-same =
+        small-same (by-count .count) (sumOfPoints t k points .count)
+        (read countOf count-measure tree points (kept .words) (kept .counts) t k tick key .stored .0) (total-small .0)
+        (read-sum countOf count-measure tree points (kept .words) (kept .counts) t k tick key)
+
+    sums-same : by-count .sum ≡ sumOfPoints t k points .sum
+    sums-same =
+        ap (λ (v : Value). v .sum) same
+        ∙ small-same (by-sum .sum) (sumOfPoints t k points .sum)
+        (read sumOf sum-measure tree points (kept .words) (kept .sumEntries) t k tick key .stored .1) (total-small .1)
+        (read-sum sumOf sum-measure tree points (kept .words) (kept .sumEntries) t k tick key)
