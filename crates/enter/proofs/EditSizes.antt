@@ -8,14 +8,14 @@ use lib.Dec.{eqb}
 use lib.ListN.{length}
 use Rattle.words.proofs.OverwriteLaws.{overwrite-length, word-inside}
 use Rattle.tree.specs.declared.types.Row.{Row}
-use Rattle.tree.specs.Row.{word, rowAt, rowStart, rowWords}
+use Rattle.tree.specs.Row.{word, rowAt, rowStart, rowWords, rowIn}
 use Rattle.tree.specs.Edit.{putRow, endRow, appendRow, ended, bornAt}
 use Rattle.tree.proofs.PageCodec.{put-length, put-before}
 use Rattle.words.specs.declared.value.Value.{Value}
 use Rattle.page.specs.declared.order.Place.{Place}
 use Rattle.page.specs.declared.order.Place.the-variants.{At, Missing}
 use Rattle.tree.specs.RowSteps.{gained}
-use Rattle.enter.specs.PageEdits.{replaceWords, gainWords, Within, rowIn}
+use Rattle.enter.specs.PageEdits.{replaceWords, gainWords, Within}
 
 module _ (page : List ℕ) (r : Row) (room : rowStart (word page 1 + 1) ≤ length page) where
   put-fits : rowStart (word page 1) + rowWords ≤ length page

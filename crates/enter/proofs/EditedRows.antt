@@ -8,13 +8,13 @@ use lib.Dec.{eqb}
 use lib.ListN.{length, set, length-set, length-append}
 use Rattle.words.specs.Lists.{All}
 use Rattle.tree.specs.declared.types.Row.{Row}
-use Rattle.tree.specs.Row.{word, rowStart, rowsOf, headerWords}
+use Rattle.tree.specs.Row.{word, rowStart, rowsOf, headerWords, rowIn}
 use Rattle.tree.specs.KeyOrder.{Placed}
 use Rattle.tree.specs.Edit.{ended, bornAt, putRow, endRow, appendRow, withRows}
 use Rattle.tree.proofs.PageCodec.{Fits, row-fits, rows-fit, rows-length, with-length, with-count, with-rows}
 use Rattle.page.proofs.WithRows.{put-is-with, append-is-with, with-with}
 use Rattle.tree.specs.RowSteps.{replaceRow}
-use Rattle.enter.specs.PageEdits.{replaceWords, rowIn}
+use Rattle.enter.specs.PageEdits.{replaceWords}
 
 -- Properties of all rows, one of them written over or more of them added
 pub all-set : {A : Type 0} (P : A → Type 0) (xs : List A) (i : ℕ) (x : A) → All P xs → P x → All P (set xs i x)

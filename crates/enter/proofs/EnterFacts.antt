@@ -12,7 +12,8 @@ use Rattle.tree.specs.KeyOrder.{Placed}
 use Rattle.tree.specs.TrueValue.{Search, none, one}
 use Rattle.page.proofs.PageReadings.{header-facts}
 use Rattle.tree.specs.Tree.{Tree, pageAt, levelOf, metAt}
-use Rattle.tree.specs.RowSteps.{Point, Became, rowAround, gainRows, leafRows, relinkRow}
+use Rattle.tree.specs.RowSteps.{Point, rowAround, gainRows, leafRows, relinkRow}
+use Rattle.tree.specs.declared.types.Became.{Became}
 use Rattle.tree.specs.Overflow.{Written, finishPage}
 use Rattle.tree.specs.Enter.{unwritten, enterBelow, enterFrom}
 use Rattle.tree.specs.Plan.{soundBelow, descentSound}

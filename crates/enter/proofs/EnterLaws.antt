@@ -5,19 +5,20 @@ use mathlib.Core.Path.{_≡_, refl, sym, ap, ap₂, _∙_}
 use mathlib.Core.List.{List, _++_}
 use lib.ListN.{length}
 use Rattle.tree.specs.declared.types.Row.{Row}
-use Rattle.tree.specs.Row.{word, rowStart, rowsOf, pageWords, rowLimit}
+use Rattle.tree.specs.Row.{word, rowStart, rowsOf, pageWords, rowLimit, rowIn}
 use Rattle.tree.specs.KeyOrder.{Placed}
 use Rattle.tree.specs.TrueValue.{none, one}
 use Rattle.page.specs.Survey.{placeFound, isAround}
 use Rattle.tree.specs.Edit.{withRows}
 use Rattle.tree.specs.Fresh.{zeros}
 use Rattle.tree.proofs.PageCodec.{with-length, with-count}
-use Rattle.enter.specs.declared.entry.Done.{Done}
+use Rattle.split.specs.declared.done.Done.{Done}
 use Rattle.tree.specs.Tree.{Tree, pageAt}
-use Rattle.tree.specs.RowSteps.{Point, Became, rowAround, rowFrom, gainRows, leafRows, relinkRow}
+use Rattle.tree.specs.RowSteps.{Point, rowAround, rowFrom, gainRows, leafRows, relinkRow}
+use Rattle.tree.specs.declared.types.Became.{Became}
 use Rattle.tree.specs.Overflow.{Written, finishPage}
 use Rattle.tree.specs.Enter.{unwritten, enterFrom}
-use Rattle.enter.specs.PageEdits.{leafWords, gainWords, linkWords, rowIn}
+use Rattle.enter.specs.PageEdits.{leafWords, gainWords, linkWords}
 use Rattle.enter.specs.EnterWords.{loaded, madeSo, settled, CanSettle, CanEnter, DoneAs, leafEdited, gainEdited, linkEdited}
 use Rattle.enter.proofs.SettleLaws.{settled-is-finished}
 use Rattle.enter.proofs.StepRows.{Seen, found-seen, RowsFit, gain-is-with, leaf-is-with, link-is-with}

@@ -21,14 +21,14 @@ use Rattle.tree.specs.declared.types.RootChange.{RootChange}
 use Rattle.tree.specs.declared.types.RootChange.the-variants.{Added}
 use Rattle.tree.specs.declared.types.Plan.the-variants.{Spoiled, Ready}
 use Rattle.tree.specs.Tree.{Tree, pageAt, putPage, levelOf, rootAt, rootInUse, topLevel, lastRoot, metAt}
-use Rattle.tree.specs.RowSteps.{Point, Child, Became, stays, copied, halved, rowAround}
+use Rattle.tree.specs.RowSteps.{Point, rowAround}
+use Rattle.tree.specs.declared.types.Child.{Child}
+use Rattle.tree.specs.declared.types.Became.{Became}
+use Rattle.tree.specs.declared.types.Became.the-variants.{Stays, Copied, Halved}
 use Rattle.tree.specs.Overflow.{Written, takenPage, finishPage}
 use Rattle.tree.specs.Enter.{Entered, enterAbove, enterBelow, enterFrom, withRoot, enteredAs, enterRoot}
 use Rattle.tree.specs.Plan.{soundBelow, descentSound, topMustSplit, planRoot, plan, enteredRoot, enter}
-use Rattle.enter.specs.declared.entry.Child as declared
-use Rattle.enter.specs.declared.entry.Done.{Done}
-use Rattle.enter.specs.declared.entry.Became.the-variants.{Stays, Copied, Halved}
-use Rattle.enter.specs.PageEdits.{becameOf, childOf}
+use Rattle.split.specs.declared.done.Done.{Done}
 use Rattle.enter.specs.EnterWords.{useOf, CanEnter, DoneAs}
 use Rattle.lookup.proofs.LookupLaws.{level-in-table}
 use Rattle.enter.proofs.EnterFacts.{enter-facts}
@@ -160,9 +160,9 @@ module _ (tree : Tree) (p : Point) (pl : Planned tree p) where
   enter-is = ap (enteredRoot tree p) (facts .root-is) ∙ ap (λ (e : Entered). e .tree) entered
 
   made-by : (b : Became) → so .made ≤ enteredAs tree (p .tick) level so b .made
-  made-by stays = omega arith
-  made-by (copied c) = omega (arith, put-parts tree (p .tick) (c .page) (so .made) (so .table) .3)
-  made-by (halved c d) = omega (arith, put-parts tree (p .tick) (takenPage (tree .used) (so .made)) (so .made + 1) (putPage (so .table) (takenPage (tree .used) (so .made)) (freshPage (level + 1) 0 keyLimit (p .tick) (twoRows (p .tick) (c .high) (c .page) (d .page)))) .3)
+  made-by Stays = omega arith
+  made-by (Copied c) = omega (arith, put-parts tree (p .tick) (c .page) (so .made) (so .table) .3)
+  made-by (Halved c d) = omega (arith, put-parts tree (p .tick) (takenPage (tree .used) (so .made)) (so .made + 1) (putPage (so .table) (takenPage (tree .used) (so .made)) (freshPage (level + 1) 0 keyLimit (p .tick) (twoRows (p .tick) (c .high) (c .page) (d .page)))) .3)
 
   made-all : enteredAs tree (p .tick) level so (so .became) .made ≡ pl .made
   made-all = ap (λ (e : Entered). e .made) (sym entered) ∙ facts .made-is
@@ -232,22 +232,22 @@ module _ (tree : Tree) (p : Point) (pl : Planned tree p) where
     pub done-made : done .made ≡ so .made
     done-made = is .made-is ∙ ap (λ (w : Written). w .made) so-same
 
-    became : becameOf (done .became) ≡ so .became
+    became : done .became ≡ so .became
     became = is .became-is ∙ ap (λ (w : Written). w .became) so-same
 
-    enter-as : (b : Became) → becameOf (done .became) ≡ b → enter tree p ≡ enteredAs tree (p .tick) level so b .tree
+    enter-as : (b : Became) → done .became ≡ b → enter tree p ≡ enteredAs tree (p .tick) level so b .tree
     enter-as b e = enter-is ∙ ap (λ (x : Became). enteredAs tree (p .tick) level so x .tree) (sym became ∙ e)
 
-    made-as : (b : Became) → becameOf (done .became) ≡ b → enteredAs tree (p .tick) level so b .made ≡ pl .made
+    made-as : (b : Became) → done .became ≡ b → enteredAs tree (p .tick) level so b .made ≡ pl .made
     made-as b e = ap (λ (x : Became). enteredAs tree (p .tick) level so x .made) (sym e ∙ became) ∙ made-all
 
-    change-as : (b : Became) → becameOf (done .became) ≡ b → enteredAs tree (p .tick) level so b .root ≡ pl .change
+    change-as : (b : Became) → done .became ≡ b → enteredAs tree (p .tick) level so b .root ≡ pl .change
     change-as b e = ap (λ (x : Became). enteredAs tree (p .tick) level so x .root) (sym e ∙ became) ∙ change-all
 
     pub stays-way : done .became ≡ Stays → (r : TreeUse) → r ≡ record { pages = tree .used .pages + done .made; roots = tree .used .roots } →
         EnteredAs tree p now (tree .roots) r
     stays-way e r f =
-        let w = enter-as stays (ap becameOf e) in
+        let w = enter-as Stays e in
         record {
           table-is = now-is ∙ ap (λ (x : Tree). x .table) (sym w);
           roots-are = ap (λ (x : Tree). x .roots) (sym w);
@@ -259,32 +259,32 @@ module _ (tree : Tree) (p : Point) (pl : Planned tree p) where
     place-for page made table e n = pl .place (sym e ∙ put-added tree (p .tick) page made table n)
 
     module _ (few : done .made ≤ 8) where
-      pub copied-can : (c : declared.Child) → done .became ≡ Copied c → CanPut (tree .roots) (tree .used) (done .made) (p .tick)
+      pub copied-can : (c : Child) → done .became ≡ Copied c → CanPut (tree .roots) (tree .used) (done .made) (p .tick)
       copied-can c e =
           record {
             some = pl .some;
             inside = pl .inside;
-            place = place-for (c .page) (so .made) (so .table) (change-as (copied (childOf c)) (ap becameOf e));
+            place = place-for (c .page) (so .made) (so .table) (change-as (Copied c) e);
             used-few = pl .used-few;
             roots-few = omega (arith, pl .used-few, pl .roots-few);
             made-few = omega arith;
           }
 
-      pub halved-can : (c d : declared.Child) → done .became ≡ Halved c d → CanPut (tree .roots) (tree .used) (done .made + 1) (p .tick)
+      pub halved-can : (c d : Child) → done .became ≡ Halved c d → CanPut (tree .roots) (tree .used) (done .made + 1) (p .tick)
       halved-can c d e =
           record {
             some = pl .some;
             inside = pl .inside;
-            place = place-for _ _ _ (change-as (halved (childOf c) (childOf d)) (ap becameOf e));
+            place = place-for _ _ _ (change-as (Halved c d) e);
             used-few = pl .used-few;
             roots-few = omega (arith, pl .used-few, pl .roots-few);
             made-few = omega arith;
           }
 
-    pub copied-way : (c : declared.Child) → done .became ≡ Copied c → (after : List ℕ) (r : TreeUse) →
+    pub copied-way : (c : Child) → done .became ≡ Copied c → (after : List ℕ) (r : TreeUse) →
         RootPut (tree .roots) (tree .used) (done .made) (c .page) (p .tick) after r → EnteredAs tree p now after r
     copied-way c e after r put =
-        let w = enter-as (copied (childOf c)) (ap becameOf e) in
+        let w = enter-as (Copied c) e in
         let parts = put-parts tree (p .tick) (c .page) (so .made) (so .table) in
         let root : ℕ → Tree = λ (n : ℕ). withRoot (rootTree (tree .roots) (tree .used)) (p .tick) (c .page) [] n .tree in
         record {
@@ -294,17 +294,17 @@ module _ (tree : Tree) (p : Point) (pl : Planned tree p) where
         }
 
     -- two halves: the new root takes the next page
-    pub halved-room : (c d : declared.Child) → done .became ≡ Halved c d → (tree .used .pages + done .made + 1) * pageWords ≤ length (tree .table)
+    pub halved-room : (c d : Child) → done .became ≡ Halved c d → (tree .used .pages + done .made + 1) * pageWords ≤ length (tree .table)
     halved-room c d e =
-        let m = made-as (halved (childOf c) (childOf d)) (ap becameOf e) in
+        let m = made-as (Halved c d) e in
         let parts = put-parts tree (p .tick) (takenPage (tree .used) (so .made)) (so .made + 1) (putPage (so .table) (takenPage (tree .used) (so .made)) (freshPage (level + 1) 0 keyLimit (p .tick) (twoRows (p .tick) (c .high) (c .page) (d .page)))) in
         omega (arith, pl .room, m, parts .3, done-made)
 
-    pub halved-way : (c d : declared.Child) → done .became ≡ Halved c d → (top : List ℕ) (after : List ℕ) (r : TreeUse) →
+    pub halved-way : (c d : Child) → done .became ≡ Halved c d → (top : List ℕ) (after : List ℕ) (r : TreeUse) →
         top ≡ putPage now (tree .used .pages + done .made) (encodePage (twoRowRoot (level + 1) (p .tick) (c .high) (c .page) (d .page))) →
         RootPut (tree .roots) (tree .used) (done .made + 1) (tree .used .pages + done .made) (p .tick) after r → EnteredAs tree p top after r
     halved-way c d e top after r is-top put =
-        let w = enter-as (halved (childOf c) (childOf d)) (ap becameOf e) in
+        let w = enter-as (Halved c d) e in
         let new : List ℕ = freshPage (level + 1) 0 keyLimit (p .tick) (twoRows (p .tick) (c .high) (c .page) (d .page)) in
         let number : ℕ = takenPage (tree .used) (so .made) in
         let parts = put-parts tree (p .tick) number (so .made + 1) (putPage (so .table) number new) in

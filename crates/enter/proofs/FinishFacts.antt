@@ -20,7 +20,7 @@ use Rattle.tree.proofs.Places.{live-order}
 use Rattle.tree.proofs.PageCodec.{encode-length, Fits, with-length}
 use Rattle.page.proofs.OrderRowLaws.{insert-length}
 use Rattle.tree.specs.Tree.{Tree, pageAt, putPage}
-use Rattle.tree.specs.RowSteps.{stays}
+use Rattle.tree.specs.declared.types.Became.the-variants.{Stays}
 use Rattle.tree.specs.Overflow.{Written, takenPage, copiedRows, lowerCount, lowestKey, gainFirst, totalOf, copyPage, halvePage, splitPage, finishPage}
 use Rattle.tree.proofs.TableLaws.{put-length, put-other}
 use Rattle.enter.proofs.StepRows.{ChildrenFit}
@@ -87,7 +87,7 @@ module _ (tree : Tree) (t : ℕ) (small : t < 4294967296) (so : Written) (page :
   moved = copiedRows t rows
 
   stays-facts : length rows ≤ rowLimit →
-      Finished tree so page (record { table = putPage (so .table) page (withRows (pageAt (tree .table) page) rows); made = so .made; became = stays })
+      Finished tree so page (record { table = putPage (so .table) page (withRows (pageAt (tree .table) page) rows); made = so .made; became = Stays })
   stays-facts h =
       let size : length (withRows (pageAt (tree .table) page) rows) ≡ pageWords = with-length (pageAt (tree .table) page) rows (omega arith) ∙ whole in
       record {

@@ -2,8 +2,6 @@
 pub mod EditSizes
 pub mod EditedRows
 pub mod StepRows
-pub mod SplitLaws
-pub mod SplitRows
 pub mod CopyLaws
 pub mod SettleLaws
 pub mod FinishFacts

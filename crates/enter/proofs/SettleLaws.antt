@@ -16,13 +16,13 @@ use Rattle.tree.proofs.PageCodec.{Fits, with-level, with-count, with-range, wit
 use Rattle.page.proofs.WithRows.{Holds, with-holds, is-with}
 use Rattle.tree.specs.declared.types.TreeUse.{TreeUse}
 use Rattle.tree.specs.Tree.{Tree, pageAt, putPage}
-use Rattle.tree.specs.RowSteps.{stays}
+use Rattle.tree.specs.declared.types.Became.the-variants.{Stays}
 use Rattle.tree.specs.Overflow.{Written, splitPage, copiedRows, finishPage}
 use Rattle.enter.specs.EnterWords.{useOf, settled, loaded}
 
 module _ (used : TreeUse) (t : ℕ) (so : Written) (page : ℕ) (words : List ℕ) where
   pub settled-stays : word words 1 ≤ rowLimit →
-      settled used t so page words ≡ record { table = putPage (so .table) page (take pageWords words); made = so .made; became = stays }
+      settled used t so page words ≡ record { table = putPage (so .table) page (take pageWords words); made = so .made; became = Stays }
   unfolding settled
   settled-stays h = rw (le-leb _ _ h)
 
@@ -81,7 +81,7 @@ with-front page extra rows room =
 -- Steps 5 and 6
 module _ (tree : Tree) (t : ℕ) (so : Written) (page : ℕ) (rows : List Row) where
   pub finish-stays : length rows ≤ rowLimit →
-      finishPage tree t so page rows ≡ record { table = putPage (so .table) page (withRows (pageAt (tree .table) page) rows); made = so .made; became = stays }
+      finishPage tree t so page rows ≡ record { table = putPage (so .table) page (withRows (pageAt (tree .table) page) rows); made = so .made; became = Stays }
   unfolding finishPage
   finish-stays h = rw (le-leb _ _ h)
 
@@ -136,7 +136,7 @@ settled-is-finished tree t so page rows words whole is fit few = go (decLe (leng
     go : Dec (length rows ≤ 64) → settled (tree .used) t so page words ≡ finishPage tree t so page rows
     go (yes a) =
         settled-stays (tree .used) t so page words (omega (arith, count))
-        ∙ ap (λ (w : List ℕ). record { table = putPage (so .table) page w; made = so .made; became = stays }) (front a)
+        ∙ ap (λ (w : List ℕ). record { table = putPage (so .table) page w; made = so .made; became = Stays }) (front a)
         ∙ sym (finish-stays tree t so page rows a)
     go (no a) =
         settled-splits (tree .used) t so page words (omega (arith, count))

@@ -11,7 +11,7 @@ use borrow.Author.Tests.{leb-true, ltb-true}
 use Rattle.words.specs.Lists.{All}
 use Rattle.words.specs.Value.{zero}
 use Rattle.tree.specs.declared.types.Row.{Row}
-use Rattle.tree.specs.Row.{word, rowAt, rowStart, rowsOf, headerWords, live}
+use Rattle.tree.specs.Row.{word, rowAt, rowStart, rowsOf, headerWords, live, rowIn}
 use Rattle.tree.specs.KeyOrder.{Placed, keyOrder}
 use Rattle.tree.specs.TrueValue.{Search, none, one, first}
 use Rattle.page.specs.Survey.{placeFound, isAround, startsFrom}
@@ -21,10 +21,11 @@ use Rattle.tree.proofs.Places.{AtPlace, order-places}
 use Rattle.page.proofs.EntryWalks.{first-has}
 use Rattle.tree.proofs.PageCodec.{Fits, row-fits, rows-fit, rows-length, row-at-place, with-length, with-count, with-rows}
 use Rattle.page.proofs.WithRows.{with-same, with-with}
-use Rattle.enter.specs.declared.entry.Became as outcome
-use Rattle.enter.specs.declared.entry.Became.the-variants.{Stays, Copied, Halved}
-use Rattle.tree.specs.RowSteps.{Point, Child, Became, stays, copied, halved, gained, cutAt, linkedTo, replaceRow, rowAround, rowFrom, gainIn, gainRows, cutIn, leafRows, relinkRow}
-use Rattle.enter.specs.PageEdits.{becameOf, childOf, Within, rowIn, replaceWords, gainWords, leafWords, linkWords}
+use Rattle.tree.specs.RowSteps.{Point, gained, cutAt, linkedTo, replaceRow, rowAround, rowFrom, gainIn, gainRows, cutIn, leafRows, relinkRow}
+use Rattle.tree.specs.declared.types.Child.{Child}
+use Rattle.tree.specs.declared.types.Became.{Became}
+use Rattle.tree.specs.declared.types.Became.the-variants.{Stays, Copied, Halved}
+use Rattle.enter.specs.PageEdits.{Within, replaceWords, gainWords, leafWords, linkWords}
 use Rattle.enter.proofs.EditedRows.{replace-is-with, replace-and-add, replaced-fits, replaced-length, replaced-most}
 
 -- A row that a search in the key order of a page finds: it stands at its place, and passes the test
@@ -68,9 +69,9 @@ abbrev pub ChildFits : Child → Type 0
 ChildFits c = (c .low < 65536) × (c .high < 65536)
 
 abbrev pub ChildrenFit : Became → Type 0
-ChildrenFit stays = Unit {0}
-ChildrenFit (copied c) = ChildFits c
-ChildrenFit (halved c d) = ChildFits c × ChildFits d
+ChildrenFit Stays = Unit {0}
+ChildrenFit (Copied c) = ChildFits c
+ChildrenFit (Halved c d) = ChildFits c × ChildFits d
 
 -- Rows that fit, and are not too many
 pub record RowsFit (most : ℕ) (rows : List Row) : Type 0 where
@@ -243,31 +244,31 @@ module _ (p : Point) (small : p .tick < 4294967296) (narrow : p .key < 65536) (p
         go true = both new further (omega arith)
         go false = both (ended (p .tick) (x .row)) (bornAt (p .tick) new ∷ further) (omega arith)
 
-    pub link-is-with : (became : outcome.Became) → ChildrenFit (becameOf became) →
+    pub link-is-with : (became : Became) → ChildrenFit became →
         linkWords (p .tick) (withRows page (gainRows p (rowsOf page))) (x .place) (x .row) became
-        ≡ withRows page (relinkRow (p .tick) x (becameOf became) (gainRows p (rowsOf page)))
+        ≡ withRows page (relinkRow (p .tick) x became (gainRows p (rowsOf page)))
     unfolding relinkRow mid after
     link-is-with Stays f = refl
     link-is-with (Copied c) f =
-        replace-is-with (p .tick) mid (x .place) (x .row) mid-inside mid-same (mid-room 1 (omega arith)) (linkedTo (childOf c) (x .row))
-        ∙ over (linkedTo (childOf c) (x .row)) [] (omega arith)
+        replace-is-with (p .tick) mid (x .place) (x .row) mid-inside mid-same (mid-room 1 (omega arith)) (linkedTo c (x .row))
+        ∙ over (linkedTo c (x .row)) [] (omega arith)
     link-is-with (Halved c d) f =
-        replace-and-add (p .tick) mid (x .place) (x .row) mid-inside mid-same (mid-room 1 (omega arith)) (linkedTo (childOf c) (x .row))
+        replace-and-add (p .tick) mid (x .place) (x .row) mid-inside mid-same (mid-room 1 (omega arith)) (linkedTo c (x .row))
         (newRow (p .tick) (d .low) (d .high) (d .page) zero) small (record { low = f .0 .0; high = f .0 .1; birth = old-fits .birth }) (mid-room 2 (omega arith))
-        ∙ over (linkedTo (childOf c) (x .row)) (newRow (p .tick) (d .low) (d .high) (d .page) zero ∷ []) (omega arith)
+        ∙ over (linkedTo c (x .row)) (newRow (p .tick) (d .low) (d .high) (d .page) zero ∷ []) (omega arith)
 
     -- what step 7 leaves fits
     pub link-fits : (became : Became) → ChildrenFit became → RowsFit (word page 1 + 3) (relinkRow (p .tick) x became (gainRows p (rowsOf page)))
     unfolding relinkRow mid after
-    link-fits stays f = record { fit = gain .fit; few = omega (arith, gain .most) }
-    link-fits (copied c) f =
+    link-fits Stays f = record { fit = gain .fit; few = omega (arith, gain .most) }
+    link-fits (Copied c) f =
         let new : Row = linkedTo c (x .row) in
         let n : Fits new = record { low = f .0; high = f .1; birth = old-fits .birth } in
         let a = replaced-fits (p .tick) mid (x .place) (x .row) mid-inside mid-same (mid-room 1 (omega arith)) new [] small n tt in
         let b = replaced-most (p .tick) mid (x .place) (x .row) mid-inside mid-same (mid-room 1 (omega arith)) new [] in
         let same = ap (replaceRow (p .tick) x new []) mid-rows in
         record { fit = rw same at a; few = omega (arith, ap (λ (rs : List Row). length rs) same, mid-count, gain .most) }
-    link-fits (halved c d) f =
+    link-fits (Halved c d) f =
         let new : Row = linkedTo c (x .row) in
         let second : Row = newRow (p .tick) (d .low) (d .high) (d .page) zero in
         let n : Fits new = record { low = f .0 .0; high = f .0 .1; birth = old-fits .birth } in

@@ -7,19 +7,20 @@ use lib.ListN.{length, take}
 use lib.Dec.{leb}
 use Rattle.words.specs.declared.value.Value.{Value}
 use Rattle.page.specs.declared.order.Place.{Place}
-use Rattle.tree.specs.Row.{word, rowsOf, rowLimit, pageWords}
+use Rattle.tree.specs.Row.{word, rowsOf, rowLimit, pageWords, rowIn}
 use Rattle.page.specs.Survey.{surveyOf}
 use Rattle.page.specs.Entries.{orderSize}
 use Rattle.tree.specs.Fresh.{zeros}
 use Rattle.tree.specs.declared.types.TreeUse.{TreeUse}
-use Rattle.enter.specs.declared.entry.Done.{Done}
-use Rattle.enter.specs.declared.entry.Became as outcome
+use Rattle.split.specs.declared.done.Done.{Done}
 use Rattle.tree.specs.Tree.{Tree, pageAt, putPage, topLevel}
-use Rattle.tree.specs.RowSteps.{Point, stays}
+use Rattle.tree.specs.RowSteps.{Point}
+use Rattle.tree.specs.declared.types.Became.{Became}
+use Rattle.tree.specs.declared.types.Became.the-variants.{Stays}
 use Rattle.tree.specs.Enter.{enterFrom}
 use Rattle.tree.specs.Plan.{descentSound}
 use Rattle.tree.specs.Overflow.{Written, splitPage, copiedRows}
-use Rattle.enter.specs.PageEdits.{becameOf, leafWords, gainWords, linkWords, rowIn}
+use Rattle.enter.specs.PageEdits.{leafWords, gainWords, linkWords}
 
 -- The copy of a page has room for the 3 rows that one entry may append
 abbrev pub copyWords : ℕ
@@ -33,20 +34,20 @@ abbrev pub useOf : List ℕ → TreeUse → Tree
 useOf table used = record { table = table; roots = []; used = used }
 
 abbrev pub madeSo : List ℕ → ℕ → Written
-madeSo table made = record { table = table; made = made; became = stays }
+madeSo table made = record { table = table; made = made; became = Stays }
 
 -- The edited copy goes back into the page's own words, or its live rows into new pages
 unfoldable pub settled : TreeUse → ℕ → Written → ℕ → List ℕ → Written
 settled used t so page words =
     cond (leb (word words 1) rowLimit)
-    (record { table = putPage (so .table) page (take pageWords words); made = so .made; became = stays })
+    (record { table = putPage (so .table) page (take pageWords words); made = so .made; became = Stays })
     (splitPage (useOf (so .table) used) t so words (copiedRows t (rowsOf words)))
 
 -- What the code answers and leaves is this
 pub record DoneAs (so : Written) (table : List ℕ) (done : Done) : Type 0 where
   pub table-is : table ≡ so .table
   pub made-is : done .made ≡ so .made
-  pub became-is : becameOf (done .became) ≡ so .became
+  pub became-is : done .became ≡ so .became
 
 -- A copy that can be settled: as many words and rows as the code has room for, and pages left for its split
 pub record CanSettle (used : TreeUse) (t : ℕ) (so : Written) (page : ℕ) (words : List ℕ) : Type 0 where
@@ -77,5 +78,5 @@ leafEdited t k v table page =
 abbrev pub gainEdited : ℕ → Value → List ℕ → ℕ → Place → List ℕ
 gainEdited t v table page gain = gainWords t v (loaded table page) gain
 
-abbrev pub linkEdited : ℕ → Value → List ℕ → ℕ → Place → ℕ → outcome.Became → List ℕ
+abbrev pub linkEdited : ℕ → Value → List ℕ → ℕ → Place → ℕ → Became → List ℕ
 linkEdited t v table page gain place became = linkWords t (gainWords t v (loaded table page) gain) place (rowIn (loaded table page) place) became

@@ -1,5 +1,4 @@
 -- Entering a point as the code does it.
 pub mod PageEdits
-pub mod SplitWords
 pub mod EnterWords
 pub mod EnterRoot

@@ -8,30 +8,18 @@ use Rattle.words.specs.Value.{zero}
 use Rattle.tree.specs.declared.types.Row.{Row}
 use Rattle.page.specs.declared.order.Place.{Place}
 use Rattle.page.specs.declared.order.Place.the-variants.{At, Missing}
-use Rattle.tree.specs.Row.{rowAt, rowStart}
+use Rattle.tree.specs.Row.{rowIn}
 use Rattle.tree.specs.Edit.{putRow, endRow, appendRow, bornAt}
 use Rattle.tree.specs.Fresh.{newRow}
-use Rattle.enter.specs.declared.entry.Child as declared
-use Rattle.enter.specs.declared.entry.Became as outcome
-use Rattle.enter.specs.declared.entry.Became.the-variants.{Stays, Copied, Halved}
-use Rattle.tree.specs.RowSteps.{Child, Became, stays, copied, halved, gained, cutAt, linkedTo}
-
--- What a page became, as the code says it
-abbrev pub childOf : declared.Child → Child
-childOf c = record { page = c .page; low = c .low; high = c .high }
-
-abbrev pub becameOf : outcome.Became → Became
-becameOf Stays = stays
-becameOf (Copied c) = copied (childOf c)
-becameOf (Halved c d) = halved (childOf c) (childOf d)
+use Rattle.tree.specs.RowSteps.{gained, cutAt, linkedTo}
+use Rattle.tree.specs.declared.types.Child.{Child}
+use Rattle.tree.specs.declared.types.Became.{Became}
+use Rattle.tree.specs.declared.types.Became.the-variants.{Stays, Copied, Halved}
 
 -- A place that was found is one of the page's n rows
 abbrev pub Within : ℕ → Place → Type 0
 Within n Missing = Unit {0}
 Within n (At place) = place < n
-
-abbrev pub rowIn : List ℕ → ℕ → Row
-rowIn page place = rowAt page (rowStart place)
 
 -- Step 4: a row born at t is written over where it is; another one ends at t, and what it becomes is added
 abbrev pub replaceWords : ℕ → List ℕ → ℕ → Row → Row → List ℕ
@@ -54,8 +42,8 @@ leafWords t k v page Missing gain = gainWords t v page gain
 leafWords t k v page (At place) gain = cutWords t k v page place
 
 -- Step 7, for the row that stood at the place before step 3
-abbrev pub linkWords : ℕ → List ℕ → ℕ → Row → outcome.Became → List ℕ
+abbrev pub linkWords : ℕ → List ℕ → ℕ → Row → Became → List ℕ
 linkWords t page place old Stays = page
-linkWords t page place old (Copied c) = replaceWords t page place old (linkedTo (childOf c) old)
+linkWords t page place old (Copied c) = replaceWords t page place old (linkedTo c old)
 linkWords t page place old (Halved c d) =
-    appendRow (replaceWords t page place old (linkedTo (childOf c) old)) (newRow t (d .low) (d .high) (d .page) zero)
+    appendRow (replaceWords t page place old (linkedTo c old)) (newRow t (d .low) (d .high) (d .page) zero)

@@ -1,38 +1,17 @@
 // The steps of an entry on the words of one page.
-use crate::entry::Became;
-use crate::entry::Child;
 use page::Place;
+use page::born_at;
+use page::gained_row;
+use tree::Became;
+use tree::Child;
 use tree::Row;
 use words::Value;
 ghost use mathlib.Core.Path.{_≡_};
 ghost use Prim.Native.Nat.{_+_, _≤_, _<_};
 ghost use lib.ListN.{length};
 ghost use Rattle.tree.specs.Row.{rowStart, rowWords, word};
-ghost use Rattle.tree.specs.Edit.{bornAt};
-ghost use Rattle.tree.specs.RowSteps.{gained, cutAt, linkedTo};
-ghost use Rattle.enter.specs.PageEdits.{replaceWords, gainWords, cutWords, leafWords, linkWords, childOf, Within};
-
-// The row, born at t and open.
-pub fn born_at(row: Row, t: u32) -> Row
-    ensures { λ r. ⌜ r ≡ bornAt t row ⌝ }
-{
-    page::new_row(t, row.low, row.high, row.child, row.value)
-}
-
-// The row with a point's value added.
-pub fn gained_row(row: Row, value: Value) -> Row
-    ensures { λ r. ⌜ r ≡ gained value row ⌝ }
-{
-    let own = row.value;
-    Row {
-        low: row.low,
-        high: row.high,
-        child: row.child,
-        birth: row.birth,
-        end: row.end,
-        value: own.plus(value),
-    }
-}
+ghost use Rattle.tree.specs.RowSteps.{cutAt, linkedTo};
+ghost use Rattle.enter.specs.PageEdits.{replaceWords, gainWords, cutWords, leafWords, linkWords, Within};
 
 // The row up to key k.
 fn cut_row(row: Row, k: u16) -> Row
@@ -51,7 +30,7 @@ fn cut_row(row: Row, k: u16) -> Row
 
 // The row over another child page.
 fn linked_row(row: Row, child: Child) -> Row
-    ensures { λ r. ⌜ r ≡ linkedTo (childOf child) row ⌝ }
+    ensures { λ r. ⌜ r ≡ linkedTo child row ⌝ }
 {
     let value = row.value;
     Row {

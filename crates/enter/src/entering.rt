@@ -2,11 +2,11 @@
 use crate::edits::edit_leaf;
 use crate::edits::gain_row;
 use crate::edits::link_row;
-use crate::entry::Became;
-use crate::entry::Done;
-use crate::split::split_page;
-use tree::TreeUse;
 use page::Place;
+use split::Done;
+use split::split_page;
+use tree::Became;
+use tree::TreeUse;
 use words::Value;
 ghost use mathlib.Core.Path.{_≡_};
 ghost use mathlib.Core.List.{_++_};

@@ -1,12 +1,12 @@
 // Entering a point into a tree: from the root for its tick down, and what a root overflow does to the root list.
 use crate::entering::enter_from;
-use crate::entry::Became;
 use lookup::find_root;
-use crate::split::put_page;
-use crate::split::taken_page;
+use page::Page;
+use split::put_page;
+use split::taken_page;
+use tree::Became;
 use tree::Root;
 use tree::TreeUse;
-use page::Page;
 use words::Value;
 ghost use mathlib.Core.Path.{_≡_};
 ghost use Prim.Native.Nat.{_+_, _≤_, _<_};

@@ -1,9 +1,9 @@
 // The lookup of one tree: from the root for the tick down to a leaf, the true values of the rows that hold (t, k) added on the way.
 use crate::roots::find_root;
+use tree::Held;
 use tree::Lookup;
 use tree::Root;
 use tree::TreeUse;
-use tree::Held;
 use words::Value;
 ghost use mathlib.Core.Path.{_≡_};
 ghost use mathlib.Core.List.{[]};

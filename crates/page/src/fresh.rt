@@ -1,5 +1,6 @@
 // A page as a value: what a call builds before it writes a page whole.
 use crate::edit::put_row;
+use crate::row::new_row;
 use tree::Row;
 use words::Value;
 ghost use mathlib.Core.Path.{_≡_};
@@ -7,7 +8,7 @@ ghost use Prim.Native.Nat.{_+_, _-_, _≤_, _<_};
 ghost use lib.ListN.{length};
 ghost use Rattle.words.specs.Overwrite.{overwrite};
 ghost use Rattle.tree.specs.Row.{pageWords, rowLimit};
-ghost use Rattle.tree.specs.Fresh.{zeros, newRow};
+ghost use Rattle.tree.specs.Fresh.{zeros};
 ghost use Rattle.page.specs.PageValue.{emptyPage, withRow, twoRowRoot, encodePage};
 
 // A page: its header, and the rows in its first `count` places.
@@ -18,20 +19,6 @@ pub struct Page {
     pub birth: u32,
     pub count: usize,
     pub rows: [Row; 64],
-}
-
-// A row born at `birth` and open.
-pub fn new_row(birth: u32, low: u16, high: u16, child: u32, value: Value) -> Row
-    ensures { λ r. ⌜ r ≡ newRow birth low high child value ⌝ }
-{
-    Row {
-        low,
-        high,
-        child,
-        birth,
-        end: 4294967295,
-        value,
-    }
 }
 
 impl Page {

@@ -1,4 +1,4 @@
-// A row of a page, read from its four words.
+// A row of a page: read from its four words, live or not, made anew.
 use tree::Row;
 use words::Value;
 ghost use mathlib.Core.Path.{_≡_};
@@ -8,6 +8,9 @@ ghost use lib.ListN.{length};
 ghost use lib.Dec.{leb, ltb};
 ghost use Rattle.words.specs.Words.{birthOf, endOf};
 ghost use Rattle.tree.specs.Row.{rowStart, rowWords, rowAt};
+ghost use Rattle.tree.specs.Edit.{bornAt};
+ghost use Rattle.tree.specs.Fresh.{newRow};
+ghost use Rattle.tree.specs.RowSteps.{gained};
 
 // The row at a place of the page.
 pub fn row_at(page: &[u64], place: usize) -> Row
@@ -32,4 +35,40 @@ pub fn is_live(life: u64, t: u32) -> bool
     ensures { λ r. ⌜ r ≡ (leb (birthOf life) t && ltb t (endOf life)) ⌝ }
 {
     words::birth_of(life) <= t && t < words::end_of(life)
+}
+
+// A row born at `birth` and open.
+pub fn new_row(birth: u32, low: u16, high: u16, child: u32, value: Value) -> Row
+    ensures { λ r. ⌜ r ≡ newRow birth low high child value ⌝ }
+{
+    Row {
+        low,
+        high,
+        child,
+        birth,
+        end: 4294967295,
+        value,
+    }
+}
+
+// The row, born at t and open.
+pub fn born_at(row: Row, t: u32) -> Row
+    ensures { λ r. ⌜ r ≡ bornAt t row ⌝ }
+{
+    new_row(t, row.low, row.high, row.child, row.value)
+}
+
+// The row with a point's value added.
+pub fn gained_row(row: Row, value: Value) -> Row
+    ensures { λ r. ⌜ r ≡ gained value row ⌝ }
+{
+    let own = row.value;
+    Row {
+        low: row.low,
+        high: row.high,
+        child: row.child,
+        birth: row.birth,
+        end: row.end,
+        value: own.plus(value),
+    }
 }

@@ -22,7 +22,9 @@ use Rattle.plan.specs.declared.planning.Met.the-variants as met
 use Rattle.plan.specs.declared.planning.Planned.{Planned}
 use Rattle.plan.specs.declared.planning.Planned.the-variants.{Spoiled, Made}
 use Rattle.tree.specs.Tree.{Tree, pageAt, metAt}
-use Rattle.tree.specs.RowSteps.{Point, Became, stays, copied, halved, rowAround, gainRows, leafRows, relinkRow}
+use Rattle.tree.specs.RowSteps.{Point, rowAround, gainRows, leafRows, relinkRow}
+use Rattle.tree.specs.declared.types.Became.{Became}
+use Rattle.tree.specs.declared.types.Became.the-variants.{Stays, Copied, Halved}
 use Rattle.tree.specs.Overflow.{Written, finishPage, copiedRows}
 use Rattle.tree.specs.Enter.{unwritten, enterBelow, enterFrom}
 use Rattle.tree.specs.Plan.{soundBelow, descentSound}
@@ -34,9 +36,9 @@ use Rattle.plan.proofs.ShapeLaws.{copied-rows, copied-live, halved-rows
 
 -- How many pages took the rows of a page
 abbrev pub partsIn : Became → ℕ
-partsIn stays = 0
-partsIn (copied c) = 1
-partsIn (halved c d) = 2
+partsIn Stays = 0
+partsIn (Copied c) = 1
+partsIn (Halved c d) = 2
 
 -- What the plan says of what was written
 abbrev pub outcome : Written → Planned
@@ -129,13 +131,13 @@ module _ (p : Point) (small : p .tick < openEnd) (words : List ℕ) where
         ≡ planPage made (length (relinkRow (p .tick) x b (gainRows p (rowsOf words))))
         (count (live (p .tick)) (relinkRow (p .tick) x b (gainRows p (rowsOf words))))
     unfolding planAbove relinkRow
-    relink-is made stays = ap₂ (planPage made) gained-count gained-live-count
-    relink-is made (copied c) =
+    relink-is made Stays = ap₂ (planPage made) gained-count gained-live-count
+    relink-is made (Copied c) =
         ap₂ (planPage made)
         (sum-three (word words 1) (theCounts .gain) _ (theCounts .inner) _ _ 0 gained-count inner-cost
         (copied-rows p small (rowsOf words) e c))
         (ap (λ (n : ℕ). n + 0) gained-live-count ∙ sym (copied-live p small (rowsOf words) e c))
-    relink-is made (halved c d) =
+    relink-is made (Halved c d) =
         ap₂ (planPage made)
         (sum-three (word words 1) (theCounts .gain) _ (theCounts .inner) _ _ 1 gained-count inner-cost
         (halved-rows p small (rowsOf words) e c d))

@@ -17,7 +17,9 @@ use Rattle.tree.specs.declared.types.Plan.{Plan}
 use Rattle.tree.specs.declared.types.Plan.the-variants.{Spoiled, Ready}
 use Rattle.tree.specs.declared.types.RootChange.the-variants.{Kept, Added, Replaced}
 use Rattle.tree.specs.Tree.{Tree, levelOf, lastRoot, rootFor, rootAt, rootInUse, topLevel}
-use Rattle.tree.specs.RowSteps.{Point, Became, stays, copied, halved}
+use Rattle.tree.specs.RowSteps.{Point}
+use Rattle.tree.specs.declared.types.Became.{Became}
+use Rattle.tree.specs.declared.types.Became.the-variants.{Stays, Copied, Halved}
 use Rattle.tree.specs.Overflow.{Written}
 use Rattle.tree.specs.Enter.{Entered, enteredAs, enterFrom, enterRoot}
 use Rattle.tree.specs.Plan.{isHalved, topMustSplit, descentSound, planRoot, plan}
@@ -56,14 +58,14 @@ end-test top last t false x = refl
 top-is : (tree : Tree) (t top : ℕ) (so : Written) (b : Became) → planTop (so .made) (partsIn b) top (lastRoot tree) t
     ≡ cond (not (eqb top topLevel && isHalved b)) (Ready (enteredAs tree t top so b .made) (enteredAs tree t top so b .root)) Spoiled
 unfolding planTop
-top-is tree t top so stays = not-split (eqb top topLevel) (Ready (so .made) Kept)
-top-is tree t top so (copied c) =
+top-is tree t top so Stays = not-split (eqb top topLevel) (Ready (so .made) Kept)
+top-is tree t top so (Copied c) =
     root-said (eqb (birthOf (lastRoot tree)) t) _ _ (so .made) refl refl refl refl
-    ∙ not-split (eqb top topLevel) (Ready (enteredAs tree t top so (copied c) .made) (enteredAs tree t top so (copied c) .root))
-top-is tree t top so (halved c d) =
+    ∙ not-split (eqb top topLevel) (Ready (enteredAs tree t top so (Copied c) .made) (enteredAs tree t top so (Copied c) .root))
+top-is tree t top so (Halved c d) =
     ap (λ (x : Plan). cond (eqb top topLevel) Spoiled x)
     (root-said (eqb (birthOf (lastRoot tree)) t) _ _ (so .made + 1) refl refl refl refl)
-    ∙ split-test (eqb top topLevel) (Ready (enteredAs tree t top so (halved c d) .made) (enteredAs tree t top so (halved c d) .root))
+    ∙ split-test (eqb top topLevel) (Ready (enteredAs tree t top so (Halved c d) .made) (enteredAs tree t top so (Halved c d) .root))
 
 -- Where there is a root, there is a last entry
 pub some-root : (roots : List ℕ) (t used : ℕ) {page : ℕ} → rootFor t (take used roots) ≡ At page → 0 < used

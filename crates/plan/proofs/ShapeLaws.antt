@@ -22,7 +22,9 @@ use Rattle.page.specs.PageValue.{noRow}
 use Rattle.tree.proofs.Lists.{count}
 use Rattle.tree.proofs.Places.{AtPlace, order-places}
 use Rattle.page.proofs.EntryWalks.{first-has}
-use Rattle.tree.specs.RowSteps.{Point, Child, copied, halved, gained, cutAt, linkedTo}
+use Rattle.tree.specs.RowSteps.{Point, gained, cutAt, linkedTo}
+use Rattle.tree.specs.declared.types.Child.{Child}
+use Rattle.tree.specs.declared.types.Became.the-variants.{Copied, Halved}
 use Rattle.tree.specs.RowSteps.{replaceRow, rowAround, rowFrom, gainIn, gainRows, cutIn, leafRows, relinkRow}
 use Rattle.plan.proofs.RowCounts.{count-kept, count-lost, first-passes}
 
@@ -170,24 +172,24 @@ module _ (p : Point) (small : p .tick < openEnd) (rows : List Row) where
 
     -- Steps 3 and 7
     pub copied-rows : (c : Child) →
-        length (relinkRow (p .tick) x (copied c) (gainRows p rows)) ≡ length (gainRows p rows) + (costOf (p .tick) x + 0)
+        length (relinkRow (p .tick) x (Copied c) (gainRows p rows)) ≡ length (gainRows p rows) + (costOf (p .tick) x + 0)
     unfolding relinkRow
     copied-rows c = replace-rows (p .tick) small (gainRows p rows) x gained-place (linkedTo c (x .row)) []
 
     pub copied-live : (c : Child) →
-        count (live (p .tick)) (relinkRow (p .tick) x (copied c) (gainRows p rows)) ≡ count (live (p .tick)) (gainRows p rows) + 0
+        count (live (p .tick)) (relinkRow (p .tick) x (Copied c) (gainRows p rows)) ≡ count (live (p .tick)) (gainRows p rows) + 0
     unfolding relinkRow
     copied-live c = replace-live (p .tick) small (gainRows p rows) x gained-place (linkedTo c (x .row)) [] (gained-place .alive) refl
 
     pub halved-rows : (c d : Child) →
-        length (relinkRow (p .tick) x (halved c d) (gainRows p rows)) ≡ length (gainRows p rows) + (costOf (p .tick) x + 1)
+        length (relinkRow (p .tick) x (Halved c d) (gainRows p rows)) ≡ length (gainRows p rows) + (costOf (p .tick) x + 1)
     unfolding relinkRow
     halved-rows c d =
         replace-rows (p .tick) small (gainRows p rows) x gained-place (linkedTo c (x .row))
         (newRow (p .tick) (d .low) (d .high) (d .page) zero ∷ [])
 
     pub halved-live : (c d : Child) →
-        count (live (p .tick)) (relinkRow (p .tick) x (halved c d) (gainRows p rows)) ≡ count (live (p .tick)) (gainRows p rows) + 1
+        count (live (p .tick)) (relinkRow (p .tick) x (Halved c d) (gainRows p rows)) ≡ count (live (p .tick)) (gainRows p rows) + 1
     unfolding relinkRow
     halved-live c d =
         replace-live (p .tick) small (gainRows p rows) x gained-place (linkedTo c (x .row))

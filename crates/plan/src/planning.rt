@@ -1,14 +1,14 @@
 // The plan of an entry, made before anything is written: whether a spoiled page is met, how many pages the entry makes, and what it
 // does to the root list. Only counts of rows decide that, so the plan reads each page once and copies no row.
 use lookup::find_root;
+use page::Page;
+use page::Place;
+use page::Surveyed;
 use tree::Plan;
 use tree::Root;
 use tree::RootChange;
-use tree::TreeUse;
-use page::Page;
-use page::Place;
 use tree::Row;
-use page::Surveyed;
+use tree::TreeUse;
 ghost use mathlib.Core.Path.{_≡_};
 ghost use mathlib.Core.Bool.{cond};
 ghost use Prim.Native.Nat.{_+_, _*_, _≤_, _<_};

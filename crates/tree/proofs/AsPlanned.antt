@@ -13,7 +13,9 @@ use Rattle.tree.specs.declared.types.RootChange.{RootChange}
 use Rattle.tree.specs.declared.types.RootChange.the-variants.{Kept, Added, Replaced}
 use Rattle.tree.specs.declared.types.Plan.the-variants.{Spoiled, Ready}
 use Rattle.tree.specs.Tree.{Tree, putPage, levelOf, rootAt, rootInUse, lastRoot}
-use Rattle.tree.specs.RowSteps.{Point, Became, stays, copied, halved}
+use Rattle.tree.specs.RowSteps.{Point}
+use Rattle.tree.specs.declared.types.Became.{Became}
+use Rattle.tree.specs.declared.types.Became.the-variants.{Stays, Copied, Halved}
 use Rattle.tree.specs.Overflow.{Written, takenPage}
 use Rattle.tree.specs.Enter.{Entered, enterFrom, withRoot, enteredAs, enterRoot}
 use Rattle.tree.specs.Plan.{descentSound, topMustSplit, planRoot, plan, enteredRoot, enter}
@@ -43,9 +45,9 @@ with-root tree t page table made =
     (record { pages = refl; roots = refl }) (record { pages = refl; roots = refl })
 
 entered-as : (tree : Tree) (t level : ℕ) (so : Written) (became : Became) → Done tree (enteredAs tree t level so became)
-entered-as tree t level so stays = record { pages = refl; roots = refl }
-entered-as tree t level so (copied c) = with-root tree t (c .page) (so .table) (so .made)
-entered-as tree t level so (halved c d) =
+entered-as tree t level so Stays = record { pages = refl; roots = refl }
+entered-as tree t level so (Copied c) = with-root tree t (c .page) (so .table) (so .made)
+entered-as tree t level so (Halved c d) =
     with-root tree t (takenPage (tree .used) (so .made))
     (putPage (so .table) (takenPage (tree .used) (so .made)) (freshPage (level + 1) 0 keyLimit t (twoRows t (c .high) (c .page) (d .page))))
     (so .made + 1)

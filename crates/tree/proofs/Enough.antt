@@ -11,7 +11,10 @@ use Rattle.tree.specs.Fresh.{freshPage, twoRows}
 use Rattle.tree.specs.declared.types.Root.the-variants.{At}
 use Rattle.tree.specs.declared.types.RootChange.the-variants.{Added}
 use Rattle.tree.specs.Tree.{Tree, putPage, levelOf, rootAt, wholePages, pageLimit}
-use Rattle.tree.specs.RowSteps.{Point, Child, Became, stays, copied, halved}
+use Rattle.tree.specs.RowSteps.{Point}
+use Rattle.tree.specs.declared.types.Child.{Child}
+use Rattle.tree.specs.declared.types.Became.{Became}
+use Rattle.tree.specs.declared.types.Became.the-variants.{Stays, Copied, Halved}
 use Rattle.tree.specs.Overflow.{Written, takenPage}
 use Rattle.tree.specs.Enter.{enterFrom, enteredAs, enterRoot}
 use Rattle.tree.specs.Grown.{lastTick, InTime, Room}
@@ -35,9 +38,9 @@ module _ (measure : Value → ℕ) (tree : Tree) (t level : ℕ) (root : ℕ →
   made-model = go (so .became) ∙ ap (λ (parts : Parts). grown t level root (o .store) (o .used) parts .used) (agree .parts)
     where
       go : (b : Became) → tree .used .pages + enteredAs tree t level so b .made ≡ grown t level root (o .store) (o .used) (partsOf b) .used
-      go stays = agree .used
-      go (copied c) = omega (arith, agree .used, root-made tree t (c .page) (so .table) (so .made))
-      go (halved c d) =
+      go Stays = agree .used
+      go (Copied c) = omega (arith, agree .used, root-made tree t (c .page) (so .table) (so .made))
+      go (Halved c d) =
           omega (
             arith,
             agree .used,
@@ -50,9 +53,9 @@ module _ (measure : Value → ℕ) (tree : Tree) (t level : ℕ) (root : ℕ →
   added-makes = go (so .became) (agree .made-some)
     where
       go : (b : Became) → MadeSome b (so .made) → enteredAs tree t level so b .root ≡ Added → 1 ≤ enteredAs tree t level so b .made
-      go stays some e = let z : _≡_ {A = ℕ} 0 1 = cc in absurd (omega arith)
-      go (copied c) some e = omega (arith, root-made tree t (c .page) (so .table) (so .made))
-      go (halved c d) some e =
+      go Stays some e = let z : _≡_ {A = ℕ} 0 1 = cc in absurd (omega arith)
+      go (Copied c) some e = omega (arith, root-made tree t (c .page) (so .table) (so .made))
+      go (Halved c d) some e =
           omega (
             arith,
             root-made tree t (takenPage (tree .used) (so .made)) (putPage (so .table) (takenPage (tree .used) (so .made)) (topPage c d))

@@ -20,7 +20,9 @@ use Rattle.tree.specs.declared.types.Root.the-variants.{At}
 use Rattle.tree.specs.declared.types.RootChange.the-variants.{Added}
 use Rattle.tree.specs.declared.types.Plan.the-variants.{Spoiled, Ready}
 use Rattle.tree.specs.Tree.{Tree, pageAt, levelOf, rootAt, rootFor}
-use Rattle.tree.specs.RowSteps.{Point, Became, stays, copied, halved}
+use Rattle.tree.specs.RowSteps.{Point}
+use Rattle.tree.specs.declared.types.Became.{Became}
+use Rattle.tree.specs.declared.types.Became.the-variants.{Stays, Copied, Halved}
 use Rattle.tree.specs.Enter.{enterFrom, enterRoot}
 use Rattle.tree.specs.Plan.{isHalved, topMustSplit, descentSound, planRoot, plan, enteredRoot, enter}
 use Rattle.tree.specs.Grown.{firstPage, openedTree, grow, lastTick, InTime, Room, Admitted}
@@ -170,9 +172,9 @@ module _ (measure : Value → ℕ) (m : Measure measure) (tree : Tree) (points :
     where
       go : (b : Became) → partsOf b ≡ out .parts → (c : Bool) → eqb (levelOf (tree .table) page) 3 ≡ c → (c && isHalved b) ≡ false
       go b e false f = refl
-      go stays e true f = refl
-      go (copied x) e true f = refl
-      go (halved x y) e true f =
+      go Stays e true f = refl
+      go (Copied x) e true f = refl
+      go (Halved x y) e true f =
           absurd (omega (arith, halved-low (x .page) (y .page) (x .high) (sym e), eqb-true (levelOf (tree .table) page) 3 f))
 
   -- The plan is never spoiled

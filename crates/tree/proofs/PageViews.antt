@@ -20,7 +20,8 @@ use Rattle.tree.specs.KeyOrder.{Placed, keyOrder}
 use Rattle.tree.specs.Edit.{bornAt, withRows}
 use Rattle.tree.specs.Fresh.{freshPage}
 use Rattle.tree.specs.Tree.{Tree, pageAt, putPage}
-use Rattle.tree.specs.RowSteps.{Became, stays, copied, halved}
+use Rattle.tree.specs.declared.types.Became.{Became}
+use Rattle.tree.specs.declared.types.Became.the-variants.{Stays, Copied, Halved}
 use Rattle.tree.specs.Overflow.{Written, copiedRows, lowerCount, lowestKey, gainFirst, totalOf, copyPage, halvePage, splitPage}
 use Rattle.tree.specs.Overflow.{finishPage}
 use Rattle.tree.proofs.ModelPages as model
@@ -37,9 +38,9 @@ use Rattle.tree.proofs.RowBounds.{all-take, all-drop, copied-length, co
 
 -- A page that was split made at least one
 abbrev pub MadeSome : Became → ℕ → Type 0
-MadeSome stays made = Unit {0}
-MadeSome (copied c) made = 1 ≤ made
-MadeSome (halved c d) made = 1 ≤ made
+MadeSome Stays made = Unit {0}
+MadeSome (Copied c) made = 1 ≤ made
+MadeSome (Halved c d) made = 1 ≤ made
 
 -- What a call wrote and what the model gives: the same pages made, and, where the table has them, the same pages.
 -- `lo` and `hi` are the key range of the page at hand.
@@ -159,7 +160,7 @@ module _ (measure : Value → ℕ) where
 
     -- The page keeps its number
     stay-matches : length rows ≤ 64
-        → Matches measure tree lo hi (record { table = putPage (so .table) page (withRows old rows); made = so .made; became = stays })
+        → Matches measure tree lo hi (record { table = putPage (so .table) page (withRows old rows); made = so .made; became = Stays })
         (record {
           store = putAt S page
               (record { level = oldPage .level; low = oldPage .low; high = oldPage .high; rows = viewRows measure rows });
@@ -388,7 +389,7 @@ module _ (measure : Value → ℕ) where
       where
         go : (b : Bool) → leb (length rows) 64 ≡ b
             → Matches measure tree lo hi
-            (cond b (record { table = putPage (so .table) page (withRows old rows); made = so .made; became = stays })
+            (cond b (record { table = putPage (so .table) page (withRows old rows); made = so .made; became = Stays })
             (splitPage tree t so old moving))
             (cond b
             (record {

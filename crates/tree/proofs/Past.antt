@@ -17,7 +17,9 @@ use Rattle.tree.proofs.OrderTotals.{total-stored}
 use Rattle.tree.specs.Fresh.{freshPage, twoRows}
 use Rattle.tree.specs.declared.types.Root.the-variants.{At}
 use Rattle.tree.specs.Tree.{Tree, putPage, levelOf, rootAt}
-use Rattle.tree.specs.RowSteps.{Point, Became, stays, copied, halved}
+use Rattle.tree.specs.RowSteps.{Point}
+use Rattle.tree.specs.declared.types.Became.{Became}
+use Rattle.tree.specs.declared.types.Became.the-variants.{Stays, Copied, Halved}
 use Rattle.tree.specs.Overflow.{Written, takenPage}
 use Rattle.tree.specs.Enter.{enterFrom, enteredAs, enterRoot}
 use Rattle.tree.specs.Path.{path}
@@ -41,9 +43,9 @@ use Rattle.tree.proofs.SeenPages.{LooksSame, enter-looks, root-looks}
 
 -- The whole entry makes no fewer pages than the steps below the root
 root-made-more : (tree : Tree) (t level : ℕ) (so : Written) (became : Became) → so .made ≤ enteredAs tree t level so became .made
-root-made-more tree t level so stays = omega arith
-root-made-more tree t level so (copied c) = omega (arith, root-made tree t (c .page) (so .table) (so .made))
-root-made-more tree t level so (halved c d) =
+root-made-more tree t level so Stays = omega arith
+root-made-more tree t level so (Copied c) = omega (arith, root-made tree t (c .page) (so .table) (so .made))
+root-made-more tree t level so (Halved c d) =
     omega (
       arith,
       root-made tree t (takenPage (tree .used) (so .made))

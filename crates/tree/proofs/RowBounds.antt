@@ -17,7 +17,9 @@ use Rattle.tree.specs.Edit.{ended, bornAt}
 use Rattle.tree.specs.Fresh.{newRow}
 use Rattle.tree.proofs.Lists.{all-map, sumBy}
 use Rattle.tree.proofs.Places.{live-order, order-sum, liveOnly}
-use Rattle.tree.specs.RowSteps.{Point, Became, stays, copied, halved, gained, cutAt, linkedTo, rowAround, rowFrom, gainIn, gainRows}
+use Rattle.tree.specs.RowSteps.{Point, gained, cutAt, linkedTo, rowAround, rowFrom, gainIn, gainRows}
+use Rattle.tree.specs.declared.types.Became.{Became}
+use Rattle.tree.specs.declared.types.Became.the-variants.{Stays, Copied, Halved}
 use Rattle.tree.specs.RowSteps.{cutIn, leafRows, relinkRow, replaceRow}
 use Rattle.tree.specs.Overflow.{copiedRows, gainFirst, lowestKey}
 use Rattle.tree.proofs.PageCodec.{Fits}
@@ -134,19 +136,19 @@ module _ (p : Point) (rows : List Row) where
 module _ (t : ℕ) (x : Placed) (rows : List Row) where
   pub relink-length : (became : Became) → length (relinkRow t x became rows) ≤ length rows + 2
   unfolding relinkRow
-  relink-length stays = omega arith
-  relink-length (copied c) = omega (arith, replace-length t x (linkedTo c (x .row)) [] rows)
-  relink-length (halved c d) =
+  relink-length Stays = omega arith
+  relink-length (Copied c) = omega (arith, replace-length t x (linkedTo c (x .row)) [] rows)
+  relink-length (Halved c d) =
       omega (arith, replace-length t x (linkedTo c (x .row)) (newRow t (d .low) (d .high) (d .page) value.zero ∷ []) rows)
 
   pub relink-fits : (lo hi : ℕ) → t < 4294967296 → lo < 65536 → hi < 65536 → Fits (x .row) → All Fits rows → (became : Became)
       → Covers lo hi became → All Fits (relinkRow t x became rows)
   unfolding relinkRow
-  relink-fits lo hi now l h f fits stays c = fits
-  relink-fits lo hi now l h f fits (copied a) c =
+  relink-fits lo hi now l h f fits Stays c = fits
+  relink-fits lo hi now l h f fits (Copied a) c =
       replace-fits t x (linkedTo a (x .row)) [] rows now f
       (record { low = omega (arith, c .0); high = omega (arith, c .1); birth = f .birth }) tt fits
-  relink-fits lo hi now l h f fits (halved a b) c =
+  relink-fits lo hi now l h f fits (Halved a b) c =
       replace-fits t x (linkedTo a (x .row)) _ rows now f (record { low = omega (arith, c .0); high = c .3; birth = f .birth })
       (record { low = omega (arith, c .1, c .3); high = omega (arith, c .2); birth = now }, tt) fits
 

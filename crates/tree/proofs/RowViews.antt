@@ -21,7 +21,9 @@ use Rattle.tree.specs.Edit.{ended, bornAt}
 use Rattle.tree.specs.Fresh.{newRow}
 use Rattle.tree.proofs.Places.{AtPlace, order-places}
 use Rattle.tree.specs.RowSteps as steps
-use Rattle.tree.specs.RowSteps.{Point, Became, stays, copied, halved, rowAround, rowFrom, gainIn, gainRows, cutIn, leafRows, relinkRow}
+use Rattle.tree.specs.RowSteps.{Point, rowAround, rowFrom, gainIn, gainRows, cutIn, leafRows, relinkRow}
+use Rattle.tree.specs.declared.types.Became.{Became}
+use Rattle.tree.specs.declared.types.Became.the-variants.{Stays, Copied, Halved}
 use Rattle.tree.specs.RowSteps.{cutAt, linkedTo}
 use Rattle.tree.proofs.ModelPages.{Entry, onlyIf, sumLive, fieldHolding, replaced}
 use Rattle.tree.proofs.ModelTrees.{Slot, Chain, sumSlots}
@@ -40,15 +42,15 @@ use Rattle.tree.proofs.Searches.{inside-none, from-here, from-last, fro
 
 -- What a page became, in the model's words
 abbrev pub partsOf : Became → Parts
-partsOf stays = stay
-partsOf (copied c) = copy (c .page)
-partsOf (halved c d) = two (c .page) (d .page) (c .high)
+partsOf Stays = stay
+partsOf (Copied c) = copy (c .page)
+partsOf (Halved c d) = two (c .page) (d .page) (c .high)
 
 -- The new pages cover the key range of the old one; their keys fit
 abbrev pub Covers : ℕ → ℕ → Became → Type 0
-Covers lo hi stays = Unit {0}
-Covers lo hi (copied c) = (c .low ≡ lo) × (c .high ≡ hi)
-Covers lo hi (halved c d) = (c .low ≡ lo) × (c .high ≡ d .low) × (d .high ≡ hi) × (c .high < 65536)
+Covers lo hi Stays = Unit {0}
+Covers lo hi (Copied c) = (c .low ≡ lo) × (c .high ≡ hi)
+Covers lo hi (Halved c d) = (c .low ≡ lo) × (c .high ≡ d .low) × (d .high ≡ hi) × (c .high < 65536)
 
 -- No row starts at the end of a chain
 starts-none : {A : Type 0} (P : ℕ → ℕ → ℕ → A → Type 0) (m lo hi : ℕ) (tr : List (Slot A)) → Chain P lo hi tr → hi ≤ m
@@ -298,8 +300,8 @@ module _ (measure : Value → ℕ) (m : Measure measure) {A : Type 0} (P : ℕ �
       go : (b : Became) → Covers (y .entry .low) (y .entry .high) b
           → viewRows measure (relinkRow (p .tick) x b (gainRows p rows))
           ≡ relink (p .tick) (y .entry .low) (partsOf b) (viewRows measure (gainRows p rows))
-      go stays h = refl
-      go (copied a) h =
+      go Stays h = refl
+      go (Copied a) h =
           replace-view measure (p .tick) (y .entry .low) _ noneFurther (gainRows p rows) x still is-low only (linkedTo a (x .row)) []
           (λ k. record {
             birth = x .row .birth;
@@ -313,7 +315,7 @@ module _ (measure : Value → ℕ) (m : Measure measure) {A : Type 0} (P : ℕ �
                 };
           })
           refl
-      go (halved a b) h =
+      go (Halved a b) h =
           replace-view measure (p .tick) (y .entry .low) _ _ (gainRows p rows) x still is-low only (linkedTo a (x .row))
           (newRow (p .tick) (b .low) (b .high) (b .page) value.zero ∷ [])
           (λ k. record {

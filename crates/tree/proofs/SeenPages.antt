@@ -21,7 +21,9 @@ use Rattle.tree.specs.Edit.{withRows}
 use Rattle.tree.specs.Fresh.{freshPage, twoRows}
 use Rattle.tree.specs.Tree as ours
 use Rattle.tree.specs.Tree.{pageAt, putPage, lastRoot}
-use Rattle.tree.specs.RowSteps.{Point, Became, stays, copied, halved, rowAround, gainRows, leafRows, relinkRow}
+use Rattle.tree.specs.RowSteps.{Point, rowAround, gainRows, leafRows, relinkRow}
+use Rattle.tree.specs.declared.types.Became.{Became}
+use Rattle.tree.specs.declared.types.Became.the-variants.{Stays, Copied, Halved}
 use Rattle.tree.specs.Overflow.{Written, copiedRows, lowerCount, lowestKey, gainFirst, totalOf, copyPage, halvePage, splitPage}
 use Rattle.tree.specs.Overflow.{finishPage}
 use Rattle.tree.specs.Enter.{Entered, unwritten, enterAbove, enterBelow, enterFrom, withRoot, enteredAs}
@@ -150,10 +152,10 @@ module _ (tree : ours.Tree) (t w : ℕ) (so : Written) (page : ℕ) (rows : List
 
       go : (b : Bool) → leb (length rows) 64 ≡ b
           → (tree .used .pages
-          + (cond b (record { table = putPage (so .table) page (withRows old rows); made = so .made; became = stays })
+          + (cond b (record { table = putPage (so .table) page (withRows old rows); made = so .made; became = Stays })
           (splitPage tree t so old moving)) .made) * 260 ≤ length (tree .table)
           → LooksSame w tree
-          ((cond b (record { table = putPage (so .table) page (withRows old rows); made = so .made; became = stays })
+          ((cond b (record { table = putPage (so .table) page (withRows old rows); made = so .made; became = Stays })
           (splitPage tree t so old moving)) .table)
       go true e room = stay-looks (leb-true _ _ e) room
       go false e room = halves (leb (length (copiedRows t rows)) 40) refl room
@@ -169,7 +171,7 @@ finish-made tree t so page rows = go (leb (length rows) 64) (leb (length (copied
     go : (a b : Bool)
         → so .made
         ≤ (cond a
-        (record { table = putPage (so .table) page (withRows (pageAt (tree .table) page) rows); made = so .made; became = stays })
+        (record { table = putPage (so .table) page (withRows (pageAt (tree .table) page) rows); made = so .made; became = Stays })
         (cond b (copyPage tree t so (pageAt (tree .table) page) (copiedRows t rows))
         (halvePage tree t so (pageAt (tree .table) page) (take (lowerCount (copiedRows t rows)) (copiedRows t rows))
         (drop (lowerCount (copiedRows t rows)) (copiedRows t rows))
@@ -302,10 +304,10 @@ root-looks tree t w level so size-is before = go (so .became)
 
     go : (b : Became) → (tree .used .pages + enteredAs tree t level so b .made) * 260 ≤ length (tree .table)
         → LooksSame w tree (enteredAs tree t level so b .tree .table)
-    go stays room x l = before x l
-    go (copied c) room x l =
+    go Stays room x l = before x l
+    go (Copied c) room x l =
         same-look w (ap (λ (table : List ℕ). pageAt table x) (with-table (c .page) (so .table) (so .made))) (before x l)
-    go (halved c d) room x l =
+    go (Halved c d) room x l =
         let page : ℕ = tree .used .pages + so .made in
         let words : List ℕ = freshPage (level + 1) 0 keyLimit t (twoRows t (c .high) (c .page) (d .page)) in
         let made-is = root-made tree t page (putPage (so .table) page words) (so .made + 1) in

@@ -16,7 +16,9 @@ use Rattle.tree.specs.TrueValue.{Search, none, one, first}
 use Rattle.tree.specs.Edit.{ended, bornAt}
 use Rattle.tree.specs.Fresh.{newRow}
 use Rattle.tree.proofs.Places.{AtPlace, order-places}
-use Rattle.tree.specs.RowSteps.{Point, Became, stays, copied, halved, gained, cutAt, linkedTo, rowAround, rowFrom, gainIn, gainRows}
+use Rattle.tree.specs.RowSteps.{Point, gained, cutAt, linkedTo, rowAround, rowFrom, gainIn, gainRows}
+use Rattle.tree.specs.declared.types.Became.{Became}
+use Rattle.tree.specs.declared.types.Became.the-variants.{Stays, Copied, Halved}
 use Rattle.tree.specs.RowSteps.{cutIn, leafRows, relinkRow, replaceRow}
 use Rattle.tree.specs.Alike.{SeenRow, seenRow}
 use Rattle.tree.proofs.View.{map-sort}
@@ -157,9 +159,9 @@ module _ (p : Point) (w : ℕ) (early : w < p .tick) (rows : List Row) where
       still = gain-keeps p rows x (found-at _ e) inside
 
       go : (b : Became) → seen w (relinkRow (p .tick) x b (gainRows p rows)) ≡ seen w (gainRows p rows)
-      go stays = refl
-      go (copied c) = replace-seen w (p .tick) early x (linkedTo c (x .row)) [] (gainRows p rows) still refl tt
-      go (halved c d) =
+      go Stays = refl
+      go (Copied c) = replace-seen w (p .tick) early x (linkedTo c (x .row)) [] (gainRows p rows) still refl tt
+      go (Halved c d) =
           replace-seen w (p .tick) early x (linkedTo c (x .row)) (newRow (p .tick) (d .low) (d .high) (d .page) value.zero ∷ [])
           (gainRows p rows)
           still refl (refl, tt)

@@ -18,7 +18,9 @@ use Rattle.tree.specs.declared.types.Root.the-variants.{At, Missing}
 use Rattle.tree.specs.declared.types.RootChange.the-variants.{Added}
 use Rattle.tree.specs.Tree as ours
 use Rattle.tree.specs.Tree.{pageAt, putPage, levelOf, rootAt}
-use Rattle.tree.specs.RowSteps.{Point, Became, stays, copied, halved}
+use Rattle.tree.specs.RowSteps.{Point}
+use Rattle.tree.specs.declared.types.Became.{Became}
+use Rattle.tree.specs.declared.types.Became.the-variants.{Stays, Copied, Halved}
 use Rattle.tree.specs.Overflow.{Written}
 use Rattle.tree.specs.Enter.{enterFrom, withRoot, enteredAs, enterRoot}
 use Rattle.tree.specs.Enter as entry
@@ -141,7 +143,7 @@ module _ (measure : Value → ℕ) (m : Measure measure) (tree : ours.Tree) (las
           → (tree .used .pages + enteredAs tree t level so b .made) * 260 ≤ length (tree .table)
           → (enteredAs tree t level so b .root ≡ Added → tree .used .roots < length (tree .roots))
           → Grew measure tree t level o (enteredAs tree t level so b)
-      go stays e some cover room place =
+      go Stays e some cover room place =
           let w = none-made room in
           record {
             state =
@@ -159,7 +161,7 @@ module _ (measure : Value → ℕ) (m : Measure measure) (tree : ours.Tree) (las
             table = w .0;
             list = refl;
           }
-      go (copied c) e some cover room place =
+      go (Copied c) e some cover room place =
           let w = none-made (omega (arith, root-made tree t (c .page) (so .table) (so .made))) in
           let r = new-root (c .page) (so .table) (so .made) (o .store) (o .used) some place (w .1) (agree .used) (w .0) in
           record {
@@ -169,7 +171,7 @@ module _ (measure : Value → ℕ) (m : Measure measure) (tree : ours.Tree) (las
             table = r .3;
             list = r .4;
           }
-      go (halved c d) e some cover room place =
+      go (Halved c d) e some cover room place =
           let page : ℕ = tree .used .pages + so .made in
           let words : List ℕ = freshPage (level + 1) 0 keyLimit t (twoRows t (c .high) (c .page) (d .page)) in
           let made-is = root-made tree t page (putPage (so .table) page words) (so .made + 1) in

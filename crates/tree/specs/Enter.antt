@@ -12,12 +12,14 @@ use Rattle.tree.specs.Fresh.{freshPage, twoRows}
 use Rattle.tree.specs.declared.types.RootChange.{RootChange}
 use Rattle.tree.specs.declared.types.RootChange.the-variants.{Kept, Added, Replaced}
 use Rattle.tree.specs.Tree.{Tree, pageAt, putPage, levelOf, lastRoot}
-use Rattle.tree.specs.RowSteps.{Point, Became, stays, copied, halved, rowAround, gainRows, leafRows, relinkRow}
+use Rattle.tree.specs.RowSteps.{Point, rowAround, gainRows, leafRows, relinkRow}
+use Rattle.tree.specs.declared.types.Became.{Became}
+use Rattle.tree.specs.declared.types.Became.the-variants.{Stays, Copied, Halved}
 use Rattle.tree.specs.Overflow.{Written, takenPage, finishPage}
 
 -- Nothing written yet
 abbrev pub unwritten : Tree → Written
-unwritten tree = record { table = tree .table; made = 0; became = stays }
+unwritten tree = record { table = tree .table; made = 0; became = Stays }
 
 -- A page above the lowest one, after the call came back from the child of its row x: its step 3, then step 7
 abbrev pub enterAbove : Tree → Point → ℕ → Placed → Written → Written
@@ -68,7 +70,7 @@ withRoot tree t page table made =
 
 -- "Two halves get a new root one level up, two rows of value zero."
 abbrev pub enteredAs : Tree → ℕ → ℕ → Written → Became → Entered
-enteredAs tree t level so stays =
+enteredAs tree t level so Stays =
     record {
       tree =
           record {
@@ -79,8 +81,8 @@ enteredAs tree t level so stays =
       made = so .made;
       root = Kept;
     }
-enteredAs tree t level so (copied c) = withRoot tree t (c .page) (so .table) (so .made)
-enteredAs tree t level so (halved c d) =
+enteredAs tree t level so (Copied c) = withRoot tree t (c .page) (so .table) (so .made)
+enteredAs tree t level so (Halved c d) =
     withRoot tree t (takenPage (tree .used) (so .made))
     (putPage (so .table) (takenPage (tree .used) (so .made)) (freshPage (level + 1) 0 keyLimit t (twoRows t (c .high) (c .page) (d .page))))
     (so .made + 1)

@@ -14,7 +14,9 @@ use Rattle.tree.specs.Edit.{bornAt, withRows}
 use Rattle.tree.specs.Fresh.{freshPage}
 use Rattle.tree.specs.declared.types.TreeUse.{TreeUse}
 use Rattle.tree.specs.Tree.{Tree, pageAt, putPage}
-use Rattle.tree.specs.RowSteps.{Became, stays, copied, halved, gained}
+use Rattle.tree.specs.RowSteps.{gained}
+use Rattle.tree.specs.declared.types.Became.{Became}
+use Rattle.tree.specs.declared.types.Became.the-variants.{Stays, Copied, Halved}
 
 -- What the call has written so far: the table, how many pages it made, and what the page at hand became
 pub record Written : Type 0 where
@@ -56,7 +58,7 @@ module _ (tree : Tree) (t : ℕ) (so : Written) (old : List ℕ) where
       record {
         table = putPage (so .table) (takenPage (tree .used) (so .made)) (freshAt (lowKey (word old 2)) (highKey (word old 2)) rows);
         made = so .made + 1;
-        became = copied (record { page = takenPage (tree .used) (so .made); low = lowKey (word old 2); high = highKey (word old 2) });
+        became = Copied (record { page = takenPage (tree .used) (so .made); low = lowKey (word old 2); high = highKey (word old 2) });
       }
 
   abbrev pub halvePage : List Row → List Row → ℕ → Written
@@ -69,7 +71,7 @@ module _ (tree : Tree) (t : ℕ) (so : Written) (old : List ℕ) where
             (freshAt middle (highKey (word old 2)) (gainFirst (totalOf lower) upper));
         made = so .made + 2;
         became =
-            halved
+            Halved
             (record { page = takenPage (tree .used) (so .made); low = lowKey (word old 2); high = middle })
             (record { page = takenPage (tree .used) (so .made + 1); low = middle; high = highKey (word old 2) });
       }
@@ -85,5 +87,5 @@ module _ (tree : Tree) (t : ℕ) (so : Written) (old : List ℕ) where
 unfoldable pub finishPage : Tree → ℕ → Written → ℕ → List Row → Written
 finishPage tree t so page rows =
     cond (leb (length rows) rowLimit)
-    (record { table = putPage (so .table) page (withRows (pageAt (tree .table) page) rows); made = so .made; became = stays })
+    (record { table = putPage (so .table) page (withRows (pageAt (tree .table) page) rows); made = so .made; became = Stays })
     (splitPage tree t so (pageAt (tree .table) page) (copiedRows t rows))

@@ -13,7 +13,9 @@ use Rattle.tree.specs.declared.types.Root.the-variants.{At, Missing}
 use Rattle.tree.specs.declared.types.Plan.{Plan}
 use Rattle.tree.specs.declared.types.Plan.the-variants.{Spoiled, Ready}
 use Rattle.tree.specs.Tree.{Tree, pageAt, levelOf, rootAt, rootInUse, metAt, topLevel}
-use Rattle.tree.specs.RowSteps.{Point, Became, stays, copied, halved, rowAround}
+use Rattle.tree.specs.RowSteps.{Point, rowAround}
+use Rattle.tree.specs.declared.types.Became.{Became}
+use Rattle.tree.specs.declared.types.Became.the-variants.{Stays, Copied, Halved}
 use Rattle.tree.specs.Enter.{enterFrom, enterRoot}
 
 -- The pages met by the descent of step 1: each is tested, and none below the row that ends it
@@ -29,9 +31,9 @@ descentSound tree p (suc l) low high page =
 
 -- "a level 3 root whose rows must go to two pages"
 abbrev pub isHalved : Became → Bool
-isHalved stays = false
-isHalved (copied c) = false
-isHalved (halved c d) = true
+isHalved Stays = false
+isHalved (Copied c) = false
+isHalved (Halved c d) = true
 
 abbrev pub topMustSplit : Tree → Point → ℕ → Bool
 topMustSplit tree p page =

@@ -48,6 +48,10 @@ rowAt page at =
       value = valueAt page (at + 2);
     }
 
+-- The row at a place
+abbrev pub rowIn : List ℕ → ℕ → Row
+rowIn page place = rowAt page (rowStart place)
+
 abbrev pub encodeRow : Row → List ℕ
 encodeRow r = rowKeys (r .low) (r .high) (r .child) ∷ (lifeWord (r .birth) (r .end) ∷ encodeValue (r .value))
 

@@ -7,6 +7,9 @@ use lib.Dec.{leb, eqb}
 use Rattle.words.specs.declared.value.Value.{Value}
 use Rattle.words.specs.Value.{zero, plus}
 use Rattle.tree.specs.declared.types.Row.{Row}
+use Rattle.tree.specs.declared.types.Child.{Child}
+use Rattle.tree.specs.declared.types.Became.{Became}
+use Rattle.tree.specs.declared.types.Became.the-variants.{Stays, Copied, Halved}
 use Rattle.tree.specs.Row.{around}
 use Rattle.tree.specs.KeyOrder.{Placed, keyOrder}
 use Rattle.tree.specs.TrueValue.{Search, none, one, first}
@@ -18,18 +21,6 @@ pub record Point : Type 0 where
   pub tick : ℕ
   pub key : ℕ
   pub value : Value
-
--- A page that a split made, and its key range
-pub record Child : Type 0 where
-  pub page : ℕ
-  pub low : ℕ
-  pub high : ℕ
-
--- What a page became by the call: it kept its number, or its rows went to one new page or to two
-pub data Became : Type 0 where
-  stays : Became
-  copied : Child → Became
-  halved : Child → Child → Became
 
 abbrev pub gained : Value → Row → Row
 gained v r = record { low = r .low; high = r .high; child = r .child; birth = r .birth; end = r .end; value = plus (r .value) v }
@@ -76,6 +67,6 @@ leafRows p rows = cutIn p rows (rowAround p rows)
 
 -- Step 7: "the row for the page ends at t and returns with the new child and its key range; a second child gets a row of value zero"
 unfoldable pub relinkRow : ℕ → Placed → Became → List Row → List Row
-relinkRow t x stays rows = rows
-relinkRow t x (copied c) rows = replaceRow t x (linkedTo c (x .row)) [] rows
-relinkRow t x (halved c d) rows = replaceRow t x (linkedTo c (x .row)) (newRow t (d .low) (d .high) (d .page) zero ∷ []) rows
+relinkRow t x Stays rows = rows
+relinkRow t x (Copied c) rows = replaceRow t x (linkedTo c (x .row)) [] rows
+relinkRow t x (Halved c d) rows = replaceRow t x (linkedTo c (x .row)) (newRow t (d .low) (d .high) (d .page) zero ∷ []) rows

@@ -1,6 +1,8 @@
 // One tree, as definitions and theorems: this crate has the types that they speak of and no function. The crates above it have the code.
 mod types;
 
+pub use types::Became;
+pub use types::Child;
 pub use types::Held;
 pub use types::Lookup;
 pub use types::Plan;

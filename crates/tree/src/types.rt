@@ -47,3 +47,17 @@ pub enum Plan {
     Spoiled,
     Ready { made: u32, root: RootChange },
 }
+
+// A page that a split made, and its key range.
+pub struct Child {
+    pub page: u32,
+    pub low: u16,
+    pub high: u16,
+}
+
+// What a page became by an entry: it kept its number, or its rows went to one new page or to two.
+pub enum Became {
+    Stays,
+    Copied(Child),
+    Halved(Child, Child),
+}

@@ -2,6 +2,7 @@ use Prim.Native.Nat.{_-_}
 use native.Mathlib.Omega.{arith}
 use mathlib.Core.Path.{_≡_, ap, sym, _∙_}
 use mathlib.Core.List.{List}
+use Rattle.tree.specs.Row.{rowIn}
 use Rattle.tree.specs.declared.types.Row.{Row}
 use Rattle.page.specs.declared.survey.Survey.{Survey}
 use Rattle.page.specs.declared.order.Place.the-variants.{At, Missing}
@@ -9,7 +10,6 @@ use Rattle.page.specs.Survey.{surveyOf}
 use Rattle.tree.specs.Tree.{Tree, pageAt}
 use Rattle.tree.specs.RowSteps.{Point}
 use Rattle.tree.specs.Enter.{enterFrom}
-use Rattle.enter.specs.PageEdits.{rowIn}
 use Rattle.enter.specs.EnterWords.{useOf, pointAt, CanEnter, DoneAs}
 use Rattle.enter.proofs.CopyLaws.{part-is, part-length}
 use Rattle.enter.proofs.EnterLaws.{few-rows, inside}

@@ -3,10 +3,10 @@ use lib.ListN.{length}
 use native.Mathlib.Omega.{arith}
 use Prim.Native.Nat.{ℕ}
 use mathlib.Core.List.{List}
-use Rattle.tree.specs.Row.{word, pageWords}
+use Rattle.tree.specs.Row.{word, pageWords, rowIn}
 use Rattle.tree.specs.declared.types.Row.{Row}
 use Rattle.tree.specs.Tree.{pageAt}
-use Rattle.enter.specs.PageEdits.{Within, gainWords, linkWords, rowIn}
+use Rattle.enter.specs.PageEdits.{Within, gainWords, linkWords}
 use Rattle.enter.specs.EnterWords.{linkEdited}
 use Rattle.tree.proofs.TableLaws.{page-length}
 use Rattle.enter.proofs.SettleLaws.{loaded-count, loaded-length}

@@ -5,10 +5,10 @@ use lib.ListN.{length, set}
 use Rattle.tree.specs.declared.types.Row.{Row}
 use Rattle.tree.specs.Row.{rowLimit}
 use Rattle.tree.proofs.Lists.{length-mapped}
-use Rattle.enter.proofs.SplitLaws.{gain-set}
+use Rattle.split.proofs.SplitLaws.{gain-set}
 use borrow.Author.Needs.{needs}
-use Rattle.enter.proofs.split.gain_first.Statement.{statement}
-use Rattle.enter.proofs.split.gain_first.Tie as tie
+use Rattle.split.proofs.split.gain_first.Statement.{statement}
+use Rattle.split.proofs.split.gain_first.Tie as tie
 
 element-copy-out-first : tie.Need-element-copy-out-first
 element-copy-out-first c = search needs

@@ -4,13 +4,13 @@ use mathlib.Core.Path.{_≡_, refl, ap, ap₂, sym, subst, _∙_}
 use lib.ListN.{length}
 use Rattle.tree.specs.Row.{pageWords, copyLimit}
 use Rattle.page.specs.Entries.{orderSize}
-use Rattle.tree.specs.RowSteps.{copied, halved}
+use Rattle.tree.specs.declared.types.Became.the-variants.{Copied, Halved}
 use Rattle.tree.specs.Overflow.{Written, takenPage}
-use Rattle.enter.specs.SplitWords.{liveCopies, splitWords, copiedTable, halvedTable}
-use Rattle.enter.proofs.SplitRows.{live-count, sourced, split-copied, split-halved}
+use Rattle.split.specs.SplitWords.{liveCopies, splitWords, copiedTable, halvedTable}
+use Rattle.split.proofs.SplitRows.{live-count, sourced, split-copied, split-halved}
 use borrow.Author.Needs.{needs}
-use Rattle.enter.proofs.split.split_page.Statement.{statement}
-use Rattle.enter.proofs.split.split_page.Tie as tie
+use Rattle.split.proofs.split.split_page.Statement.{statement}
+use Rattle.split.proofs.split.split_page.Tie as tie
 
 shared-slice-read-key-order : tie.Need-shared-slice-read-key-order
 shared-slice-read-key-order c = search needs
@@ -75,7 +75,7 @@ returns c = let a = c .before .before .before .before .before .before .before .b
       c .before .before .copy-rows .ensures ∙ ap (λ (n : ℕ). copiedTable (a .table .now) n ws (a .t)) first ∙ sym (ap (λ (w : Written). w .table) is),
       (
         sym (ap (λ (w : Written). w .made) is),
-        (λ i. copied (record { page = first i; low = low i; high = high i })) ∙ sym (ap (λ (w : Written). w .became) is),
+        (λ i. Copied (record { page = first i; low = low i; high = high i })) ∙ sym (ap (λ (w : Written). w .became) is),
       ),
     )
 
@@ -127,7 +127,7 @@ returns-2 c = let a = c .before .before .before .before .before .before .before 
       c .before .before .halve-rows .ensures .1 ∙ ap₂ (λ (m n : ℕ). halvedTable (a .table .now) m n ws (a .t)) first second ∙ sym (ap (λ (w : Written). w .table) is),
       (
         sym (ap (λ (w : Written). w .made) is),
-        (λ i. halved (record { page = first i; low = low i; high = middle i })
+        (λ i. Halved (record { page = first i; low = low i; high = middle i })
             (record { page = second i; low = middle i; high = high i }))
             ∙ sym (ap (λ (w : Written). w .became) is),
       ),

@@ -7,18 +7,17 @@ use Rattle.words.specs.Words.{lowKey, highKey}
 use Rattle.words.specs.Value as value
 use Rattle.tree.specs.declared.types.Row.{Row}
 use Rattle.page.specs.declared.fresh.Page.{Page}
-use Rattle.tree.specs.Row.{word, rowStart, rowWords, copyLimit}
+use Rattle.tree.specs.Row.{word, rowStart, rowWords, copyLimit, rowIn}
 use Rattle.page.specs.PageValue.{emptyPage, encodePage}
 use Rattle.page.specs.Entries.{orderSize, entryPlace}
 use Rattle.page.proofs.OrderLaws.{all-here}
 use Rattle.tree.specs.Tree.{putPage}
-use Rattle.enter.specs.PageEdits.{rowIn}
-use Rattle.enter.specs.SplitWords.{between, fillPage, addRows, gainPage, middleKey}
-use Rattle.enter.proofs.SplitLaws.{filled-count}
-use Rattle.enter.proofs.SplitRows.{in-words, in-words-from, between-length, middle-is, halve-table}
+use Rattle.split.specs.SplitWords.{between, fillPage, addRows, gainPage, middleKey}
+use Rattle.split.proofs.SplitLaws.{filled-count}
+use Rattle.split.proofs.SplitRows.{in-words, in-words-from, between-length, middle-is, halve-table}
 use borrow.Author.Needs.{needs}
-use Rattle.enter.proofs.split.halve_rows.Statement.{statement}
-use Rattle.enter.proofs.split.halve_rows.Tie as tie
+use Rattle.split.proofs.split.halve_rows.Statement.{statement}
+use Rattle.split.proofs.split.halve_rows.Tie as tie
 
 sub-live : tie.Need-sub-live
 sub-live c = search needs

@@ -1,6 +1,6 @@
 use borrow.Author.Needs.{needs}
-use Rattle.enter.proofs.edits.gained_row.Statement.{statement}
-use Rattle.enter.proofs.edits.gained_row.Tie as tie
+use Rattle.page.proofs.row.gained_row.Statement.{statement}
+use Rattle.page.proofs.row.gained_row.Tie as tie
 
 plus-requires : tie.Need-plus-requires
 plus-requires c κs = search needs

@@ -22,7 +22,7 @@ use Rattle.page.proofs.OrderLaws.{drop-here}
 use Rattle.tree.proofs.OrderTotals.{total-stored}
 use Rattle.tree.specs.RowSteps.{gained}
 use Rattle.tree.specs.Overflow.{gainFirst, totalOf}
-use Rattle.enter.specs.SplitWords.{between, entryRow, copyOf, fillPage, addRows, gainPage}
+use Rattle.split.specs.SplitWords.{between, entryRow, copyOf, fillPage, addRows, gainPage}
 
 -- One law for each way through a loop over the entries up to a place
 module _ (order : List ℕ) (at to : ℕ) where

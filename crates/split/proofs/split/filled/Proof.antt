@@ -1,20 +1,19 @@
 use Rattle.page.specs.declared.fresh.Page.{Page}
 use Rattle.tree.specs.Edit.{bornAt}
 use Rattle.page.specs.PageValue.{withRow}
-use Rattle.enter.specs.PageEdits.{rowIn}
-use Rattle.enter.specs.SplitWords.{entryRow, copyOf}
+use Rattle.split.specs.SplitWords.{entryRow, copyOf}
 use Prim.Native.Nat.{ℕ, _+_, _-_, _≤_}
 use native.Mathlib.Omega.{arith}
 use mathlib.Core.Path.{_≡_, refl, ap, sym, _∙_}
 use lib.ListN.{length, drop, getD}
-use Rattle.tree.specs.Row.{rowStart, rowWords, rowLimit}
+use Rattle.tree.specs.Row.{rowStart, rowWords, rowLimit, rowIn}
 use Rattle.page.specs.Entries.{orderSize, entryPlace, InPage}
 use Rattle.page.proofs.OrderLaws.{all-here}
-use Rattle.enter.specs.SplitWords.{between, fillPage}
-use Rattle.enter.proofs.SplitLaws.{fill-more, fill-none}
+use Rattle.split.specs.SplitWords.{between, fillPage}
+use Rattle.split.proofs.SplitLaws.{fill-more, fill-none}
 use borrow.Author.Needs.{needs}
-use Rattle.enter.proofs.split.filled.Statement.{statement}
-use Rattle.enter.proofs.split.filled.Tie as tie
+use Rattle.split.proofs.split.filled.Statement.{statement}
+use Rattle.split.proofs.split.filled.Tie as tie
 
 abbrev Inv-loop : tie.InvT-loop
 Inv-loop words order from to t page₀ at₀ page at =

@@ -8,12 +8,12 @@ use Rattle.tree.specs.Row.{word, copyLimit}
 use Rattle.page.specs.PageValue.{emptyPage, encodePage}
 use Rattle.page.specs.Entries.{orderSize}
 use Rattle.tree.specs.Tree.{putPage}
-use Rattle.enter.specs.SplitWords.{between, fillPage}
-use Rattle.enter.proofs.SplitLaws.{filled-count}
-use Rattle.enter.proofs.SplitRows.{start-in, in-words, between-length, copy-table}
+use Rattle.split.specs.SplitWords.{between, fillPage}
+use Rattle.split.proofs.SplitLaws.{filled-count}
+use Rattle.split.proofs.SplitRows.{start-in, in-words, between-length, copy-table}
 use borrow.Author.Needs.{needs}
-use Rattle.enter.proofs.split.copy_rows.Statement.{statement}
-use Rattle.enter.proofs.split.copy_rows.Tie as tie
+use Rattle.split.proofs.split.copy_rows.Statement.{statement}
+use Rattle.split.proofs.split.copy_rows.Tie as tie
 
 shared-slice-read-range : tie.Need-shared-slice-read-range
 shared-slice-read-range c = search needs

@@ -10,7 +10,7 @@ use Rattle.words.specs.Lists.{All}
 use Rattle.words.specs.Words.{lowKey, highKey}
 use Rattle.words.specs.Value as value
 use Rattle.tree.specs.declared.types.Row.{Row}
-use Rattle.tree.specs.Row.{word, rowStart, rowWords, rowsOf, copyLimit}
+use Rattle.tree.specs.Row.{word, rowStart, rowWords, rowsOf, copyLimit, rowIn}
 use Rattle.tree.specs.KeyOrder.{Placed, keyOrder}
 use Rattle.tree.specs.Edit.{bornAt}
 use Rattle.tree.specs.Fresh.{freshPage}
@@ -21,12 +21,11 @@ use Rattle.page.proofs.OrderLaws.{drop-here}
 use Rattle.page.proofs.PageReadings.{in-page, entries-are}
 use Rattle.tree.specs.declared.types.TreeUse.{TreeUse}
 use Rattle.tree.specs.Tree.{putPage}
-use Rattle.tree.specs.RowSteps.{copied, halved}
+use Rattle.tree.specs.declared.types.Became.the-variants.{Copied, Halved}
 use Rattle.tree.specs.Overflow.{lowerCount, lowestKey, gainFirst, totalOf}
-use Rattle.enter.specs.PageEdits.{rowIn}
-use Rattle.enter.specs.SplitWords.{scratchWords, Sourced, between, entryRow, copyOf, fillPage, addRows, gainPage}
-use Rattle.enter.specs.SplitWords.{liveCopies, copiedTable, middleKey, halvedTable, splitWords}
-use Rattle.enter.proofs.SplitLaws.{filled-fresh, filled-gained, added-from-zero}
+use Rattle.split.specs.SplitWords.{scratchWords, Sourced, between, entryRow, copyOf, fillPage, addRows, gainPage}
+use Rattle.split.specs.SplitWords.{liveCopies, copiedTable, middleKey, halvedTable, splitWords}
+use Rattle.split.proofs.SplitLaws.{filled-fresh, filled-gained, added-from-zero}
 
 module _ {A : Type 0} where
   map-take : {B : Type 0} (f : A → B) (n : ℕ) (xs : List A) → map f (take n xs) ≡ take n (map f xs)
@@ -174,7 +173,7 @@ module _ (table : List ℕ) (used : TreeUse) (made : ℕ) (words : List ℕ) (t 
       ≡ record {
         table = copiedTable table (used .pages + made) words t;
         made = made + 1;
-        became = copied (record { page = used .pages + made; low = lowKey (word words 2); high = highKey (word words 2) });
+        became = Copied (record { page = used .pages + made; low = lowKey (word words 2); high = highKey (word words 2) });
       }
   unfolding copiedTable
   split-copied h = rw (le-leb _ _ h)
@@ -185,7 +184,7 @@ module _ (table : List ℕ) (used : TreeUse) (made : ℕ) (words : List ℕ) (t 
         table = halvedTable table (used .pages + made) (used .pages + made + 1) words t;
         made = made + 2;
         became =
-            halved (record { page = used .pages + made; low = lowKey (word words 2); high = middleKey words t })
+            Halved (record { page = used .pages + made; low = lowKey (word words 2); high = middleKey words t })
             (record { page = used .pages + made + 1; low = middleKey words t; high = highKey (word words 2) });
       }
   unfolding halvedTable middleKey

@@ -9,16 +9,15 @@ use Rattle.words.specs.declared.value.Value.{Value}
 use Rattle.words.specs.Value.{plus}
 use Rattle.tree.specs.declared.types.Row.{Row}
 use Rattle.page.specs.declared.fresh.Page.{Page}
-use Rattle.tree.specs.Row.{word, headerWords, rowWords, rowsOf}
+use Rattle.tree.specs.Row.{word, headerWords, rowWords, rowsOf, rowIn}
 use Rattle.tree.specs.Edit.{bornAt}
 use Rattle.tree.specs.Fresh.{freshPage}
 use Rattle.page.specs.PageValue.{withRow}
 use Rattle.page.specs.Entries.{orderSize, entryPlace, Ordered}
 use Rattle.tree.specs.declared.types.TreeUse.{TreeUse}
 use Rattle.tree.specs.Tree.{putPage}
-use Rattle.tree.specs.RowSteps.{stays}
+use Rattle.tree.specs.declared.types.Became.the-variants.{Stays}
 use Rattle.tree.specs.Overflow.{Written, copiedRows, lowerCount, lowestKey, gainFirst, totalOf, splitPage}
-use Rattle.enter.specs.PageEdits.{rowIn}
 
 -- A page's words with room for the rows that one entry may append: a header and 67 rows
 abbrev pub scratchWords : ℕ
@@ -81,5 +80,5 @@ halvedTable table first second words t =
 -- What an overflow writes and says, where the call has made so many pages
 abbrev pub splitWords : List ℕ → TreeUse → ℕ → List ℕ → ℕ → Written
 splitWords table used made words t =
-    splitPage (record { table = table; roots = []; used = used }) t (record { table = table; made = made; became = stays }) words
+    splitPage (record { table = table; roots = []; used = used }) t (record { table = table; made = made; became = Stays }) words
     (copiedRows t (rowsOf words))

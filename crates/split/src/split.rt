@@ -1,11 +1,11 @@
 // The pages that an overflow makes. The rows of the page that overflowed are copied in key order from its words, of which `order` has the entries.
-use crate::edits::born_at;
-use crate::edits::gained_row;
-use crate::entry::Became;
-use crate::entry::Child;
-use crate::entry::Done;
-use tree::TreeUse;
+use crate::done::Done;
 use page::Page;
+use page::born_at;
+use page::gained_row;
+use tree::Became;
+use tree::Child;
+use tree::TreeUse;
 use words::Value;
 ghost use mathlib.Core.Path.{_≡_};
 ghost use Prim.Native.Nat.{_+_, _*_, _-_, _≤_, _<_};
@@ -16,8 +16,7 @@ ghost use Rattle.page.specs.PageValue.{encodePage};
 ghost use Rattle.page.specs.Entries.{orderSize, InPage};
 ghost use Rattle.tree.specs.Tree.{putPage};
 ghost use Rattle.tree.specs.Overflow.{takenPage};
-ghost use Rattle.enter.specs.PageEdits.{becameOf};
-ghost use Rattle.enter.specs.SplitWords.{scratchWords, Sourced, between, fillPage, addRows, gainPage, copiedTable, middleKey, halvedTable, splitWords};
+ghost use Rattle.split.specs.SplitWords.{scratchWords, Sourced, between, fillPage, addRows, gainPage, copiedTable, middleKey, halvedTable, splitWords};
 
 // The page with the rows of the entries from one place of the order up to another, each born at t and open.
 fn filled(words: &[u64], order: &[u64], from: usize, to: usize, blank: Page, t: u32) -> Page
@@ -140,7 +139,7 @@ pub fn split_page(table: &mut [u64], used: TreeUse, made: u32, words: &[u64], t:
     requires { ⌜ (used .pages + splitWords (now table) used made (now words) t .made) * pageWords ≤ length (now table) ⌝ }
     ensures { λ _. ⌜ now (table .exit) ≡ splitWords (now (table .entry)) used made (now (words .entry)) t .table ⌝ }
     ensures { λ r. ⌜ r .made ≡ splitWords (now (table .entry)) used made (now (words .entry)) t .made ⌝ }
-    ensures { λ r. ⌜ becameOf (r .became) ≡ splitWords (now (table .entry)) used made (now (words .entry)) t .became ⌝ }
+    ensures { λ r. ⌜ r .became ≡ splitWords (now (table .entry)) used made (now (words .entry)) t .became ⌝ }
 {
     let mut order = [0u64; 67];
     let start = page::key_order(words, words[1] as usize, t, &mut order);

@@ -1,20 +1,19 @@
 use Rattle.tree.specs.declared.types.Row.{Row}
-use Rattle.enter.specs.PageEdits.{rowIn}
-use Rattle.enter.specs.SplitWords.{entryRow}
+use Rattle.split.specs.SplitWords.{entryRow}
 use Prim.Native.Nat.{ℕ, _+_, _-_, _≤_}
 use native.Mathlib.Omega.{arith}
 use mathlib.Core.Path.{_≡_, ap, sym, _∙_}
 use lib.ListN.{length, drop, getD}
 use Rattle.words.specs.declared.value.Value.{Value}
 use Rattle.words.specs.Value.{zero, plus}
-use Rattle.tree.specs.Row.{rowStart, rowWords}
+use Rattle.tree.specs.Row.{rowStart, rowWords, rowIn}
 use Rattle.page.specs.Entries.{entryPlace, InPage}
 use Rattle.page.proofs.OrderLaws.{all-here}
-use Rattle.enter.specs.SplitWords.{between, addRows}
-use Rattle.enter.proofs.SplitLaws.{add-more, add-none}
+use Rattle.split.specs.SplitWords.{between, addRows}
+use Rattle.split.proofs.SplitLaws.{add-more, add-none}
 use borrow.Author.Needs.{needs}
-use Rattle.enter.proofs.split.total_of.Statement.{statement}
-use Rattle.enter.proofs.split.total_of.Tie as tie
+use Rattle.split.proofs.split.total_of.Statement.{statement}
+use Rattle.split.proofs.split.total_of.Tie as tie
 
 abbrev Inv-loop : tie.InvT-loop
 Inv-loop words order from to total₀ at₀ total at =

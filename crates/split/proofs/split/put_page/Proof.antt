@@ -5,10 +5,10 @@ use lib.ListN.{length}
 use borrow.Rule.Slice.PartMut.{midOf, mid-len}
 use Rattle.tree.specs.Row.{pageWords}
 use Rattle.page.specs.PageValue.{encodePage}
-use Rattle.enter.proofs.SplitLaws.{put-part}
+use Rattle.split.proofs.SplitLaws.{put-part}
 use borrow.Author.Needs.{needs}
-use Rattle.enter.proofs.split.put_page.Statement.{statement}
-use Rattle.enter.proofs.split.put_page.Tie as tie
+use Rattle.split.proofs.split.put_page.Statement.{statement}
+use Rattle.split.proofs.split.put_page.Tie as tie
 
 mul-from : tie.Need-mul-from
 mul-from c = search needs
