@@ -2,12 +2,10 @@
 use tree::Row;
 use words::Value;
 ghost use mathlib.Core.Path.{_≡_};
-ghost use mathlib.Core.Bool.{_&&_};
 ghost use Prim.Native.Nat.{_+_, _*_, _≤_};
 ghost use lib.ListN.{length};
-ghost use lib.Dec.{leb, ltb};
 ghost use Rattle.words.specs.Words.{birthOf, endOf};
-ghost use Rattle.tree.specs.Row.{rowStart, rowWords, rowAt};
+ghost use Rattle.tree.specs.Row.{rowStart, rowWords, rowAt, liveFor};
 ghost use Rattle.tree.specs.Edit.{bornAt};
 ghost use Rattle.tree.specs.Fresh.{newRow};
 ghost use Rattle.tree.specs.RowSteps.{gained};
@@ -32,7 +30,7 @@ pub fn row_at(page: &[u64], place: usize) -> Row
 
 // Whether a row with this word 1 is live at t.
 pub fn is_live(life: u64, t: u32) -> bool
-    ensures { λ r. ⌜ r ≡ (leb (birthOf life) t && ltb t (endOf life)) ⌝ }
+    ensures { λ r. ⌜ r ≡ liveFor (birthOf life) (endOf life) t ⌝ }
 {
     words::birth_of(life) <= t && t < words::end_of(life)
 }

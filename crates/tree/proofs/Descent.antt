@@ -9,7 +9,7 @@ use Rattle.words.specs.declared.value.Value.{Value}
 use Rattle.words.proofs.Measure.{Measure}
 use Rattle.words.specs.Words.{openEnd}
 use Rattle.tree.specs.declared.types.Row.{Row}
-use Rattle.tree.specs.Row.{rowsOf}
+use Rattle.tree.specs.Row.{rowsOf, rowLimit}
 use Rattle.tree.specs.KeyOrder.{Placed}
 use Rattle.tree.specs.TrueValue.{Search}
 use Rattle.tree.specs.Tree as ours
@@ -26,7 +26,7 @@ use Rattle.tree.proofs.RowViews.{FoundRow, around-some, around-none}
 use Rattle.tree.proofs.SoundPages.{held-met}
 
 module _ (measure : Value → ℕ) (m : Measure measure) (tree : ours.Tree) (p : Point) (now : p .tick < openEnd)
-    (small : (x : ℕ) → x < tree .used .pages → length (rowsOf (pageAt (tree .table) x)) ≤ 64) where
+    (small : (x : ℕ) → x < tree .used .pages → length (rowsOf (pageAt (tree .table) x)) ≤ rowLimit) where
   abbrev store : ℕ → Page
   store = viewTable measure (tree .table)
 

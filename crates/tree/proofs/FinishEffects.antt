@@ -6,6 +6,8 @@ use mathlib.Core.Path.{_≡_, refl, _∙_}
 use mathlib.Core.List.{List}
 use mathlib.Core.Logic.{_⊎_, inl, inr}
 use lib.ListN.{length, take, drop}
+use Rattle.tree.specs.Overflow.{lowerHalf}
+use Rattle.tree.specs.Row.{rowLimit, copyLimit}
 use Rattle.tree.proofs.ModelPages.{Entry, Row, Page, sumLive, orderedEntries}
 use Rattle.tree.proofs.ModelTrees.{Alike}
 use Rattle.tree.proofs.ModelSteps.{relink, Parts, stay, copy, two, totalAmount, plusFirst, finish}
@@ -16,18 +18,18 @@ use Rattle.tree.proofs.SlotLaws.{alike}
 -- What finishing a page does to the other pages, and to the past.
 module _ (t : ℕ) (s : ℕ → Page) (u p : ℕ) (rs : List Row) where
   pub finish-grows : u ≤ (finish t s u p rs) .used
-  finish-grows = go (split (length rs) 64) (split (length (orderedEntries t rs)) 40)
+  finish-grows = go (split (length rs) rowLimit) (split (length (orderedEntries t rs)) copyLimit)
     where
-      go : (length rs ≤ 64) ⊎ (64 < length rs) → (length (orderedEntries t rs) ≤ 40) ⊎ (40 < length (orderedEntries t rs))
+      go : (length rs ≤ rowLimit) ⊎ (rowLimit < length rs) → (length (orderedEntries t rs) ≤ copyLimit) ⊎ (copyLimit < length (orderedEntries t rs))
           → u ≤ (finish t s u p rs) .used
       go (inl h) r = simp tests (omega arith)
       go (inr h) (inl r) = simp tests (omega arith)
       go (inr h) (inr r) = simp tests (omega arith)
 
   pub finish-other : (x : ℕ) → x < u → (x ≡ p → ⊥) → (finish t s u p rs) .store x ≡ s x
-  finish-other x i e = go (split (length rs) 64) (split (length (orderedEntries t rs)) 40) (omega arith) (omega arith)
+  finish-other x i e = go (split (length rs) rowLimit) (split (length (orderedEntries t rs)) copyLimit) (omega arith) (omega arith)
     where
-      go : (length rs ≤ 64) ⊎ (64 < length rs) → (length (orderedEntries t rs) ≤ 40) ⊎ (40 < length (orderedEntries t rs)) → (x ≡ u → ⊥)
+      go : (length rs ≤ rowLimit) ⊎ (rowLimit < length rs) → (length (orderedEntries t rs) ≤ copyLimit) ⊎ (copyLimit < length (orderedEntries t rs)) → (x ≡ u → ⊥)
           → (x ≡ suc u → ⊥) → (finish t s u p rs) .store x ≡ s x
       go (inl h) r a b = simp tests
       go (inr h) (inl r) a b = simp tests
@@ -35,9 +37,9 @@ module _ (t : ℕ) (s : ℕ → Page) (u p : ℕ) (rs : List Row) where
 
   pub finish-past : (w x : ℕ) → ((f : Entry → ℕ) → sumLive w f rs ≡ sumLive w f ((s p) .rows)) → p < u → x < u
       → Alike w ((finish t s u p rs) .store x) (s x)
-  finish-past w x h j i = go (ℕ-discrete x p) (split (length rs) 64) (split (length (orderedEntries t rs)) 40) (omega arith) (omega arith)
+  finish-past w x h j i = go (ℕ-discrete x p) (split (length rs) rowLimit) (split (length (orderedEntries t rs)) copyLimit) (omega arith) (omega arith)
     where
-      go : Dec (x ≡ p) → (length rs ≤ 64) ⊎ (64 < length rs) → (length (orderedEntries t rs) ≤ 40) ⊎ (40 < length (orderedEntries t rs))
+      go : Dec (x ≡ p) → (length rs ≤ rowLimit) ⊎ (rowLimit < length rs) → (length (orderedEntries t rs) ≤ copyLimit) ⊎ (copyLimit < length (orderedEntries t rs))
           → (x ≡ u → ⊥) → (x ≡ suc u → ⊥) → Alike w ((finish t s u p rs) .store x) (s x)
       go (no e) q r a b = alike w (finish-other x i e)
       go (yes e) (inl q) r a b = rw e (simp tests (record { level = refl; low = refl; high = refl; rows = h }))
@@ -47,12 +49,12 @@ module _ (t : ℕ) (s : ℕ → Page) (u p : ℕ) (rs : List Row) where
   pub finish-settled : Settled t rs → ((x : ℕ) → x < u → Settled t ((s x) .rows)) → (x : ℕ) → x < (finish t s u p rs) .used
       → Settled t (((finish t s u p rs) .store x) .rows)
   finish-settled k h x =
-      go (split (length rs) 64) (split (length (orderedEntries t rs)) 40) (ℕ-discrete x p) (ℕ-discrete x u) (ℕ-discrete x (suc u))
+      go (split (length rs) rowLimit) (split (length (orderedEntries t rs)) copyLimit) (ℕ-discrete x p) (ℕ-discrete x u) (ℕ-discrete x (suc u))
     where
       lower : List Entry
-      lower = take (length (orderedEntries t rs) - length (orderedEntries t rs) / 2) (orderedEntries t rs)
+      lower = take (lowerHalf (length (orderedEntries t rs))) (orderedEntries t rs)
 
-      go : (length rs ≤ 64) ⊎ (64 < length rs) → (length (orderedEntries t rs) ≤ 40) ⊎ (40 < length (orderedEntries t rs)) → Dec (x ≡ p)
+      go : (length rs ≤ rowLimit) ⊎ (rowLimit < length rs) → (length (orderedEntries t rs) ≤ copyLimit) ⊎ (copyLimit < length (orderedEntries t rs)) → Dec (x ≡ p)
           → Dec (x ≡ u) → Dec (x ≡ suc u) → x < (finish t s u p rs) .used → Settled t (((finish t s u p rs) .store x) .rows)
       go (inl a) b (yes c) d e = simp tests (λ l. k)
       go (inl a) b (no c) d e = simp tests (λ l. h x l)
@@ -62,7 +64,7 @@ module _ (t : ℕ) (s : ℕ → Page) (u p : ℕ) (rs : List Row) where
           simp tests
           (λ l. settled-born t
           (plusFirst (totalAmount lower)
-          (drop (length (orderedEntries t rs) - length (orderedEntries t rs) / 2) (orderedEntries t rs))))
+          (drop (lowerHalf (length (orderedEntries t rs))) (orderedEntries t rs))))
       go (inr a) (inr b) c (yes d) (no e) = simp tests (λ l. settled-born t lower)
       go (inr a) (inr b) c (no d) (no e) = simp tests (λ l. h x (omega arith))
 

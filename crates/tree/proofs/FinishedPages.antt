@@ -9,6 +9,8 @@ use mathlib.Core.Logic.{_⊎_, inl, inr}
 use lib.ListN.{length, take, drop, take-append-drop, length-take, length-drop, length-append}
 use borrow.Author.Tests.{le-leb, lt-leb}
 use Rattle.words.specs.Words.{openEnd}
+use Rattle.tree.specs.Overflow.{lowerHalf}
+use Rattle.tree.specs.Row.{rowLimit, copyLimit}
 use Rattle.tree.proofs.ModelPages.{_≈_, Entry, Row, Page, sumLive, bornAll}
 use Rattle.tree.proofs.ModelTrees.{Slot, sumSlots, Chain}
 use Rattle.tree.proofs.ModelSteps.{stay, copy, Outcome, putAt, totalAmount, plusFirst, newPage, halved, moved, finish}
@@ -66,8 +68,8 @@ module _ {A : Type 0} (n t : ℕ) (now : t < openEnd) (kind : PageKind A n t) wh
 
     halved-holds : (x : Slot A) (xs : List (Slot A)) (z : Slot A) (zs : List (Slot A))
         → Chain (kind .under s u) lo hi ((x ∷ xs) ++ (z ∷ zs))
-        → ((q : ℕ) → lo ≤ q → q < hi → pageLookup kind ((x ∷ xs) ++ (z ∷ zs)) q ≈ L q) → (r : ℕ) → 64 < r
-        → length ((x ∷ xs) ++ (z ∷ zs)) ≤ r → 20 ≤ length (x ∷ xs) → 20 ≤ length (z ∷ zs) → 40 < length ((x ∷ xs) ++ (z ∷ zs))
+        → ((q : ℕ) → lo ≤ q → q < hi → pageLookup kind ((x ∷ xs) ++ (z ∷ zs)) q ≈ L q) → (r : ℕ) → rowLimit < r
+        → length ((x ∷ xs) ++ (z ∷ zs)) ≤ r → 20 ≤ length (x ∷ xs) → 20 ≤ length (z ∷ zs) → copyLimit < length ((x ∷ xs) ++ (z ∷ zs))
         → All (kind .Fill) ((x ∷ xs) ++ (z ∷ zs))
         → kind .own r (length ((x ∷ xs) ++ (z ∷ zs))) + sumBelow (kind .potentialIn s) ((x ∷ xs) ++ (z ∷ zs)) + 18 * u ≤ B
         → StandsIn (halved t s u (s p) (entriesOf (x ∷ xs)) (entriesOf (z ∷ zs)))
@@ -128,7 +130,7 @@ module _ {A : Type 0} (n t : ℕ) (now : t < openEnd) (kind : PageKind A n t) wh
         )
 
     copy-holds : (tr : List (Slot A)) → Chain (kind .under s u) lo hi tr → ((q : ℕ) → lo ≤ q → q < hi → pageLookup kind tr q ≈ L q)
-        → (r : ℕ) → 64 < r → length tr ≤ r → length tr ≤ 40 → Enough kind M false tr
+        → (r : ℕ) → rowLimit < r → length tr ≤ r → length tr ≤ copyLimit → Enough kind M false tr
         → kind .own r (length tr) + sumBelow (kind .potentialIn s) tr + 18 * u ≤ B
         → StandsIn
         (record {
@@ -177,9 +179,9 @@ module _ {A : Type 0} (n t : ℕ) (now : t < openEnd) (kind : PageKind A n t) wh
         )
 
     moved-holds : (tr : List (Slot A)) → Chain (kind .under s u) lo hi tr → ((q : ℕ) → lo ≤ q → q < hi → pageLookup kind tr q ≈ L q)
-        → (r : ℕ) → 64 < r → length tr ≤ r → Enough kind M false tr
+        → (r : ℕ) → rowLimit < r → length tr ≤ r → Enough kind M false tr
         → kind .own r (length tr) + sumBelow (kind .potentialIn s) tr + 18 * u ≤ B → StandsIn (moved t s u (s p) (entriesOf tr))
-    moved-holds tr c adds r many fits each budget = go (split (length (entriesOf tr)) 40)
+    moved-holds tr c adds r many fits each budget = go (split (length (entriesOf tr)) copyLimit)
       where
         Facts : List (Slot A) → Type 0
         Facts l =
@@ -187,7 +189,7 @@ module _ {A : Type 0} (n t : ℕ) (now : t < openEnd) (kind : PageKind A n t) wh
               chain : Chain (kind .under s u) lo hi l;
               adds : (q : ℕ) → lo ≤ q → q < hi → pageLookup kind l q ≈ L q;
               fits : length l ≤ r;
-              big : 40 < length l;
+              big : copyLimit < length l;
               each : All (kind .Fill) l;
               budget : (kind .own) r (length l) + sumBelow (kind .potentialIn s) l + 18 * u ≤ B;
             }
@@ -198,12 +200,12 @@ module _ {A : Type 0} (n t : ℕ) (now : t < openEnd) (kind : PageKind A n t) wh
         parts (x ∷ xs) [] f i j = absurd (omega arith)
         parts (x ∷ xs) (z ∷ zs) f i j = halved-holds x xs z zs (f .chain) (f .adds) r many (f .fits) i j (f .big) (f .each) (f .budget)
 
-        go : (length (entriesOf tr) ≤ 40) ⊎ (40 < length (entriesOf tr)) → StandsIn (moved t s u (s p) (entriesOf tr))
+        go : (length (entriesOf tr) ≤ copyLimit) ⊎ (copyLimit < length (entriesOf tr)) → StandsIn (moved t s u (s p) (entriesOf tr))
         go (inl h) =
-            rw (le-leb (length (entriesOf tr)) 40 h) (copy-holds tr c adds r many fits (omega (arith, entries-length tr)) each budget)
+            rw (le-leb (length (entriesOf tr)) copyLimit h) (copy-holds tr c adds r many fits (omega (arith, entries-length tr)) each budget)
         go (inr h) =
-            let i = length (entriesOf tr) - length (entriesOf tr) / 2 in
-            rw (lt-leb (length (entriesOf tr)) 40 h)
+            let i = lowerHalf (length (entriesOf tr)) in
+            rw (lt-leb (length (entriesOf tr)) copyLimit h)
             (rw (entries-take, entries-drop)
             (parts (take i tr) (drop i tr)
             (subst Facts (sym (take-append-drop i tr))
@@ -214,11 +216,11 @@ module _ {A : Type 0} (n t : ℕ) (now : t < openEnd) (kind : PageKind A n t) wh
         → ((f : Entry → ℕ) → sumSlots f tr ≡ sumLive t f rs) → ((q : ℕ) → lo ≤ q → q < hi → pageLookup kind tr q ≈ L q)
         → Enough kind M false tr → kind .own (length rs) (length tr) + sumBelow (kind .potentialIn s) tr + 18 * u ≤ B
         → StandsIn (finish t s u p rs)
-    finish-holds tr rs c same adds each budget = go (split (length rs) 64)
+    finish-holds tr rs c same adds each budget = go (split (length rs) rowLimit)
       where
-        go : (length rs ≤ 64) ⊎ (64 < length rs) → StandsIn (finish t s u p rs)
-        go (inl h) = rw (le-leb (length rs) 64 h) (stay-holds tr rs c same adds each budget)
+        go : (length rs ≤ rowLimit) ⊎ (rowLimit < length rs) → StandsIn (finish t s u p rs)
+        go (inl h) = rw (le-leb (length rs) rowLimit h) (stay-holds tr rs c same adds each budget)
         go (inr h) =
-            rw (lt-leb (length rs) 64 h)
+            rw (lt-leb (length rs) rowLimit h)
             (rw (ordered-is (kind .under s u) t lo hi tr rs c same)
             (moved-holds tr c adds (length rs) h (omega (arith, sum-live-length t rs, same (λ e. 1), sum-slots-length tr)) each budget))

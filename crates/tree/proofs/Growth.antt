@@ -12,7 +12,7 @@ use Rattle.words.specs.declared.value.Value.{Value}
 use Rattle.words.specs.Value as value
 use Rattle.words.proofs.OverwriteLaws.{overwrite-length}
 use Rattle.words.proofs.Measure.{Measure, countOf, sumOf, count-measure, sum-measure}
-use Rattle.tree.specs.Row.{rowsOf}
+use Rattle.tree.specs.Row.{rowsOf, rowLimit}
 use Rattle.tree.specs.Fresh.{newRow}
 use Rattle.tree.proofs.Lists.{sumBy}
 use Rattle.tree.proofs.TrueValueSums.{numberIf, total-measure}
@@ -295,7 +295,7 @@ module _ (table roots : List ℕ) (room : 260 ≤ length table) (list : 1 ≤ le
             };
       }
     where
-      few : (x : ℕ) → x ≡ 0 → length (rowsOf (pageAt (openedTree table roots .table) x)) ≤ 64
+      few : (x : ℕ) → x ≡ 0 → length (rowsOf (pageAt (openedTree table roots .table) x)) ≤ rowLimit
       few x e =
           let rows = newRow 0 0 keyLimit 0 value.zero ∷ [] in
           let back : rowsOf firstPage ≡ rows =

@@ -13,6 +13,7 @@ pub mod OrderTotals
 pub mod TrueValueSums
 pub mod TrueValueUpTo
 pub mod PathLength
+pub mod Halves
 -- Words written are read back
 pub mod PageCodec
 pub mod TableLaws
@@ -58,6 +59,7 @@ pub mod SeenRows
 pub mod SeenPages
 pub mod Past
 pub mod Height
+pub mod Lives
 pub mod Shape
 pub mod AsPlanned
 pub mod Enough

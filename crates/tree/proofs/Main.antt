@@ -1,6 +1,6 @@
 -- The theorems about every tree grown from opening by points that were entered in order of time, each with room for it (specs/Grown):
--- 1 sums, 2 past, 3 height, 4 pages, 5 room; then that there is room enough in a table of known size, and that values never decide the
--- shape.
+-- 1 sums, 2 past, 3 height, 4 pages, 5 room; then that each row was live at some tick, that there is room enough in a table of known size,
+-- and that values never decide the shape.
 use Prim.Native.Nat.{ℕ, _+_, _*_, _-_, _/_, _^_, _≤_, _<_, min}
 use native.Mathlib.Omega.{arith}
 use mathlib.Core.Path.{_≡_, refl, sym, ap, ap₂, _∙_}
@@ -9,9 +9,11 @@ use lib.ListN.{length}
 use Rattle.words.specs.Lists.{All}
 use Rattle.words.specs.Words.{keyLimit, openEnd}
 use Rattle.words.proofs.Measure.{countOf, count-measure}
+use Rattle.tree.specs.declared.types.Row.{Row}
 use Rattle.tree.specs.declared.types.RootChange.{RootChange}
 use Rattle.tree.specs.declared.types.Lookup.the-variants.{Found}
 use Rattle.tree.specs.declared.types.Plan.the-variants.{Ready}
+use Rattle.tree.specs.Row.{rowsOf}
 use Rattle.tree.specs.Tree.{Tree, pageAt, height, wholePages, pageLimit}
 use Rattle.tree.specs.RowSteps.{Point}
 use Rattle.tree.specs.Lookup.{lookup}
@@ -25,6 +27,7 @@ use Rattle.tree.specs.Alike.{LookAlike}
 use Rattle.tree.proofs.Growth.{kept, plan-ready, opened-lengths, next-lengths}
 use Rattle.tree.proofs.Sums.{lookup-sum}
 use Rattle.tree.proofs.Past.{past-path, past-looks, later-sum}
+use Rattle.tree.proofs.Lives.{settled-lives}
 use Rattle.tree.proofs.Shape.{same-pages, same-path}
 use Rattle.tree.proofs.Enough.{has-room}
 use Rattle.tree.proofs.AsPlanned.{Does, as-planned}
@@ -161,6 +164,13 @@ lengths-stay table roots (p ∷ points) h =
     (h .1) in
     let rest = lengths-stay table roots points (h .2) in
     (next .0 ∙ rest .0, next .1 ∙ rest .1)
+
+-- Lives: "A row born at t is altered where it is, not ended", so no row of a page in use ends at its own tick of birth.
+pub rows-live : (table roots : List ℕ) (points : List Point) → Admitted table roots points → (x : ℕ)
+    → x < grow table roots points .used .pages → All (λ (r : Row). r .birth < r .end) (rowsOf (pageAt (grow table roots points .table) x))
+rows-live table roots points h x in-use =
+    settled-lives countOf (lastTick points) (last-in-time table roots points h) (rowsOf (pageAt (grow table roots points .table) x))
+    (kept table roots points h .counts .settled x in-use)
 
 -- Room enough: a table of 4 + 4n/9 pages and a root list of as many words take any n points in order of time
 pub room-enough : (table roots : List ℕ) (points : List Point) → InOrder points

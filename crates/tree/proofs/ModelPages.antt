@@ -5,6 +5,7 @@ use mathlib.Core.List.{List, [], _∷_, _++_}
 use mathlib.Core.Bool.{Bool, true, false, cond, _&&_}
 use lib.Dec.{leb, ltb, eqb}
 use Rattle.words.specs.Words.{openEnd}
+use Rattle.tree.specs.Row.{liveFor}
 use Rattle.tree.specs.KeyOrder.{sortBy}
 
 -- A number where a test holds, else 0
@@ -36,7 +37,7 @@ pub record Page : Type 0 where
   pub rows : List Row
 
 abbrev pub live : ℕ → Row → Bool
-live t r = leb (r .birth) t && ltb t (r .end)
+live t r = liveFor (r .birth) (r .end) t
 
 -- Numbers added up over entries, and over the rows live at t. Two lists of rows are alike to a reader at t where all such sums are the
 -- same:

@@ -57,10 +57,13 @@ Cost H W L G lo hi p R u B stay y = R p (y .0) + 18 * u ≤ B
 Cost H W L G lo hi p R u B (copy x) y = R x (y .0) + 1 + 18 * u ≤ B
 Cost H W L G lo hi p R u B (two x z m) y = R x (y .0 .0) + R z (y .1 .0) + 3 + 18 * u ≤ B
 
--- By tick t each row was born, and has ended or is open
+-- By tick t each row was born, and has ended, at a later tick than its birth, or is open
+abbrev pub Over : ℕ → Row → Type 0
+Over t r = (r .birth < r .end) × (r .end ≤ t)
+
 abbrev pub Settled : ℕ → List Row → Type 0
 Settled t [] = Unit {0}
-Settled t (r ∷ rs) = (r .birth ≤ t) × ((r .end ≤ t) ⊎ (r .end ≡ openEnd)) × Settled t rs
+Settled t (r ∷ rs) = (r .birth ≤ t) × (Over t r ⊎ (r .end ≡ openEnd)) × Settled t rs
 
 -- A page that entering a point under keys lo up to hi at level n leaves alone: so no page is reached in two ways
 abbrev pub Apart : ℕ → ℕ → ℕ → Page → Type 0

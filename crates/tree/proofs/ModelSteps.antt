@@ -5,6 +5,8 @@ use mathlib.Core.Bool.{cond}
 use lib.ListN.{length, take, drop}
 use lib.Dec.{leb, ltb, eqb}
 use Rattle.words.specs.Words.{keyLimit}
+use Rattle.tree.specs.Overflow.{lowerHalf}
+use Rattle.tree.specs.Row.{rowLimit, copyLimit}
 use Rattle.tree.proofs.ModelPages.{Entry, Row, Page, sumEntries, fieldHolding, orderedEntries, bornAll, replaced}
 
 -- What a page became: it stays, or its rows went to one new page, or to two that are cut at a key
@@ -59,15 +61,15 @@ halved t s u g lower upper =
 abbrev pub moved : ℕ → (ℕ → Page) → ℕ → Page → List Entry → Outcome
 moved t s u g es =
     cond
-    (leb (length es) 40)
+    (leb (length es) copyLimit)
     (record { store = putAt s u (newPage t (g .level) (g .low) (g .high) es); used = suc u; parts = copy u })
-    (halved t s u g (take (length es - length es / 2) es) (drop (length es - length es / 2) es))
+    (halved t s u g (take (lowerHalf (length es)) es) (drop (lowerHalf (length es)) es))
 
 -- Step 5: the page p takes these rows, or its live rows go to new pages
 abbrev pub finish : ℕ → (ℕ → Page) → ℕ → ℕ → List Row → Outcome
 finish t s u p rs =
     cond
-    (leb (length rs) 64)
+    (leb (length rs) rowLimit)
     (record {
       store = putAt s p (record { level = (s p) .level; low = (s p) .low; high = (s p) .high; rows = rs });
       used = u;

@@ -5,6 +5,7 @@ use mathlib.Core.Path.{_≡_, refl}
 use mathlib.Core.List.{List}
 use mathlib.Core.Bool.{Bool, cond}
 use lib.ListN.{length}
+use Rattle.tree.specs.Row.{rowLimit, copyLimit}
 use Rattle.tree.proofs.ModelPages.{Page}
 use Rattle.tree.proofs.ModelTrees.{Slot, lookupSlots, Held, Alike, Tree, Holds, lookupTree}
 use Rattle.tree.proofs.ModelPromise.{All, sumBelow, leafPotential, indexPotential, potential, Filled}
@@ -24,8 +25,8 @@ pub record PageKind (A : Type 0) (n t : ℕ) : Type 1 where
   pub potential-frame : (s s′ : ℕ → Page) (u a b c : ℕ) (x : A)
       → ((z : ℕ) → z < u → (s z) .level < n → s′ z ≡ s z) → under s u a b c x → potentialIn s′ c x ≡ potentialIn s c x
   pub own : ℕ → ℕ → ℕ
-  pub copy-frees : (r l : ℕ) → 64 < r → l ≤ 40 → l ≤ r → own l l + 19 ≤ own r l
-  pub two-free : (r l a b : ℕ) → 64 < r → 40 < l → l ≤ r → a + b ≡ l → 20 ≤ a → 20 ≤ b → own a a + own b b + 39 ≤ own r l
+  pub copy-frees : (r l : ℕ) → rowLimit < r → l ≤ copyLimit → l ≤ r → own l l + 19 ≤ own r l
+  pub two-free : (r l a b : ℕ) → rowLimit < r → copyLimit < l → l ≤ r → a + b ≡ l → 20 ≤ a → 20 ≤ b → own a a + own b b + 39 ≤ own r l
   -- How full what stands under a slot is
   pub Fill : Slot A → Type 0
   pub fill-more : (v : ℕ) (y : Slot A) → Fill y → Fill (more v y)
@@ -44,17 +45,17 @@ module _ {A : Type 0} {n t : ℕ} (kind : PageKind A n t) where
   abbrev pub Enough : ℕ → Bool → List (Slot A) → Type 0
   Enough before are-two tr = All (kind .Fill) tr × (cond are-two 20 before ≤ length tr)
 
-pub leaf-copy : (r l : ℕ) → 64 < r → l ≤ 40 → l ≤ r → leafPotential l l + 19 ≤ leafPotential r l
+pub leaf-copy : (r l : ℕ) → rowLimit < r → l ≤ copyLimit → l ≤ r → leafPotential l l + 19 ≤ leafPotential r l
 leaf-copy r l a b c = omega arith
 
-pub leaf-two : (r l a b : ℕ) → 64 < r → 40 < l → l ≤ r → a + b ≡ l → 20 ≤ a → 20 ≤ b
+pub leaf-two : (r l a b : ℕ) → rowLimit < r → copyLimit < l → l ≤ r → a + b ≡ l → 20 ≤ a → 20 ≤ b
     → leafPotential a a + leafPotential b b + 39 ≤ leafPotential r l
 leaf-two r l a b h i j k m n = omega arith
 
-pub index-copy : (r l : ℕ) → 64 < r → l ≤ 40 → l ≤ r → indexPotential l l + 19 ≤ indexPotential r l
+pub index-copy : (r l : ℕ) → rowLimit < r → l ≤ copyLimit → l ≤ r → indexPotential l l + 19 ≤ indexPotential r l
 index-copy r l a b c = omega arith
 
-pub index-two : (r l a b : ℕ) → 64 < r → 40 < l → l ≤ r → a + b ≡ l → 20 ≤ a → 20 ≤ b
+pub index-two : (r l a b : ℕ) → rowLimit < r → copyLimit < l → l ≤ r → a + b ≡ l → 20 ≤ a → 20 ≤ b
     → indexPotential a a + indexPotential b b + 39 ≤ indexPotential r l
 index-two r l a b h i j k m n = omega arith
 

@@ -15,14 +15,14 @@ use Rattle.words.specs.declared.value.Value.{Value}
 use Rattle.words.specs.Value.{plus}
 use Rattle.words.proofs.Measure.{Measure}
 use Rattle.tree.specs.declared.types.Row.{Row}
-use Rattle.tree.specs.Row.{word}
+use Rattle.tree.specs.Row.{word, rowLimit, copyLimit}
 use Rattle.tree.specs.KeyOrder.{Placed, keyOrder}
 use Rattle.tree.specs.Edit.{bornAt, withRows}
 use Rattle.tree.specs.Fresh.{freshPage}
 use Rattle.tree.specs.Tree.{Tree, pageAt, putPage}
 use Rattle.tree.specs.declared.types.Became.{Became}
 use Rattle.tree.specs.declared.types.Became.the-variants.{Stays, Copied, Halved}
-use Rattle.tree.specs.Overflow.{Written, copiedRows, lowerCount, lowestKey, gainFirst, totalOf, copyPage, halvePage, splitPage}
+use Rattle.tree.specs.Overflow.{Written, copiedRows, lowerCount, lowestKey, gainFirst, totalOf, copyPage, halvePage, splitPage, lowerHalf}
 use Rattle.tree.specs.Overflow.{finishPage}
 use Rattle.tree.proofs.ModelPages as model
 use Rattle.tree.proofs.ModelSteps as modelSteps
@@ -54,7 +54,7 @@ pub record Matches (measure : Value → ℕ) (tree : Tree) (lo hi : ℕ) (so : W
 
 -- The model's pages have at most 64 rows each
 abbrev pub Small : (ℕ → Page) → ℕ → Type 0
-Small s u = (x : ℕ) → x < u → length ((s x) .rows) ≤ 64
+Small s u = (x : ℕ) → x < u → length ((s x) .rows) ≤ rowLimit
 
 -- Both: what was written is what the model gives, and no page has too many rows
 abbrev pub Agrees : (Value → ℕ) → Tree → ℕ → ℕ → Written → Outcome → Type 0
@@ -62,42 +62,42 @@ Agrees measure tree lo hi so o = Matches measure tree lo hi so o × Small (o .st
 
 -- No page of the model gets more than 64 rows
 pub finish-small : (t : ℕ) (s : ℕ → Page) (u p : ℕ) (rs : List model.Row) → length (orderedEntries t rs) ≤ 67
-    → ((x : ℕ) → x < u → length ((s x) .rows) ≤ 64)
-    → (x : ℕ) → x < (finish t s u p rs) .used → length (((finish t s u p rs) .store x) .rows) ≤ 64
+    → ((x : ℕ) → x < u → length ((s x) .rows) ≤ rowLimit)
+    → (x : ℕ) → x < (finish t s u p rs) .used → length (((finish t s u p rs) .store x) .rows) ≤ rowLimit
 finish-small t s u p rs few h x =
-    go (split (length rs) 64) (split (length (orderedEntries t rs)) 40) (ℕ-discrete x p) (ℕ-discrete x u) (ℕ-discrete x (suc u))
+    go (split (length rs) rowLimit) (split (length (orderedEntries t rs)) copyLimit) (ℕ-discrete x p) (ℕ-discrete x u) (ℕ-discrete x (suc u))
   where
     lower : List Entry
-    lower = take (length (orderedEntries t rs) - length (orderedEntries t rs) / 2) (orderedEntries t rs)
+    lower = take (lowerHalf (length (orderedEntries t rs))) (orderedEntries t rs)
 
     upper : List Entry
-    upper = drop (length (orderedEntries t rs) - length (orderedEntries t rs) / 2) (orderedEntries t rs)
+    upper = drop (lowerHalf (length (orderedEntries t rs))) (orderedEntries t rs)
 
-    lower-few : length (bornAll t lower) ≤ 64
+    lower-few : length (bornAll t lower) ≤ rowLimit
     lower-few =
         omega (
           arith,
           length-born t lower,
-          length-take (length (orderedEntries t rs) - length (orderedEntries t rs) / 2)
+          length-take (lowerHalf (length (orderedEntries t rs)))
               (orderedEntries t rs),
         )
 
-    upper-few : length (bornAll t (plusFirst (totalAmount lower) upper)) ≤ 64
+    upper-few : length (bornAll t (plusFirst (totalAmount lower) upper)) ≤ rowLimit
     upper-few =
         omega (
           arith,
           length-born t (plusFirst (totalAmount lower) upper),
           bump-length (totalAmount lower) upper,
-          length-drop (length (orderedEntries t rs) - length (orderedEntries t rs) / 2) (orderedEntries t rs),
+          length-drop (lowerHalf (length (orderedEntries t rs))) (orderedEntries t rs),
         )
       where
         bump-length : (v : ℕ) (es : List Entry) → length (plusFirst v es) ≡ length es
         bump-length v [] = refl
         bump-length v (e ∷ es) = refl
 
-    go : (length rs ≤ 64) ⊎ (64 < length rs) → (length (orderedEntries t rs) ≤ 40) ⊎ (40 < length (orderedEntries t rs))
+    go : (length rs ≤ rowLimit) ⊎ (rowLimit < length rs) → (length (orderedEntries t rs) ≤ copyLimit) ⊎ (copyLimit < length (orderedEntries t rs))
         → Dec (x ≡ p) → Dec (x ≡ u) → Dec (x ≡ suc u)
-        → x < (finish t s u p rs) .used → length (((finish t s u p rs) .store x) .rows) ≤ 64
+        → x < (finish t s u p rs) .used → length (((finish t s u p rs) .store x) .rows) ≤ rowLimit
     go (inl a) b (yes c) d e = simp tests (λ l. a)
     go (inl a) b (no c) d e = simp tests (λ l. h x l)
     go (inr a) (inl b) c (yes d) e = simp tests (λ l. omega (arith, length-born t (orderedEntries t rs)))
@@ -159,7 +159,7 @@ module _ (measure : Value → ℕ) where
     high-is = rw range (omega arith)
 
     -- The page keeps its number
-    stay-matches : length rows ≤ 64
+    stay-matches : length rows ≤ rowLimit
         → Matches measure tree lo hi (record { table = putPage (so .table) page (withRows old rows); made = so .made; became = Stays })
         (record {
           store = putAt S page
@@ -198,7 +198,7 @@ module _ (measure : Value → ℕ) where
     moving-new = new-copied t (keyOrder t rows)
 
     -- A page written whole, in the model's words
-    fresh-page : (low high high′ : ℕ) (rs : List Row) (es : List Entry) → low < 65536 → high ≡ high′ → length rs ≤ 64 → All Fits rs
+    fresh-page : (low high high′ : ℕ) (rs : List Row) (es : List Entry) → low < 65536 → high ≡ high′ → length rs ≤ rowLimit → All Fits rs
         → viewRows measure rs ≡ bornAll t es
         → viewPage measure (freshPage (word old 0) low high t rs) ≡ newPage t (word old 0) low high′ es
     fresh-page low high high′ rs es l e small f v =
@@ -206,7 +206,7 @@ module _ (measure : Value → ℕ) where
         ∙ (λ i. record { level = word old 0; low = low; high = e i; rows = v i })
 
     -- One new page
-    copy-matches : length (copiedRows t rows) ≤ 40
+    copy-matches : length (copiedRows t rows) ≤ copyLimit
         → Matches measure tree lo hi (copyPage tree t so old moving)
         (record {
           store = putAt S U (newPage t (oldPage .level) (oldPage .low) (oldPage .high) (map (entryOf measure) moving));
@@ -235,7 +235,7 @@ module _ (measure : Value → ℕ) where
         }
 
     -- Two new pages
-    module _ (i : ℕ) (low-half : i ≤ 64) (high-half : length (copiedRows t rows) - i ≤ 64) where
+    module _ (i : ℕ) (low-half : i ≤ rowLimit) (high-half : length (copiedRows t rows) - i ≤ rowLimit) where
       abbrev lower : List Row
       lower = take i moving
 
@@ -274,10 +274,10 @@ module _ (measure : Value → ℕ) where
           (first-view (totalOf lower) (totalAmount (take i (map (entryOf measure) moving))) adds upper
           ∙ ap (plusFirst (totalAmount (take i (map (entryOf measure) moving)))) upper-entries)
 
-      lower-few : length (take i (copiedRows t rows)) ≤ 64
+      lower-few : length (take i (copiedRows t rows)) ≤ rowLimit
       lower-few = rw length-take (omega arith)
 
-      upper-few : length (gainFirst (totalOf lower) upper) ≤ 64
+      upper-few : length (gainFirst (totalOf lower) upper) ≤ rowLimit
       upper-few = omega (arith, first-length (totalOf lower) upper, length-drop i moving)
 
       halve-matches : Matches measure tree lo hi (halvePage tree t so old lower upper middle)
@@ -349,12 +349,12 @@ module _ (measure : Value → ℕ) where
               suc U;
           parts = copy U;
         })
-        (modelSteps.halved t S U oldPage (take (n - n / 2) (map (entryOf measure) moving))
-        (drop (n - n / 2) (map (entryOf measure) moving)))))
+        (modelSteps.halved t S U oldPage (take (lowerHalf n) (map (entryOf measure) moving))
+        (drop (lowerHalf n) (map (entryOf measure) moving)))))
         (sym (length-map moving (entryOf measure)))
-        (go (leb (length moving) 40) refl)
+        (go (leb (length moving) copyLimit) refl)
       where
-        go : (b : Bool) → leb (length moving) 40 ≡ b
+        go : (b : Bool) → leb (length moving) copyLimit ≡ b
             → Matches measure tree lo hi
             (cond b (copyPage tree t so old moving)
             (halvePage tree t so old (take (lowerCount moving) moving) (drop (lowerCount moving) moving)
@@ -376,7 +376,7 @@ module _ (measure : Value → ℕ) where
     finish-matches header =
         subst₃
         (λ (g : Page) (n : ℕ) (es : List Entry). Matches measure tree lo hi (finishPage tree t so page rows)
-        (cond (leb n 64)
+        (cond (leb n rowLimit)
         (record {
           store = putAt S page (record { level = g .level; low = g .low; high = g .high; rows = viewRows measure rows });
           used =
@@ -385,9 +385,9 @@ module _ (measure : Value → ℕ) where
         })
         (moved t S U g es)))
         (sym header) (sym (length-map rows (viewRow measure))) (copied-entries t rows)
-        (go (leb (length rows) 64) refl)
+        (go (leb (length rows) rowLimit) refl)
       where
-        go : (b : Bool) → leb (length rows) 64 ≡ b
+        go : (b : Bool) → leb (length rows) rowLimit ≡ b
             → Matches measure tree lo hi
             (cond b (record { table = putPage (so .table) page (withRows old rows); made = so .made; became = Stays })
             (splitPage tree t so old moving))

@@ -16,7 +16,7 @@ use Rattle.words.proofs.ValueLaws.{Stored, plus-stored}
 use Rattle.words.specs.Words.{openEnd}
 use Rattle.tree.specs.declared.types.Row.{Row}
 use Rattle.tree.specs.declared.types.Held.the-variants as found
-use Rattle.tree.specs.Row.{live, rowsOf}
+use Rattle.tree.specs.Row.{live, rowsOf, rowLimit}
 use Rattle.tree.specs.KeyOrder.{Placed}
 use Rattle.tree.specs.PageTest.{soundAt}
 use Rattle.tree.specs.TrueValue.{Search, trueValue, holdingRow, heldAs}
@@ -94,7 +94,7 @@ pub record Reads (measure : Value → ℕ) (tree : ours.Tree) (t k n lo hi page 
   pub path : pathFrom (tree .table) t k n page ≡ treePath n k page tr
 
 module _ (measure : Value → ℕ) (m : Measure measure) (tree : ours.Tree)
-    (small : (x : ℕ) → x < tree .used .pages → length (rowsOf (pageAt (tree .table) x)) ≤ 64)
+    (small : (x : ℕ) → x < tree .used .pages → length (rowsOf (pageAt (tree .table) x)) ≤ rowLimit)
     (t k : ℕ) (now : t < openEnd) where
   abbrev store : ℕ → Page
   store = viewTable measure (tree .table)

@@ -14,7 +14,7 @@ use borrow.Author.Tests.{le-leb, lt-leb, lt-ltb, le-ltb, eq-eqb, ne-eqb}
 use Rattle.words.specs.Words.{openEnd}
 use Rattle.tree.proofs.ModelPages.{onlyIf, Entry, Row, live, sumLive, bornAll, isReplaced, keep, kept, makes, made, replaced}
 use Rattle.tree.proofs.ModelPages.{sumEntries, after}
-use Rattle.tree.proofs.ModelPromise.{Settled}
+use Rattle.tree.proofs.ModelPromise.{Over, Settled}
 
 pub ruleset tests = (le-leb, lt-leb, lt-ltb, le-ltb, eq-eqb, ne-eqb)
 
@@ -98,9 +98,9 @@ pub sum-live-later : (t w : ℕ) (f : Entry → ℕ) → t ≤ w → w < openEnd
 sum-live-later t w f i j [] h = refl
 sum-live-later t w f i j (r ∷ rs) h = go (h .1) (sum-live-later t w f i j rs (h .2)) (h .0) (omega (arith, h .0))
   where
-    go : (r .end ≤ t) ⊎ (r .end ≡ openEnd) → sumLive w f rs ≡ sumLive t f rs → r .birth ≤ t → r .birth ≤ w
+    go : Over t r ⊎ (r .end ≡ openEnd) → sumLive w f rs ≡ sumLive t f rs → r .birth ≤ t → r .birth ≤ w
         → sumLive w f (r ∷ rs) ≡ sumLive t f (r ∷ rs)
-    go (inl a) e b c = let d : r .end ≤ w = omega arith in simp (tests, e)
+    go (inl a) e b c = let d′ : r .end ≤ t = a .1 in let d : r .end ≤ w = omega arith in simp (tests, e)
     go (inr a) e b c = let d : w < r .end = omega arith in let d′ : t < r .end = omega arith in simp (tests, e)
 
 pub settled-born : (t : ℕ) (es : List Entry) → Settled t (bornAll t es)
@@ -115,22 +115,26 @@ pub settled-later : (t w : ℕ) (rs : List Row) → t ≤ w → Settled t rs →
 settled-later t w [] i h = tt
 settled-later t w (r ∷ rs) i h = (omega (arith, h .0), go (h .1), settled-later t w rs i (h .2))
   where
-    go : (r .end ≤ t) ⊎ (r .end ≡ openEnd) → (r .end ≤ w) ⊎ (r .end ≡ openEnd)
-    go (inl a) = inl (omega arith)
+    go : Over t r ⊎ (r .end ≡ openEnd) → Over w r ⊎ (r .end ≡ openEnd)
+    go (inl a) = inl (a .0, omega (arith, a .1))
     go (inr a) = inr a
 
 module _ (t m : ℕ) (a : Entry → Entry) (b : Entry → List Entry) where
   settled-kept : (rs : List Row) → Settled t rs → Settled t (kept t m a b rs)
   settled-kept [] h = tt
-  settled-kept (r ∷ rs) h = go (isReplaced t m r) (eqb (r .birth) t) (settled-kept rs (h .2))
+  settled-kept (r ∷ rs) h = go (isReplaced t m r) (ℕ-discrete (r .birth) t) (settled-kept rs (h .2))
     where
-      go : (x y : Bool) → Settled t (kept t m a b rs)
+      go : (x : Bool) → Dec (r .birth ≡ t) → Settled t (kept t m a b rs)
           → Settled t
-          (cond x (cond y (record { birth = r .birth; end = r .end; entry = a (r .entry) })
+          (cond x (cond (eqb (r .birth) t) (record { birth = r .birth; end = r .end; entry = a (r .entry) })
           (record { birth = r .birth; end = t; entry = r .entry })) r ∷ kept t m a b rs)
       go false y k = (h .0, h .1, k)
-      go true true k = (h .0, h .1, k)
-      go true false k = (h .0, inl (omega arith), k)
+      go true (yes e) k = rw (eq-eqb (r .birth) t e) (h .0, altered (h .1), k)
+        where
+          altered : Over t r ⊎ (r .end ≡ openEnd) → Over t (record { birth = r .birth; end = r .end; entry = a (r .entry) }) ⊎ (r .end ≡ openEnd)
+          altered (inl x) = inl x
+          altered (inr x) = inr x
+      go true (no e) k = rw (ne-eqb (r .birth) t e) (h .0, inl (omega (arith, h .0), omega arith), k)
 
   pub settled-replaced : (rs : List Row) → Settled t rs → Settled t (replaced t m a b rs)
   settled-replaced rs h =

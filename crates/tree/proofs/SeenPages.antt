@@ -14,7 +14,7 @@ use Rattle.words.specs.Words.{keyLimit, lowKey, highKey, birthOf, openEnd}
 use Rattle.words.specs.declared.value.Value.{Value}
 use Rattle.words.proofs.Measure.{Measure}
 use Rattle.tree.specs.declared.types.Row.{Row}
-use Rattle.tree.specs.Row.{word, rowsOf}
+use Rattle.tree.specs.Row.{word, rowsOf, rowLimit, copyLimit}
 use Rattle.tree.specs.KeyOrder.{Placed}
 use Rattle.tree.specs.TrueValue.{Search}
 use Rattle.tree.specs.Edit.{withRows}
@@ -67,7 +67,7 @@ module _ (tree : ours.Tree) (t w : ℕ) (so : Written) (page : ℕ) (rows : List
   abbrev U : ℕ
   U = tree .used .pages + so .made
 
-  stay-looks : length rows ≤ 64 → U * 260 ≤ length (tree .table) → LooksSame w tree (putPage (so .table) page (withRows old rows))
+  stay-looks : length rows ≤ rowLimit → U * 260 ≤ length (tree .table) → LooksSame w tree (putPage (so .table) page (withRows old rows))
   stay-looks small room x l = go (ℕ-discrete x page)
     where
       whole : length old ≡ 260
@@ -98,7 +98,7 @@ module _ (tree : ours.Tree) (t w : ℕ) (so : Written) (page : ℕ) (rows : List
   moving-few : length (copiedRows t rows) ≤ 67
   moving-few = omega (arith, copied-length t rows)
 
-  copy-looks : length (copiedRows t rows) ≤ 40 → (U + 1) * 260 ≤ length (tree .table)
+  copy-looks : length (copiedRows t rows) ≤ copyLimit → (U + 1) * 260 ≤ length (tree .table)
       → LooksSame w tree (copyPage tree t so old moving .table)
   copy-looks small room x l =
       same-look w
@@ -106,7 +106,7 @@ module _ (tree : ours.Tree) (t w : ℕ) (so : Written) (page : ℕ) (rows : List
       (fresh-length (word old 0) (lowKey (word old 2)) (highKey (word old 2)) t moving (omega arith)) x (λ e. omega arith))
       (before x l)
 
-  halve-looks : (i middle : ℕ) → i ≤ 64 → length (copiedRows t rows) - i ≤ 64 → (U + 2) * 260 ≤ length (tree .table)
+  halve-looks : (i middle : ℕ) → i ≤ rowLimit → length (copiedRows t rows) - i ≤ rowLimit → (U + 2) * 260 ≤ length (tree .table)
       → LooksSame w tree (halvePage tree t so old (take i moving) (drop i moving) middle .table)
   halve-looks i middle low high room x l =
       same-look w
@@ -135,9 +135,9 @@ module _ (tree : ours.Tree) (t w : ℕ) (so : Written) (page : ℕ) (rows : List
   pub finish-looks : (tree .used .pages + finishPage tree t so page rows .made) * 260 ≤ length (tree .table)
       → LooksSame w tree (finishPage tree t so page rows .table)
   unfolding finishPage
-  finish-looks = go (leb (length rows) 64) refl
+  finish-looks = go (leb (length rows) rowLimit) refl
     where
-      halves : (b : Bool) → leb (length (copiedRows t rows)) 40 ≡ b
+      halves : (b : Bool) → leb (length (copiedRows t rows)) copyLimit ≡ b
           → (tree .used .pages + (cond b (copyPage tree t so old moving)
           (halvePage tree t so old (take (lowerCount moving) moving) (drop (lowerCount moving) moving)
           (lowestKey (highKey (word old 2)) (drop (lowerCount moving) moving)))) .made) * 260 ≤ length (tree .table)
@@ -150,7 +150,7 @@ module _ (tree : ours.Tree) (t w : ℕ) (so : Written) (page : ℕ) (rows : List
           halve-looks (lowerCount moving) (lowestKey (highKey (word old 2)) (drop (lowerCount moving) moving))
           (omega (arith, moving-few)) (omega (arith, moving-few)) (omega arith)
 
-      go : (b : Bool) → leb (length rows) 64 ≡ b
+      go : (b : Bool) → leb (length rows) rowLimit ≡ b
           → (tree .used .pages
           + (cond b (record { table = putPage (so .table) page (withRows old rows); made = so .made; became = Stays })
           (splitPage tree t so old moving)) .made) * 260 ≤ length (tree .table)
@@ -158,12 +158,12 @@ module _ (tree : ours.Tree) (t w : ℕ) (so : Written) (page : ℕ) (rows : List
           ((cond b (record { table = putPage (so .table) page (withRows old rows); made = so .made; became = Stays })
           (splitPage tree t so old moving)) .table)
       go true e room = stay-looks (leb-true _ _ e) room
-      go false e room = halves (leb (length (copiedRows t rows)) 40) refl room
+      go false e room = halves (leb (length (copiedRows t rows)) copyLimit) refl room
 
 -- A step makes no fewer pages than the steps below it
 finish-made : (tree : ours.Tree) (t : ℕ) (so : Written) (page : ℕ) (rows : List Row) → so .made ≤ finishPage tree t so page rows .made
 unfolding finishPage
-finish-made tree t so page rows = go (leb (length rows) 64) (leb (length (copiedRows t rows)) 40)
+finish-made tree t so page rows = go (leb (length rows) rowLimit) (leb (length (copiedRows t rows)) copyLimit)
   where
     old : List ℕ
     old = pageAt (tree .table) page
@@ -181,7 +181,7 @@ finish-made tree t so page rows = go (leb (length rows) 64) (leb (length (copied
     go false false = omega arith
 
 module _ (measure : Value → ℕ) (m : Measure measure) (tree : ours.Tree) (p : Point) (now : p .tick < openEnd)
-    (small : (x : ℕ) → x < tree .used .pages → length (rowsOf (pageAt (tree .table) x)) ≤ 64) (w : ℕ) (early : w < p .tick) where
+    (small : (x : ℕ) → x < tree .used .pages → length (rowsOf (pageAt (tree .table) x)) ≤ rowLimit) (w : ℕ) (early : w < p .tick) where
   abbrev store : ℕ → Page
   store = viewTable measure (tree .table)
 

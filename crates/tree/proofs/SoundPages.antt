@@ -10,7 +10,7 @@ use borrow.Author.Tests.{leb-false, ltb-false, le-leb, lt-ltb, eq-eqb}
 use Rattle.words.specs.Lists.{All}
 use Rattle.words.specs.declared.value.Value.{Value}
 use Rattle.tree.specs.declared.types.Row.{Row}
-use Rattle.tree.specs.Row.{word, live, rowsOf}
+use Rattle.tree.specs.Row.{word, live, rowsOf, rowLimit}
 use Rattle.tree.specs.PageTest.{rowsTile, soundAt}
 use Rattle.tree.proofs.Lists.{all-map, sumBy, sum-same}
 use Rattle.tree.proofs.Places.{cover}
@@ -108,7 +108,7 @@ module _ (measure : Value → ℕ) {A : Type 0} (P : ℕ → ℕ → ℕ → A �
       go (r ∷ rs) h = omega arith
 
 module _ (measure : Value → ℕ) (tree : ours.Tree)
-    (small : (x : ℕ) → x < tree .used .pages → length (rowsOf (pageAt (tree .table) x)) ≤ 64)
+    (small : (x : ℕ) → x < tree .used .pages → length (rowsOf (pageAt (tree .table) x)) ≤ rowLimit)
     {A : Type 0} (P : ℕ → ℕ → ℕ → A → Type 0) (t level lo hi page : ℕ) (tr : List (Slot A))
     (held : Held P level (viewTable measure (tree .table)) (tree .used .pages) t lo hi page tr) where
   pub held-sound : soundAt t level lo hi (pageAt (tree .table) page) ≡ true
@@ -116,12 +116,12 @@ module _ (measure : Value → ℕ) (tree : ours.Tree)
       let words : List ℕ = pageAt (tree .table) page in
       let number : length (rowsOf words) ≡ word words 1 = rows-length words 4 (word words 1) in
       let some : 1 ≤ length (rowsOf words) = some-row measure P t lo hi (rowsOf words) tr (held .chain) (held .same) (held .wide) in
-      let few : length (rowsOf words) ≤ 64 = small page (held .in-use) in
+      let few : length (rowsOf words) ≤ rowLimit = small page (held .in-use) in
       let range : word words 2 ≡ lo + 65536 * hi = omega (arith, held .low, held .high) in
       simp (
         eq-eqb (word words 0) level (held .level),
         le-leb 1 (word words 1) (omega arith),
-        le-leb (word words 1) 64 (omega arith),
+        le-leb (word words 1) rowLimit (omega arith),
         eq-eqb
             (word words 2) (lo + 65536 * hi) range,
       )

@@ -11,7 +11,7 @@ use borrow.Author.Tests.{eq-eqb, ne-eqb}
 use Rattle.words.specs.Words.{keyLimit, openEnd}
 use Rattle.words.specs.declared.value.Value.{Value}
 use Rattle.words.proofs.Measure.{Measure}
-use Rattle.tree.specs.Row.{rowsOf}
+use Rattle.tree.specs.Row.{rowsOf, rowLimit}
 use Rattle.tree.specs.Fresh.{freshPage, twoRows}
 use Rattle.tree.specs.declared.types.Root.{Root}
 use Rattle.tree.specs.declared.types.Root.the-variants.{At, Missing}
@@ -47,7 +47,7 @@ stateOf measure tree =
 
 -- What holds of the words of a grown tree, whatever the values are
 pub record WordsKept (tree : ours.Tree) (last : ℕ) : Type 0 where
-  pub small : (x : ℕ) → x < tree .used .pages → length (rowsOf (pageAt (tree .table) x)) ≤ 64
+  pub small : (x : ℕ) → x < tree .used .pages → length (rowsOf (pageAt (tree .table) x)) ≤ rowLimit
   pub pages : tree .used .pages * 260 ≤ length (tree .table)
   pub limit : tree .used .pages ≤ 1000000
   pub roots : RootsKept tree last
@@ -56,10 +56,10 @@ pub state-path : {a b : State} → a .store ≡ b .store → a .used ≡ b .used
 state-path p q r = λ i. record { store = p i; used = q i; root = r i }
 
 -- Pages of a store with one more page
-put-small : (s : ℕ → Page) (u : ℕ) (g : Page) → Small s u → length (g .rows) ≤ 64 → Small (putAt s u g) (suc u)
+put-small : (s : ℕ → Page) (u : ℕ) (g : Page) → Small s u → length (g .rows) ≤ rowLimit → Small (putAt s u g) (suc u)
 put-small s u g h few x l = go (ℕ-discrete x u)
   where
-    go : Dec (x ≡ u) → length ((cond (eqb x u) g (s x)) .rows) ≤ 64
+    go : Dec (x ≡ u) → length ((cond (eqb x u) g (s x)) .rows) ≤ rowLimit
     go (yes e) = rw (eq-eqb x u e) few
     go (no e) = rw (ne-eqb x u e) (h x (omega arith))
 
@@ -234,7 +234,7 @@ module _ (measure : Value → ℕ) (m : Measure measure) (tree : ours.Tree) (p :
       let new = enterRoot tree p page .tree in
       record {
         small =
-            λ x l. let few : length ((stateOf measure new .store x) .rows) ≤ 64 =
+            λ x l. let few : length ((stateOf measure new .store x) .rows) ≤ rowLimit =
             subst (λ (st : State). Small (st .store) (st .used)) (sym (g .state))
             (grown-small (p .tick) (levelOf (tree .table) page) (λ w. pageOf (rootAt tree w)) (modelOut .store) (modelOut .used)
             (modelOut .parts) (root-agrees .1)) x l in

@@ -12,7 +12,7 @@ use Rattle.words.specs.Lists.{All}
 use Rattle.words.specs.declared.value.Value.{Value}
 use Rattle.words.proofs.Measure.{Measure}
 use Rattle.tree.specs.declared.types.Row.{Row}
-use Rattle.tree.specs.Row.{word, live, rowsOf}
+use Rattle.tree.specs.Row.{word, live, rowsOf, rowLimit}
 use Rattle.tree.specs.KeyOrder.{Placed, keepIf, livePlaced, insertBy, sortBy, keyOrder}
 use Rattle.tree.specs.TrueValue.{rowValue}
 use Rattle.tree.specs.Edit.{bornAt, withRows}
@@ -126,14 +126,14 @@ module _ (measure : Value → ℕ) where
   page-path : {a b : Page} → a .level ≡ b .level → a .low ≡ b .low → a .high ≡ b .high → a .rows ≡ b .rows → a ≡ b
   page-path p q r s = λ i. record { level = p i; low = q i; high = r i; rows = s i }
 
-  pub view-with : (page : List ℕ) (rows : List Row) → length page ≡ 260 → length rows ≤ 64 → All Fits rows
+  pub view-with : (page : List ℕ) (rows : List Row) → length page ≡ 260 → length rows ≤ rowLimit → All Fits rows
       → viewPage (withRows page rows)
       ≡ record { level = word page 0; low = word page 2 % 65536; high = word page 2 / 65536; rows = viewRows rows }
   view-with page rows whole few fits =
       page-path (with-level page rows (omega arith)) (ap (λ (n : ℕ). n % 65536) (with-range page rows (omega arith)))
       (ap (λ (n : ℕ). n / 65536) (with-range page rows (omega arith))) (ap viewRows (with-rows page rows (omega arith) fits))
 
-  pub view-fresh : (level low high birth : ℕ) (rows : List Row) → low < 65536 → length rows ≤ 64 → All Fits rows
+  pub view-fresh : (level low high birth : ℕ) (rows : List Row) → low < 65536 → length rows ≤ rowLimit → All Fits rows
       → viewPage (freshPage level low high birth rows) ≡ record { level = level; low = low; high = high; rows = viewRows rows }
   view-fresh level low high birth rows l few fits =
       page-path (fresh-level level low high birth rows few)

@@ -33,8 +33,11 @@ abbrev pub copiedRows : ℕ → List Row → List Row
 copiedRows t rows = map (λ (x : Placed). bornAt t (x .row)) (keyOrder t rows)
 
 -- "the lower taking the larger half"
+abbrev pub lowerHalf : ℕ → ℕ
+lowerHalf n = n - n / 2
+
 abbrev pub lowerCount : List Row → ℕ
-lowerCount rows = length rows - length rows / 2
+lowerCount rows = lowerHalf (length rows)
 
 abbrev pub lowestKey : ℕ → List Row → ℕ
 lowestKey default [] = default

@@ -69,8 +69,11 @@ abbrev pub rowsOf : List ℕ → List Row
 rowsOf page = rowsFrom page headerWords (word page 1)
 
 -- "A row is live at t if birth ≤ t < end."
+abbrev pub liveFor : ℕ → ℕ → ℕ → Bool
+liveFor birth end t = leb birth t && ltb t end
+
 abbrev pub live : ℕ → Row → Bool
-live t r = leb (r .birth) t && ltb t (r .end)
+live t r = liveFor (r .birth) (r .end) t
 
 -- "has low key ≤ k < high key": "High keys and ends are not included in a row."
 abbrev pub holds : ℕ → Row → Bool
