@@ -109,9 +109,10 @@ fn link_halves(page: &mut [u64], place: usize, old: Row, lower: Child, upper: Ch
     ensures { λ _. ⌜ now (page .exit) ≡ linkWords t (now (page .entry)) place old (Became.Halved lower upper) ⌝ }
 {
     replace_row(page, place, old, linked_row(old, lower), t);
+    let nothing = Value::zero();
     page::append_row(
         page,
-        page::new_row(t, upper.low, upper.high, upper.page, Value::zero()),
+        page::new_row(t, upper.low, upper.high, upper.page, nothing),
     );
 }
 

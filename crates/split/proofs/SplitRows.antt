@@ -22,7 +22,7 @@ use Rattle.page.proofs.PageReadings.{in-page, entries-are}
 use Rattle.tree.specs.declared.types.TreeUse.{TreeUse}
 use Rattle.tree.specs.Tree.{putPage}
 use Rattle.tree.specs.declared.types.Became.the-variants.{Copied, Halved}
-use Rattle.tree.specs.Overflow.{lowerCount, lowestKey, gainFirst, totalOf}
+use Rattle.tree.specs.Overflow.{lowerCount, lowestKey, gainFirst, totalOf, lowerHalf}
 use Rattle.split.specs.SplitWords.{scratchWords, Sourced, between, entryRow, copyOf, fillPage, addRows, gainPage}
 use Rattle.split.specs.SplitWords.{liveCopies, copiedTable, middleKey, halvedTable, splitWords}
 use Rattle.split.proofs.SplitLaws.{filled-fresh, filled-gained, added-from-zero}
@@ -92,7 +92,7 @@ module _ (t : ℕ) (words order : List ℕ) (start : ℕ) (from : Sourced t word
       (ap (map (copyOf words t)) (between-all start) ∙ copies))
 
   -- Two new pages, cut behind the larger half
-  module _ (cut : ℕ) (where-cut : cut ≡ start + (orderSize - start + 1) / 2) where
+  module _ (cut : ℕ) (where-cut : cut ≡ start + lowerHalf (orderSize - start)) where
     cut-is : cut ≡ start + lowerCount (liveCopies words t)
     cut-is = omega (arith, live-count)
 

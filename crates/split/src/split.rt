@@ -15,7 +15,7 @@ ghost use Rattle.tree.specs.Row.{word, pageWords, rowLimit, copyLimit};
 ghost use Rattle.page.specs.PageValue.{encodePage};
 ghost use Rattle.page.specs.Entries.{orderSize, InPage};
 ghost use Rattle.tree.specs.Tree.{putPage};
-ghost use Rattle.tree.specs.Overflow.{takenPage};
+ghost use Rattle.tree.specs.Overflow.{takenPage, lowerHalf};
 ghost use Rattle.split.specs.SplitWords.{scratchWords, Sourced, between, fillPage, addRows, gainPage, copiedTable, middleKey, halvedTable, splitWords};
 
 // The page with the rows of the entries from one place of the order up to another, each born at t and open.
@@ -87,6 +87,14 @@ fn copy_rows(table: &mut [u64], number: u32, words: &[u64], order: &[u64], start
     put_page(table, number, filled(words, order, start, 67, blank, t));
 }
 
+// Where the lower page's rows stop in an order that starts at `start`: it takes the larger half.
+fn lower_end(start: usize) -> usize
+    requires { ⌜ start ≤ orderSize ⌝ }
+    ensures { λ r. ⌜ r ≡ start + lowerHalf (orderSize - start) ⌝ }
+{
+    start + (67 - start + 1) / 2
+}
+
 // The live rows go to two new pages, which are cut at the low key of the upper page's first row: that key is the result.
 fn halve_rows(
     table: &mut [u64],
@@ -104,8 +112,7 @@ fn halve_rows(
     ensures { λ r. ⌜ r ≡ middleKey (now (words .entry)) t ⌝ }
     ensures { λ _. ⌜ now (table .exit) ≡ halvedTable (now (table .entry)) first second (now (words .entry)) t ⌝ }
 {
-    let live = 67 - start;
-    let cut = start + (live + 1) / 2;
+    let cut = lower_end(start);
     let level = words[0];
     let range = words[2];
     let middle = page::row_at(words, page::entry_place(order[cut])).low;

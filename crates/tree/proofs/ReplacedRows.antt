@@ -36,7 +36,7 @@ sum-entries-append f (r ∷ x) y = rw (sum-entries-append f x y) (omega arith)
 module _ (t : ℕ) (now : t < openEnd) (f : Entry → ℕ) where
   pub sum-live-born : (es : List Entry) → sumLive t f (bornAll t es) ≡ sumEntries f es
   sum-live-born [] = refl
-  sum-live-born (e ∷ es) = let h : t ≤ t = omega arith in simp (tests, sum-live-born es)
+  sum-live-born (e ∷ es) = let h : t ≤ t = omega arith in let h′ : t ≤ openEnd = omega arith in simp (tests, sum-live-born es)
 
   module _ (m : ℕ) (a : Entry → Entry) (b : Entry → List Entry) where
     -- One row: what it is afterwards and what it makes.

@@ -25,7 +25,7 @@ same-length : tie.Need-same-length
 same-length c = search needs
 
 returns : tie.Need-returns
-returns c = rw (c .before .before .append-row .ensures, c .before .before .before .before .before .before .before .before .replace-row .ensures, c .before .before .before .before .before .before .before .before .before .linked-row .ensures, c .before .before .before .new-row .ensures, c .before .before .before .before .zero .ensures)
+returns c = rw (c .before .before .append-row .ensures, c .before .before .before .before .before .before .before .before .replace-row .ensures, c .before .before .before .before .before .before .before .before .before .linked-row .ensures, c .before .before .before .new-row .ensures, c .before .before .before .before .before .zero .ensures)
 
 pub link-halves-spec : {M : Type 1} → statement M
 link-halves-spec =

@@ -14,7 +14,9 @@ same-length : tie.Need-same-length
 same-length c = search needs
 
 returns : tie.Need-returns
-returns c = rw (eq-eqb _ _ (c .before .before .before .before .if1 .taken)) (c .before .before .put-row .ensures)
+returns c =
+    let a = c .before .before .before .before .before .before .before .args in
+    rw (eq-eqb (a .old .birth) (a .t) (omega (arith, c .before .before .before .before .if1 .taken))) (c .before .before .put-row .ensures)
 
 end-row-requires : tie.Need-end-row-requires
 end-row-requires c κs = search needs

@@ -44,7 +44,8 @@ same-length c = search needs
 
 returns : tie.Need-returns
 returns c = let a = c .before .before .before .before .before .before .before .args in
-    let born : birthOf (word (a .roots .now) (a .used .roots - 1)) ≡ a .t = sym (c .before .before .birth-of .ensures) ∙ c .before .if1 .taken in
+    let born : birthOf (word (a .roots .now) (a .used .roots - 1)) ≡ a .t =
+    omega (arith, c .before .before .birth-of .ensures, c .before .if1 .taken) in
     record {
       list = rw (eq-eqb _ _ born, c .before .before .before .before .life .ensures) (overwrite-one (a .roots .now) (a .used .roots - 1) (lifeWord (a .t) (a .page)) (omega (arith, c .before .before .before .before .before .before .before .pre .some, c .before .before .before .before .before .before .before .pre .inside)));
       use-is = rw (eq-eqb _ _ born);

@@ -12,6 +12,7 @@ use Rattle.page.specs.PageValue.{emptyPage, encodePage}
 use Rattle.page.specs.Entries.{orderSize, entryPlace}
 use Rattle.page.proofs.OrderLaws.{all-here}
 use Rattle.tree.specs.Tree.{putPage}
+use Rattle.tree.specs.Overflow.{lowerHalf}
 use Rattle.split.specs.SplitWords.{between, fillPage, addRows, gainPage, middleKey}
 use Rattle.split.proofs.SplitLaws.{filled-count}
 use Rattle.split.proofs.SplitRows.{in-words, in-words-from, between-length, middle-is, halve-table}
@@ -19,14 +20,8 @@ use borrow.Author.Needs.{needs}
 use Rattle.split.proofs.split.halve_rows.Statement.{statement}
 use Rattle.split.proofs.split.halve_rows.Tie as tie
 
-sub-live : tie.Need-sub-live
-sub-live c = search needs
-
-add-cut : tie.Need-add-cut
-add-cut c = search needs
-
-add-cut-2 : tie.Need-add-cut-2
-add-cut-2 c = search needs
+lower-end-requires : tie.Need-lower-end-requires
+lower-end-requires c κs = omega (arith, c .before .before .before .pre .1 .0)
 
 shared-slice-read-level : tie.Need-shared-slice-read-level
 shared-slice-read-level c = search needs
@@ -44,12 +39,13 @@ entry-place-requires : tie.Need-entry-place-requires
 entry-place-requires c κs = search needs
 
 row-at-requires : tie.Need-row-at-requires
-row-at-requires c κs = let a = c .before .before .before .before .before .before .before .args in
+row-at-requires c κs = let a = c .before .before .before .before .before .before .before .before .args in
     let ws = a .words .now in
     let os = a .order .now in
-    let from = c .before .before .before .before .before .before .before .pre .0 in
-    let cut : ℕ = a .start + (orderSize - a .start + 1) / 2 in
-    let many : a .start + copyLimit < orderSize = c .before .before .before .before .before .before .before .pre .1 .0 in
+    let from = c .before .before .before .before .before .before .before .before .pre .0 in
+    let cut : ℕ = c .before .before .before .before .lower-end .result in
+    let where-cut : cut ≡ a .start + lowerHalf (orderSize - a .start) = c .before .before .before .before .lower-end .ensures in
+    let many : a .start + copyLimit < orderSize = c .before .before .before .before .before .before .before .before .pre .1 .0 in
     let above : a .start ≤ cut = omega arith in
     let inside : cut < orderSize = omega arith in
     rw (c .entry-place .ensures)
@@ -68,35 +64,38 @@ empty-requires-2 : tie.Need-empty-requires-2
 empty-requires-2 c κs = search needs
 
 total-of-requires : tie.Need-total-of-requires
-total-of-requires c κs = let a = c .before .before .before .before .before .before .before .before .before .before .before .before .args in
+total-of-requires c κs = let a = c .before .before .before .before .before .before .before .before .before .before .before .before .before .args in
     let ws = a .words .now in
     let os = a .order .now in
-    let from = c .before .before .before .before .before .before .before .before .before .before .before .before .pre .0 in
-    let cut : ℕ = a .start + (orderSize - a .start + 1) / 2 in
-    let many : a .start + copyLimit < orderSize = c .before .before .before .before .before .before .before .before .before .before .before .before .pre .1 .0 in
+    let from = c .before .before .before .before .before .before .before .before .before .before .before .before .before .pre .0 in
+    let cut : ℕ = c .before .before .before .before .before .before .before .before .before .lower-end .result in
+    let where-cut : cut ≡ a .start + lowerHalf (orderSize - a .start) = c .before .before .before .before .before .before .before .before .before .lower-end .ensures in
+    let many : a .start + copyLimit < orderSize = c .before .before .before .before .before .before .before .before .before .before .before .before .before .pre .1 .0 in
     let above : a .start ≤ cut = omega arith in
     let inside : cut < orderSize = omega arith in
-    (from .long, (above, (omega arith, in-words (a .t) ws os (a .start) from)))
+    (from .long, (omega arith, (omega arith, in-words (a .t) ws os (a .start) from)))
 
 filled-requires : tie.Need-filled-requires
-filled-requires c κs = let a = c .before .before .before .before .before .before .before .before .before .before .before .before .before .before .args in
+filled-requires c κs = let a = c .before .before .before .before .before .before .before .before .before .before .before .before .before .before .before .args in
     let ws = a .words .now in
     let os = a .order .now in
-    let from = c .before .before .before .before .before .before .before .before .before .before .before .before .before .before .pre .0 in
-    let cut : ℕ = a .start + (orderSize - a .start + 1) / 2 in
-    let many : a .start + copyLimit < orderSize = c .before .before .before .before .before .before .before .before .before .before .before .before .before .before .pre .1 .0 in
+    let from = c .before .before .before .before .before .before .before .before .before .before .before .before .before .before .before .pre .0 in
+    let cut : ℕ = c .before .before .before .before .before .before .before .before .before .before .before .lower-end .result in
+    let where-cut : cut ≡ a .start + lowerHalf (orderSize - a .start) = c .before .before .before .before .before .before .before .before .before .before .before .lower-end .ensures in
+    let many : a .start + copyLimit < orderSize = c .before .before .before .before .before .before .before .before .before .before .before .before .before .before .before .pre .1 .0 in
     let above : a .start ≤ cut = omega arith in
     let inside : cut < orderSize = omega arith in
     let none : c .before .before .before .before .empty .result .count ≡ 0 = ap (λ (p : Page). p .count) (c .before .before .before .before .empty .ensures) in
     (from .long, (above, (omega arith, (omega arith, in-words (a .t) ws os (a .start) from))))
 
 put-page-requires : tie.Need-put-page-requires
-put-page-requires c κs = let a = c .before .before .before .before .before .before .before .before .before .before .before .before .before .before .before .args in
+put-page-requires c κs = let a = c .before .before .before .before .before .before .before .before .before .before .before .before .before .before .before .before .args in
     let ws = a .words .now in
     let os = a .order .now in
-    let from = c .before .before .before .before .before .before .before .before .before .before .before .before .before .before .before .pre .0 in
-    let cut : ℕ = a .start + (orderSize - a .start + 1) / 2 in
-    let many : a .start + copyLimit < orderSize = c .before .before .before .before .before .before .before .before .before .before .before .before .before .before .before .pre .1 .0 in
+    let from = c .before .before .before .before .before .before .before .before .before .before .before .before .before .before .before .before .pre .0 in
+    let cut : ℕ = c .before .before .before .before .before .before .before .before .before .before .before .before .lower-end .result in
+    let where-cut : cut ≡ a .start + lowerHalf (orderSize - a .start) = c .before .before .before .before .before .before .before .before .before .before .before .before .lower-end .ensures in
+    let many : a .start + copyLimit < orderSize = c .before .before .before .before .before .before .before .before .before .before .before .before .before .before .before .before .pre .1 .0 in
     let above : a .start ≤ cut = omega arith in
     let inside : cut < orderSize = omega arith in
     let none : c .before .before .before .before .before .empty .result .count ≡ 0 = ap (λ (p : Page). p .count) (c .before .before .before .before .before .empty .ensures) in
@@ -104,15 +103,16 @@ put-page-requires c κs = let a = c .before .before .before .before .before .bef
     between-length (a .t) ws os (a .start) from (a .start) cut above (omega arith) in
     let counted : c .filled .result .count ≡ c .before .before .before .before .before .empty .result .count + length (between (a .start) cut os) =
     ap (λ (p : Page). p .count) (c .filled .ensures) ∙ filled-count ws (a .t) (c .before .before .before .before .before .empty .result) (between (a .start) cut os) in
-    (c .before .before .before .before .before .before .before .before .before .before .before .before .before .before .before .pre .1 .1 .0, omega arith)
+    (c .before .before .before .before .before .before .before .before .before .before .before .before .before .before .before .before .pre .1 .1 .0, omega arith)
 
 filled-requires-2 : tie.Need-filled-requires-2
-filled-requires-2 c κs = let a = c .before .before .before .before .before .before .before .before .before .before .before .before .before .before .before .before .before .before .before .args in
+filled-requires-2 c κs = let a = c .before .before .before .before .before .before .before .before .before .before .before .before .before .before .before .before .before .before .before .before .args in
     let ws = a .words .now in
     let os = a .order .now in
-    let from = c .before .before .before .before .before .before .before .before .before .before .before .before .before .before .before .before .before .before .before .pre .0 in
-    let cut : ℕ = a .start + (orderSize - a .start + 1) / 2 in
-    let many : a .start + copyLimit < orderSize = c .before .before .before .before .before .before .before .before .before .before .before .before .before .before .before .before .before .before .before .pre .1 .0 in
+    let from = c .before .before .before .before .before .before .before .before .before .before .before .before .before .before .before .before .before .before .before .before .pre .0 in
+    let cut : ℕ = c .before .before .before .before .before .before .before .before .before .before .before .before .before .before .before .before .lower-end .result in
+    let where-cut : cut ≡ a .start + lowerHalf (orderSize - a .start) = c .before .before .before .before .before .before .before .before .before .before .before .before .before .before .before .before .lower-end .ensures in
+    let many : a .start + copyLimit < orderSize = c .before .before .before .before .before .before .before .before .before .before .before .before .before .before .before .before .before .before .before .before .pre .1 .0 in
     let above : a .start ≤ cut = omega arith in
     let inside : cut < orderSize = omega arith in
     let none : c .before .before .before .before .before .before .before .empty2 .result .count ≡ 0 = ap (λ (p : Page). p .count) (c .before .before .before .before .before .before .before .empty2 .ensures) in
@@ -122,12 +122,13 @@ gain-first-requires : tie.Need-gain-first-requires
 gain-first-requires c κs = search needs
 
 put-page-requires-2 : tie.Need-put-page-requires-2
-put-page-requires-2 c κs = let a = c .before .before .before .before .before .before .before .before .before .before .before .before .before .before .before .before .before .before .before .before .before .args in
+put-page-requires-2 c κs = let a = c .before .before .before .before .before .before .before .before .before .before .before .before .before .before .before .before .before .before .before .before .before .before .args in
     let ws = a .words .now in
     let os = a .order .now in
-    let from = c .before .before .before .before .before .before .before .before .before .before .before .before .before .before .before .before .before .before .before .before .before .pre .0 in
-    let cut : ℕ = a .start + (orderSize - a .start + 1) / 2 in
-    let many : a .start + copyLimit < orderSize = c .before .before .before .before .before .before .before .before .before .before .before .before .before .before .before .before .before .before .before .before .before .pre .1 .0 in
+    let from = c .before .before .before .before .before .before .before .before .before .before .before .before .before .before .before .before .before .before .before .before .before .before .pre .0 in
+    let cut : ℕ = c .before .before .before .before .before .before .before .before .before .before .before .before .before .before .before .before .before .before .lower-end .result in
+    let where-cut : cut ≡ a .start + lowerHalf (orderSize - a .start) = c .before .before .before .before .before .before .before .before .before .before .before .before .before .before .before .before .before .before .lower-end .ensures in
+    let many : a .start + copyLimit < orderSize = c .before .before .before .before .before .before .before .before .before .before .before .before .before .before .before .before .before .before .before .before .before .before .pre .1 .0 in
     let above : a .start ≤ cut = omega arith in
     let inside : cut < orderSize = omega arith in
     let none : c .before .before .before .before .before .before .before .before .before .empty2 .result .count ≡ 0 = ap (λ (p : Page). p .count) (c .before .before .before .before .before .before .before .before .before .empty2 .ensures) in
@@ -136,23 +137,24 @@ put-page-requires-2 c κs = let a = c .before .before .before .before .before .b
     let counted : c .gain-first .result .count ≡ c .before .before .before .before .before .before .before .before .before .empty2 .result .count + length (between cut orderSize os) =
     ap (λ (p : Page). p .count) (c .gain-first .ensures ∙ ap (gainPage (c .before .before .before .before .before .before .before .before .total-of .result)) (c .before .filled2 .ensures))
     ∙ filled-count ws (a .t) (c .before .before .before .before .before .before .before .before .before .empty2 .result) (between cut orderSize os) in
-    (omega (arith, c .before .before .before .before .before .put-page .kept .0, c .before .before .before .before .before .before .before .before .before .before .before .before .before .before .before .before .before .before .before .before .before .pre .1 .1 .1), omega arith)
+    (omega (arith, c .before .before .before .before .before .put-page .kept .0, c .before .before .before .before .before .before .before .before .before .before .before .before .before .before .before .before .before .before .before .before .before .before .pre .1 .1 .1), omega arith)
 
 same-length : tie.Need-same-length
 same-length c = search needs
 
 returns : tie.Need-returns
-returns c = let a = c .before .before .before .before .before .before .before .before .before .before .before .before .before .before .before .before .before .before .before .before .before .before .before .before .args in
+returns c = let a = c .before .before .before .before .before .before .before .before .before .before .before .before .before .before .before .before .before .before .before .before .before .before .before .before .before .args in
     let ws = a .words .now in
     let os = a .order .now in
-    let from = c .before .before .before .before .before .before .before .before .before .before .before .before .before .before .before .before .before .before .before .before .before .before .before .before .pre .0 in
-    let cut : ℕ = a .start + (orderSize - a .start + 1) / 2 in
-    let many : a .start + copyLimit < orderSize = c .before .before .before .before .before .before .before .before .before .before .before .before .before .before .before .before .before .before .before .before .before .before .before .before .pre .1 .0 in
+    let from = c .before .before .before .before .before .before .before .before .before .before .before .before .before .before .before .before .before .before .before .before .before .before .before .before .before .pre .0 in
+    let cut : ℕ = c .before .before .before .before .before .before .before .before .before .before .before .before .before .before .before .before .before .before .before .before .before .lower-end .result in
+    let where-cut : cut ≡ a .start + lowerHalf (orderSize - a .start) = c .before .before .before .before .before .before .before .before .before .before .before .before .before .before .before .before .before .before .before .before .before .lower-end .ensures in
+    let many : a .start + copyLimit < orderSize = c .before .before .before .before .before .before .before .before .before .before .before .before .before .before .before .before .before .before .before .before .before .before .before .before .before .pre .1 .0 in
     let above : a .start ≤ cut = omega arith in
     let inside : cut < orderSize = omega arith in
     let middle : c .before .before .before .before .before .before .before .before .before .before .before .before .before .before .before .before .row-at .result .low ≡ middleKey ws (a .t) =
     ap (λ (r : Row). r .low) (c .before .before .before .before .before .before .before .before .before .before .before .before .before .before .before .before .row-at .ensures ∙ ap (rowIn ws) (c .before .before .before .before .before .before .before .before .before .before .before .before .before .before .before .before .before .entry-place .ensures))
-    ∙ middle-is (a .t) ws os (a .start) from cut refl inside in
+    ∙ middle-is (a .t) ws os (a .start) from cut where-cut inside in
     let level = word ws 0 in
     let key = c .before .before .before .before .before .before .before .before .before .before .before .before .before .before .before .before .row-at .result .low in
     let lower : c .before .before .before .before .before .before .before .before .before .filled .result ≡ fillPage ws (a .t) (emptyPage level (lowKey (word ws 2)) key (a .t)) (between (a .start) cut os) =
@@ -171,16 +173,14 @@ returns c = let a = c .before .before .before .before .before .before .before .b
       c .before .before .put-page2 .ensures
           ∙ ap₂ (λ (l : List ℕ) (p : Page). putPage l (a .second) (encodePage p))
           (c .before .before .before .before .before .before .before .before .put-page .ensures ∙ ap (λ (p : Page). putPage (a .table .now) (a .first) (encodePage p)) lower) upper
-          ∙ halve-table (a .t) ws os (a .start) from cut refl (a .table .now) (a .first) (a .second) key middle,
+          ∙ halve-table (a .t) ws os (a .start) from cut where-cut (a .table .now) (a .first) (a .second) key middle,
     )
 
 pub halve-rows-spec : {M : Type 1} → statement M
 halve-rows-spec =
     tie.close
     (tie.spec
-    sub-live
-    add-cut
-    add-cut-2
+    lower-end-requires
     shared-slice-read-level
     shared-slice-read-range
     mul-entry-place
