@@ -1,3 +1,7 @@
+use mathlib.Core.Path.{ap, ap₂, _∙_}
+use Rattle.tree.specs.Edit.{appendRow}
+use Rattle.tree.specs.Fresh.{newRow}
+use Rattle.enter.specs.PageEdits.{replaceWords}
 use native.Mathlib.Omega.{arith}
 use Rattle.enter.proofs.EditSizes.{replace-grown}
 use borrow.Author.Needs.{needs}
@@ -25,7 +29,14 @@ same-length : tie.Need-same-length
 same-length c = search needs
 
 returns : tie.Need-returns
-returns c = rw (c .before .before .append-row .ensures, c .before .before .before .before .before .before .before .before .replace-row .ensures, c .before .before .before .before .before .before .before .before .before .linked-row .ensures, c .before .before .before .new-row .ensures, c .before .before .before .before .before .zero .ensures)
+returns c =
+    let a = c .before .before .before .before .before .before .before .before .before .before .before .before .args in
+    c .before .before .append-row .ensures
+    ∙ ap₂ appendRow
+    (c .before .before .before .before .before .before .before .before .replace-row .ensures
+    ∙ ap (replaceWords (a .t) (a .page .now) (a .place) (a .old)) (c .before .before .before .before .before .before .before .before .before .linked-row .ensures))
+    (c .before .before .before .new-row .ensures
+    ∙ ap (newRow (a .t) (a .upper .low) (a .upper .high) (a .upper .page)) (c .before .before .before .before .before .zero .ensures))
 
 pub link-halves-spec : {M : Type 1} → statement M
 link-halves-spec =
