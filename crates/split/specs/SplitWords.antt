@@ -1,5 +1,5 @@
 -- The pages of an overflow as the code makes them: from the words of the page that overflowed, with the rows added, and the entries of its key order.
--- `proofs/SplitLaws` and `proofs/SplitHalves` show that they are the pages of Overflow.
+-- `proofs/SplitLaws` and `proofs/SplitRows` show that they are the pages of Overflow.
 use mathlib.Core.Path.{_≡_}
 use Prim.Native.Nat.{ℕ, _+_, _*_, _-_, _≤_}
 use mathlib.Core.List.{List, [], _∷_}
