@@ -46,12 +46,13 @@ abbrev pub noPass : OpenPass
 noPass = record { number = 0; key = 0; weight = 0; start = 0 }
 
 -- 20: "an open key or weight beyond its range", open numbers that "reach the number started", "an open start after the last tick"
-abbrev pub passFits : Head → OpenPass → Bool
-passFits h p = ltb (p .key) keyLimit && (leb 1 (p .weight) && (leb (p .weight) weightLimit && (ltb (p .number) (h .started) && leb (p .start) (h .last))))
+abbrev pub passFits : ℕ → ℕ → OpenPass → Bool
+passFits started last p =
+    ltb (p .key) keyLimit && (leb 1 (p .weight) && (leb (p .weight) weightLimit && (ltb (p .number) started && leb (p .start) last)))
 
-unfoldable pub passesFit : Head → List OpenPass → Bool
-passesFit h [] = true
-passesFit h (p ∷ ps) = passFits h p && passesFit h ps
+unfoldable pub passesFit : ℕ → ℕ → List OpenPass → Bool
+passesFit started last [] = true
+passesFit started last (p ∷ ps) = passFits started last p && passesFit started last ps
 
 -- 20: "open numbers that don't rise"
 abbrev pub risesTo : ℕ → List OpenPass → Bool
@@ -76,7 +77,7 @@ useFits t =
 unfoldable pub headFits : Store → Bool
 headFits s =
     leb (s .head .count) openLimit
-    && (passesFit (s .head) (openPasses (s .head))
+    && (passesFit (s .head .started) (s .head .last) (openPasses (s .head))
     && (numbersRise (openPasses (s .head))
     && (leb (s .head .started) passLimit
     && (useFits (startsTree s)

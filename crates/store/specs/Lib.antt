@@ -5,3 +5,7 @@ pub mod Answers
 pub mod Writing
 pub mod Reading
 pub mod Calls
+-- The pass book: document 01, "Terms" and "The pass book"
+pub mod Passes
+pub mod Points
+pub mod Book

@@ -4,19 +4,18 @@ use mathlib.Core.List.{List, [], _∷_, _++_}
 use mathlib.Core.Bool.{Bool, true, false, cond, _||_, not}
 use lib.ListN.{length, take, drop, set}
 use lib.Dec.{leb, ltb, eqb}
-use Rattle.words.specs.Words.{keyLimit, openEnd, rootEntry}
-use Rattle.words.specs.Overwrite.{overwrite}
-use Rattle.words.specs.Value.{zero}
+use Rattle.words.specs.Words.{keyLimit, openEnd}
 use Rattle.tree.specs.Row.{pageWords}
-use Rattle.tree.specs.Fresh.{freshPage, newRow}
-use Rattle.tree.specs.TrueValue.{Search, none, one}
 use Rattle.tree.specs.declared.types.Plan.{Plan}
 use Rattle.tree.specs.declared.types.Plan.the-variants as planned
 use Rattle.tree.specs.declared.types.RootChange.the-variants.{Kept, Added, Replaced}
 use Rattle.tree.specs.Tree.{Tree, pagesLeft}
 use Rattle.tree.specs.RowSteps.{Point}
 use Rattle.tree.specs.Plan.{plan, enter}
+use Rattle.tree.specs.Grown.{openedTree}
 use Rattle.store.specs.declared.types.OpenPass.{OpenPass}
+use Rattle.store.specs.declared.types.FoundPass.{FoundPass}
+use Rattle.store.specs.declared.types.FoundPass.the-variants.{Missing, At}
 use Rattle.store.specs.declared.types.Head.{Head}
 use Rattle.store.specs.declared.types.Answer.the-variants.{Opened, Started, Ended}
 use Rattle.store.specs.Head.{Lent, Store, startsTree, endsTree, headFits, openPasses, noPass, openedHead, passLimit, openLimit, weightLimit}
@@ -30,17 +29,14 @@ tooSmall table roots = ltb (length table) pageWords || ltb (length roots) 1
 unfoldable pub openingRefusal : Lent → ℕ
 openingRefusal m = firstMet ((tooSmall (m .startTable) (m .startRoots) || tooSmall (m .endTable) (m .endRoots)) gives 8 ∷ [])
 
--- "Opening makes in each tree page 0, a leaf with one row of value zero over keys 0 to 30,000, born at 0, and the first root entry; it alters no other word."
-abbrev pub firstPage : List ℕ
-firstPage = freshPage 0 0 keyLimit 0 (newRow 0 0 keyLimit 0 zero ∷ [])
-
+-- "Opening makes in each tree page 0 .. and the first root entry; it alters no other word." (`openedTree`)
 abbrev pub openedLent : Lent → Lent
 openedLent m =
     record {
-      startTable = overwrite (m .startTable) 0 firstPage;
-      startRoots = overwrite (m .startRoots) 0 (rootEntry 0 0 ∷ []);
-      endTable = overwrite (m .endTable) 0 firstPage;
-      endRoots = overwrite (m .endRoots) 0 (rootEntry 0 0 ∷ []);
+      startTable = openedTree (m .startTable) (m .startRoots) .table;
+      startRoots = openedTree (m .startTable) (m .startRoots) .roots;
+      endTable = openedTree (m .endTable) (m .endRoots) .table;
+      endRoots = openedTree (m .endTable) (m .endRoots) .roots;
     }
 
 -- Opening sees no head. Refused, it leaves the head of the store as it was.
@@ -113,17 +109,12 @@ startPass s tick key weight =
       store = startedStore s (enter (startsTree s) (pointOf tick key weight)) tick key weight;
     })
 
--- An open pass and its place in the head's list
-pub record PlacedPass : Type 0 where
-  pub place : ℕ
-  pub pass : OpenPass
+-- The open pass of a number, among passes of which the first has a place
+unfoldable pub findPass : ℕ → ℕ → List OpenPass → FoundPass
+findPass number place [] = Missing
+findPass number place (p ∷ ps) = cond (eqb (p .number) number) (At place p) (findPass number (place + 1) ps)
 
-unfoldable pub findPass : ℕ → ℕ → List OpenPass → Search PlacedPass
-findPass number place [] = none
-findPass number place (p ∷ ps) = cond (eqb (p .number) number) (one (record { place = place; pass = p })) (findPass number (place + 1) ps)
-
--- The open pass of a number, counted from place 0
-abbrev pub passOf : Head → ℕ → Search PlacedPass
+abbrev pub passOf : Head → ℕ → FoundPass
 passOf h number = findPass number 0 (openPasses h)
 
 -- "Ending a pass closes up the list and zeroes the place set free."
@@ -131,19 +122,19 @@ abbrev pub closedUp : List OpenPass → ℕ → ℕ → List OpenPass
 closedUp passes place count = take place passes ++ (take (count - (place + 1)) (drop (place + 1) passes) ++ (noPass ∷ drop count passes))
 
 -- 22: "no open pass of that number"
-abbrev pub isNone : {A : Type 0} → Search A → Bool
-isNone none = true
-isNone (one x) = false
+abbrev pub isMissing : FoundPass → Bool
+isMissing Missing = true
+isMissing (At place p) = false
 
 -- 23: "end at the pass's own start tick"
-abbrev pub startsAt : ℕ → Search PlacedPass → Bool
-startsAt tick none = false
-startsAt tick (one x) = eqb tick (x .pass .start)
+abbrev pub startsAt : ℕ → FoundPass → Bool
+startsAt tick Missing = false
+startsAt tick (At place p) = eqb tick (p .start)
 
 -- The point that ending a pass enters into the tree of ends
-abbrev pub endPoint : ℕ → Search PlacedPass → Point
-endPoint tick none = pointOf tick 0 0
-endPoint tick (one x) = pointOf tick (x .pass .key) (x .pass .weight)
+abbrev pub endPoint : ℕ → FoundPass → Point
+endPoint tick Missing = pointOf tick 0 0
+endPoint tick (At place p) = pointOf tick (p .key) (p .weight)
 
 -- End: tick, pass number
 unfoldable pub endRefusal : Store → ℕ → ℕ → ℕ
@@ -152,13 +143,13 @@ endRefusal s tick number =
     (eqb tick openEnd gives 4
     ∷ (not (headFits s) gives 20
     ∷ (ltb tick (s .head .last) gives 21
-    ∷ (isNone (passOf (s .head) number) gives 22
+    ∷ (isMissing (passOf (s .head) number) gives 22
     ∷ (startsAt tick (passOf (s .head) number) gives 23
     ∷ entryGrounds (endsTree s) (plan (endsTree s) (endPoint tick (passOf (s .head) number))))))))
 
-abbrev pub endedPasses : Head → Search PlacedPass → List OpenPass
-endedPasses h none = h .passes
-endedPasses h (one x) = closedUp (h .passes) (x .place) (h .count)
+abbrev pub endedPasses : Head → FoundPass → List OpenPass
+endedPasses h Missing = h .passes
+endedPasses h (At place p) = closedUp (h .passes) place (h .count)
 
 abbrev pub endedHead : Head → Tree → ℕ → ℕ → Head
 endedHead h t tick number =

@@ -2,5 +2,6 @@
 mod types;
 
 pub use types::Answer;
+pub use types::FoundPass;
 pub use types::Head;
 pub use types::OpenPass;

@@ -9,6 +9,12 @@ pub struct OpenPass {
     pub start: u32,
 }
 
+// Where a search among the open passes ends: at the pass in a place of the head's list, or nowhere.
+pub enum FoundPass {
+    Missing,
+    At { place: usize, pass: OpenPass },
+}
+
 // The head: the last tick, the number of passes started, the open passes (the first `count` places), and what each tree uses.
 pub struct Head {
     pub last: u32,

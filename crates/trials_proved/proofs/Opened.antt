@@ -18,7 +18,8 @@ use Rattle.store.specs.declared.types.Answer.the-variants.{Refused, Opened, Sta
 use Rattle.store.specs.Head.{Lent, Store, headFits, useFits, openedHead, startsTree, endsTree}
 use Rattle.store.specs.Refusals.{firstMet}
 use Rattle.store.specs.Answers.{Answered, unlessRefused}
-use Rattle.store.specs.Writing.{firstPage, openedLent, openingRefusal, openStore}
+use Rattle.store.specs.Writing.{openedLent, openingRefusal, openStore}
+use Rattle.tree.specs.Grown.{firstPage}
 use Rattle.store.specs.Reading.{lookupRefusal, lookupIn, lookUpStarts, lookUpEnds}
 use Rattle.trials_proved.specs.Computing.{computing}
 

@@ -1,11 +1,10 @@
 -- "A pass is a point of the starts tree at its start and, once ended, a point of the ends tree at its end. These are the points a tree took."
 use Prim.Native.Nat.{ℕ}
 use mathlib.Core.List.{List, [], _∷_, _++_}
-use mathlib.Core.Bool.{Bool, _&&_}
-use lib.Dec.{leb}
 use Rattle.tree.specs.RowSteps.{Point}
+use Rattle.tree.specs.PointSums.{dominated}
 use Rattle.store.specs.Writing.{pointOf}
-use Rattle.book.specs.Passes.{End, stillOpen, endedAt, Pass, sumWhere}
+use Rattle.store.specs.Passes.{End, stillOpen, endedAt, Pass, sumWhere}
 
 abbrev pub startPoint : Pass → Point
 startPoint p = pointOf (p .start) (p .key) (p .weight)
@@ -22,10 +21,7 @@ unfoldable pub endPoints : List Pass → List Point
 endPoints [] = []
 endPoints (p ∷ ps) = endPointsOf p (p .end) ++ endPoints ps
 
--- "points with tick ≤ t and key ≤ k": what a lookup at (t, k) adds
-abbrev pub dominated : ℕ → ℕ → Point → Bool
-dominated t k p = leb (p .tick) t && leb (p .key) k
-
+-- What a lookup at (t, k) adds: the "points with tick ≤ t and key ≤ k"
 abbrev pub lookupCount : ℕ → ℕ → List Point → ℕ
 lookupCount t k points = sumWhere (λ (p : Point). p .value .count) (dominated t k) points
 

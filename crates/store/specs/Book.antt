@@ -5,13 +5,13 @@ use mathlib.Core.Bool.{Bool, true, false, cond, _||_, not}
 use lib.ListN.{length, getD}
 use lib.Dec.{leb, ltb, eqb}
 use Rattle.words.specs.Words.{keyLimit, openEnd}
 use Rattle.store.specs.Head.{passLimit, openLimit, weightLimit}
 use Rattle.store.specs.Refusals.{_gives_, firstMet}
 use Rattle.store.specs.Calls.{Call, opening, start, end, question, lookupStarts, lookupEnds}
 use Rattle.store.specs.declared.types.Answer.{Answer}
 use Rattle.store.specs.declared.types.Answer.the-variants as said
-use Rattle.book.specs.Passes.{End, stillOpen, endedAt, Pass, countWhere, questionCount, questionSum}
-use Rattle.book.specs.Points.{startPoints, endPoints, lookupCount, lookupSum}
+use Rattle.store.specs.Passes.{End, stillOpen, endedAt, Pass, countWhere, questionCount, questionSum}
+use Rattle.store.specs.Points.{startPoints, endPoints, lookupCount, lookupSum}
 
 pub record Book : Type 0 where
   pub last : ℕ

@@ -1,1 +1,0 @@
-// The pass book of document 01, as definitions alone: see specs/.
