@@ -1,11 +1,13 @@
 -- The head, what the firmware lends, and refusal 20.
-use Prim.Native.Nat.{ℕ}
+use Prim.Native.Nat.{ℕ, _/_}
 use mathlib.Core.List.{List, [], _∷_}
 use mathlib.Core.Bool.{Bool, true, _&&_}
 use lib.ListN.{length, take, replicate}
 use lib.Dec.{leb, ltb}
 use Rattle.words.specs.Words.{keyLimit}
-use Rattle.tree.specs.Tree.{Tree, wholePages, pageLimit}
+use Rattle.tree.specs.declared.types.TreeUse.{TreeUse}
+use Rattle.tree.specs.Row.{pageWords}
+use Rattle.tree.specs.Tree.{Tree, pageLimit}
 use Rattle.store.specs.declared.types.OpenPass.{OpenPass}
 use Rattle.store.specs.declared.types.Head.{Head}
 
@@ -64,14 +66,18 @@ numbersRise [] = true
 numbersRise (p ∷ ps) = risesTo (p .number) ps && numbersRise ps
 
 -- 20: "no pages or roots used, over 1,000,000 pages used, more pages than the table holds, more roots than pages used or than list words"
+-- Use, table words, list words
+abbrev pub useFitsIn : TreeUse → ℕ → ℕ → Bool
+useFitsIn used words list =
+    leb 1 (used .pages)
+    && (leb 1 (used .roots)
+    && (leb (used .pages) pageLimit
+    && (leb (used .pages) (words / pageWords)
+    && (leb (used .roots) (used .pages)
+    && leb (used .roots) list))))
+
 abbrev pub useFits : Tree → Bool
-useFits t =
-    leb 1 (t .used .pages)
-    && (leb 1 (t .used .roots)
-    && (leb (t .used .pages) pageLimit
-    && (leb (t .used .pages) (wholePages (t .table))
-    && (leb (t .used .roots) (t .used .pages)
-    && leb (t .used .roots) (length (t .roots))))))
+useFits t = useFitsIn (t .used) (length (t .table)) (length (t .roots))
 
 -- The head fits what is lent with it: no ground for 20
 unfoldable pub headFits : Store → Bool

@@ -9,6 +9,7 @@ use Rattle.tree.specs.Row.{pageWords}
 use Rattle.tree.specs.declared.types.Plan.{Plan}
 use Rattle.tree.specs.declared.types.Plan.the-variants as planned
 use Rattle.tree.specs.declared.types.RootChange.the-variants.{Kept, Added, Replaced}
+use Rattle.tree.specs.declared.types.TreeUse.{TreeUse}
 use Rattle.tree.specs.Tree.{Tree, pagesLeft}
 use Rattle.tree.specs.RowSteps.{Point}
 use Rattle.tree.specs.Plan.{plan, enter}
@@ -84,14 +85,14 @@ startRefusal s tick key weight =
     ∷ (leb passLimit (s .head .started) gives 25
     ∷ entryGrounds (startsTree s) (plan (startsTree s) (pointOf tick key weight)))))))))
 
-abbrev pub startedHead : Head → Tree → ℕ → ℕ → ℕ → Head
-startedHead h t tick key weight =
+abbrev pub startedHead : Head → TreeUse → ℕ → ℕ → ℕ → Head
+startedHead h used tick key weight =
     record {
       last = tick;
       started = h .started + 1;
       count = h .count + 1;
       passes = set (h .passes) (h .count) (record { number = h .started; key = key; weight = weight; start = tick });
-      starts = t .used;
+      starts = used;
       ends = h .ends;
     }
 
@@ -99,7 +100,7 @@ abbrev pub withStarts : Lent → Tree → Lent
 withStarts m t = record { startTable = t .table; startRoots = t .roots; endTable = m .endTable; endRoots = m .endRoots }
 
 abbrev pub startedStore : Store → Tree → ℕ → ℕ → ℕ → Store
-startedStore s t tick key weight = record { head = startedHead (s .head) t tick key weight; lent = withStarts (s .lent) t }
+startedStore s t tick key weight = record { head = startedHead (s .head) (t .used) tick key weight; lent = withStarts (s .lent) t }
 
 unfoldable pub startPass : Store → ℕ → ℕ → ℕ → Answered
 startPass s tick key weight =
@@ -151,24 +152,24 @@ abbrev pub endedPasses : Head → FoundPass → List OpenPass
 endedPasses h Missing = h .passes
 endedPasses h (At place p) = closedUp (h .passes) place (h .count)
 
-abbrev pub endedHead : Head → Tree → ℕ → ℕ → Head
-endedHead h t tick number =
+abbrev pub endedHead : Head → TreeUse → ℕ → FoundPass → Head
+endedHead h used tick found =
     record {
       last = tick;
       started = h .started;
       count = h .count - 1;
-      passes = endedPasses h (passOf h number);
+      passes = endedPasses h found;
       starts = h .starts;
-      ends = t .used;
+      ends = used;
     }
 
 abbrev pub withEnds : Lent → Tree → Lent
 withEnds m t = record { startTable = m .startTable; startRoots = m .startRoots; endTable = t .table; endRoots = t .roots }
 
-abbrev pub endedStore : Store → Tree → ℕ → ℕ → Store
-endedStore s t tick number = record { head = endedHead (s .head) t tick number; lent = withEnds (s .lent) t }
+abbrev pub endedStore : Store → Tree → ℕ → FoundPass → Store
+endedStore s t tick found = record { head = endedHead (s .head) (t .used) tick found; lent = withEnds (s .lent) t }
 
 unfoldable pub endPass : Store → ℕ → ℕ → Answered
 endPass s tick number =
     unlessRefused (endRefusal s tick number) s
-    (record { answer = Ended; store = endedStore s (enter (endsTree s) (endPoint tick (passOf (s .head) number))) tick number })
+    (record { answer = Ended; store = endedStore s (enter (endsTree s) (endPoint tick (passOf (s .head) number))) tick (passOf (s .head) number) })
