@@ -1,0 +1,4 @@
+-- Demand 3: a store from its opening on answers as the pass book does.
+pub mod SumLaws
+pub mod PointLaws
+pub mod QuestionSums
