@@ -2,3 +2,5 @@
 pub mod SumLaws
 pub mod PointLaws
 pub mod QuestionSums
+pub mod OpenPasses
+pub mod HeadLists
