@@ -4,3 +4,9 @@ pub mod PointLaws
 pub mod QuestionSums
 pub mod OpenPasses
 pub mod HeadLists
+pub mod RefusalLaws
+pub mod Agreement
+pub mod LookupTotals
+pub mod Turns
+pub mod LookupTurns
+pub mod QuestionTurns

@@ -6,7 +6,7 @@ use lib.ListN.{length, getD}
 use lib.Dec.{leb, ltb, eqb}
 use Rattle.words.specs.Words.{keyLimit, openEnd}
 use Rattle.store.specs.Head.{passLimit, openLimit, weightLimit}
-use Rattle.store.specs.Refusals.{_gives_, firstMet}
+use Rattle.store.specs.Refusals.{Ground, _gives_, firstMet}
 use Rattle.store.specs.Calls.{Call, opening, start, end, question, lookupStarts, lookupEnds}
 use Rattle.store.specs.declared.types.Answer.{Answer}
 use Rattle.store.specs.declared.types.Answer.the-variants as said
@@ -61,39 +61,40 @@ abbrev pub passNumbered : Book → ℕ → Pass
 passNumbered b number = getD (b .passes) number noPass
 
 -- "Any other call gets the first refusal of these papers, in their order, 20 and 26 to 28 left out, that its arguments and the book meet."
-abbrev pub startGrounds : Book → ℕ → ℕ → ℕ → ℕ
+abbrev pub startGrounds : Book → ℕ → ℕ → ℕ → List Ground
 startGrounds b tick key weight =
-    firstMet
-    (leb keyLimit key gives 1
+    leb keyLimit key gives 1
     ∷ ((eqb weight 0 || ltb weightLimit weight) gives 3
     ∷ (eqb tick openEnd gives 4
     ∷ (ltb tick (b .last) gives 21
     ∷ (leb openLimit (countWhere isOpen (b .passes)) gives 24
     ∷ (leb passLimit (length (b .passes)) gives 25
-    ∷ []))))))
+    ∷ [])))))
 
-abbrev pub endGrounds : Book → ℕ → ℕ → ℕ
+abbrev pub endGrounds : Book → ℕ → ℕ → List Ground
 endGrounds b tick number =
-    firstMet
-    (eqb tick openEnd gives 4
+    eqb tick openEnd gives 4
     ∷ (ltb tick (b .last) gives 21
     ∷ (not (isOpen (passNumbered b number)) gives 22
     ∷ (eqb tick (passNumbered b number .start) gives 23
-    ∷ []))))
+    ∷ [])))
 
-abbrev pub questionGrounds : ℕ → ℕ → ℕ → ℕ → ℕ
-questionGrounds k1 k2 t1 t2 = firstMet ((leb keyLimit k1 || ltb keyLimit k2) gives 1 ∷ (leb k2 k1 gives 2 ∷ (leb t2 t1 gives 5 ∷ [])))
+abbrev pub questionGrounds : ℕ → ℕ → ℕ → ℕ → List Ground
+questionGrounds k1 k2 t1 t2 = (leb keyLimit k1 || ltb keyLimit k2) gives 1 ∷ (leb k2 k1 gives 2 ∷ (leb t2 t1 gives 5 ∷ []))
 
-abbrev pub lookupGrounds : ℕ → ℕ → ℕ
-lookupGrounds t k = firstMet (leb keyLimit k gives 1 ∷ (eqb t openEnd gives 4 ∷ []))
+abbrev pub lookupGrounds : ℕ → ℕ → List Ground
+lookupGrounds t k = leb keyLimit k gives 1 ∷ (eqb t openEnd gives 4 ∷ [])
+
+abbrev pub grounds : Book → Call → List Ground
+grounds b opening = []
+grounds b (start tick key weight) = startGrounds b tick key weight
+grounds b (end tick number) = endGrounds b tick number
+grounds b (question k1 k2 t1 t2) = questionGrounds k1 k2 t1 t2
+grounds b (lookupStarts t k) = lookupGrounds t k
+grounds b (lookupEnds t k) = lookupGrounds t k
 
 unfoldable pub bookRefusal : Book → Call → ℕ
-bookRefusal b opening = 0
-bookRefusal b (start tick key weight) = startGrounds b tick key weight
-bookRefusal b (end tick number) = endGrounds b tick number
-bookRefusal b (question k1 k2 t1 t2) = questionGrounds k1 k2 t1 t2
-bookRefusal b (lookupStarts t k) = lookupGrounds t k
-bookRefusal b (lookupEnds t k) = lookupGrounds t k
+bookRefusal b c = firstMet (grounds b c)
 
 -- The passes with the one of a number ended
 unfoldable pub endPassAt : ℕ → ℕ → List Pass → List Pass
