@@ -10,3 +10,4 @@ pub mod LookupTotals
 pub mod Turns
 pub mod LookupTurns
 pub mod QuestionTurns
+pub mod TreesTook
