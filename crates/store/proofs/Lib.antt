@@ -11,3 +11,6 @@ pub mod Turns
 pub mod LookupTurns
 pub mod QuestionTurns
 pub mod TreesTook
+pub mod OpeningTurns
+pub mod StartTurns
+pub mod EndTurns

@@ -46,7 +46,7 @@ pub record Asked (k1 k2 t1 t2 : ℕ) : Type 0 where
   pub ticks : t1 < t2
   pub wide : t2 ≤ openEnd
 
-or-false : (a b : Bool) → a || b ≡ false → (a ≡ false) × (b ≡ false)
+pub or-false : (a b : Bool) → a || b ≡ false → (a ≡ false) × (b ≡ false)
 or-false true b e = (e, absurd-bool e)
   where
     absurd-bool : true ≡ false → b ≡ false
