@@ -34,7 +34,7 @@ use Rattle.store.proofs.OpenPasses.{openOf, openPass, FoundAt, find-end
 use Rattle.store.proofs.HeadLists.{closed-length, list-closed}
 use Rattle.store.proofs.RefusalLaws.{first-refuses, first-passes, none-met}
 use Rattle.store.proofs.Agreement.{TreeTook, Agrees, head-fits}
-use Rattle.store.proofs.Turns.{AlikeAt, TurnAlike, both-refuse, lacks-pages, lacks-root, both-do, alike-at}
+use Rattle.store.proofs.Turns.{endsAs, TurnAlike, both-refuse, lacks-pages, lacks-root, both-do, alike-at}
 use Rattle.store.proofs.TreesTook.{Timely, took-same, planned, took-more, HasRoom, EntryCase, entry-case}
 use Rattle.store.proofs.StartTurns.{tick-below}
 
@@ -182,11 +182,7 @@ unfolding endPass bookTurn bookRefusal
 end-alike s b tick number wide a = split (isOpen (passNumbered b number)) refl
   where
     done : Answered
-    done =
-        record {
-          answer = Ended;
-          store = endedStore s (enter (endsTree s) (endPoint tick (passOf (s .head) number))) tick (passOf (s .head) number);
-        }
+    done = endsAs s tick number
 
     does : BookTurn
     does = record { book = record { last = tick; passes = endPassAt number tick (b .passes) }; answer = book.ended }

@@ -14,3 +14,6 @@ pub mod TreesTook
 pub mod OpeningTurns
 pub mod StartTurns
 pub mod EndTurns
+pub mod Bounds
+pub mod Exactness
+pub mod PagesOpened
