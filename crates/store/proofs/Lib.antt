@@ -17,3 +17,5 @@ pub mod EndTurns
 pub mod Bounds
 pub mod Exactness
 pub mod PagesOpened
+pub mod ExactCalls
+pub mod Main
