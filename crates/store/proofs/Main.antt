@@ -10,8 +10,8 @@ use Rattle.store.specs.Answers.{refusalOf, Answered, unlessRefused}
 use Rattle.store.specs.Writing.{openingRefusal, openStore}
 use Rattle.store.specs.Calls.{Call, opening, start, end, question, lookupStarts, lookupEnds, Sent, perform, performAll}
 use Rattle.store.specs.Points.{startPoints, endPoints}
-use Rattle.store.specs.Book.{Book, BookAnswer, bookPart, emptyBook, bookRefusal, bookAnswers}
-use Rattle.store.specs.Demand.{splitsLack, listLacks, Exact, Opens, nextBook, Along, Demand3}
+use Rattle.store.specs.Book.{Book, BookAnswer, bookPart, emptyBook, bookAnswers}
+use Rattle.store.specs.Demand.{ExactCall, Opens, nextBook, Along, Demand3}
 use Rattle.store.proofs.Agreement.{Agrees}
 use Rattle.store.proofs.Turns.{TurnAlike, opensAs}
 use Rattle.store.proofs.OpeningTurns.{opened-agrees, opening-alike}
@@ -32,8 +32,7 @@ turn s b (question k1 k2 t1 t2) sent a = question-alike s b k1 k2 t1 t2 sent a
 turn s b (lookupStarts t k) sent a = lookup-starts-alike s b t k sent a
 turn s b (lookupEnds t k) sent a = lookup-ends-alike s b t k sent a
 
-exact : (s : Store) (b : Book) (c : Call) → Sent c → Agrees s b
-    → Exact (refusalOf (perform s c .answer)) (bookRefusal b c) (splitsLack s c) (listLacks s c)
+exact : (s : Store) (b : Book) (c : Call) → Sent c → Agrees s b → ExactCall s b c
 exact s b opening sent a = opening-exact s b a
 exact s b (start tick key weight) sent a = start-exact s b tick key weight sent a
 exact s b (end tick number) sent a = end-exact s b tick number sent a

@@ -1,11 +1,15 @@
 -- Demand 3: what is claimed of a whole list of calls, from a store just opened. `proofs/Main` proves it.
 use Prim.Native.Nat.{ℕ, _+_, _-_, _*_, _/_, _^_, _≤_, _<_}
 use mathlib.Core.Path.{_≡_}
-use mathlib.Core.Bool.{Bool, true, false, cond}
+use mathlib.Core.Bool.{cond}
 use mathlib.Core.List.{List, [], _∷_, map}
 use lib.ListN.{length}
 use lib.Dec.{eqb}
-use Rattle.tree.specs.Tree.{Tree, height}
+use Rattle.tree.specs.declared.types.Plan.{Plan}
+use Rattle.tree.specs.declared.types.Plan.the-variants.{Spoiled, Ready}
+use Rattle.tree.specs.declared.types.RootChange.{RootChange}
+use Rattle.tree.specs.declared.types.RootChange.the-variants.{Kept, Added}
+use Rattle.tree.specs.Tree.{Tree, height, pagesLeft}
 use Rattle.tree.specs.RowSteps.{Point}
 use Rattle.tree.specs.Path.{path}
 use Rattle.tree.specs.Plan.{plan}
@@ -14,38 +18,55 @@ use Rattle.store.specs.declared.types.Answer.{Answer}
 use Rattle.store.specs.declared.types.Answer.the-variants.{Refused, Opened, Started, Ended, Totals}
 use Rattle.store.specs.Head.{Store, startsTree, endsTree}
 use Rattle.store.specs.Answers.{refusalOf}
-use Rattle.store.specs.Writing.{pointOf, passOf, endPoint, lacksPages, lacksRoot}
+use Rattle.store.specs.Writing.{pointOf, passOf, endPoint}
 use Rattle.store.specs.Calls.{Call, opening, start, end, question, lookupStarts, lookupEnds, perform, performAll}
 use Rattle.store.specs.Points.{startPoints, endPoints}
 use Rattle.store.specs.Book.{Book, bookPart, fedBy, emptyBook, bookRefusal, bookTurn, bookAnswers}
 
--- "27 comes exactly if the splits make more pages than are left": of the point that the call enters, into its tree
-abbrev pub splitsLack : Store → Call → Bool
-splitsLack s opening = false
-splitsLack s (start tick key weight) = lacksPages (startsTree s) (plan (startsTree s) (pointOf tick key weight))
-splitsLack s (end tick number) = lacksPages (endsTree s) (plan (endsTree s) (endPoint tick (passOf (s .head) number)))
-splitsLack s (question k1 k2 t1 t2) = false
-splitsLack s (lookupStarts t k) = false
-splitsLack s (lookupEnds t k) = false
+-- The tree that a call enters a point into, and the plan of that entry. A call that enters none makes no page and no root.
+abbrev pub treeOf : Store → Call → Tree
+treeOf s opening = startsTree s
+treeOf s (start tick key weight) = startsTree s
+treeOf s (end tick number) = endsTree s
+treeOf s (question k1 k2 t1 t2) = startsTree s
+treeOf s (lookupStarts t k) = startsTree s
+treeOf s (lookupEnds t k) = endsTree s
+
+abbrev pub planOf : Store → Call → Plan
+planOf s opening = Ready 0 Kept
+planOf s (start tick key weight) = plan (startsTree s) (pointOf tick key weight)
+planOf s (end tick number) = plan (endsTree s) (endPoint tick (passOf (s .head) number))
+planOf s (question k1 k2 t1 t2) = Ready 0 Kept
+planOf s (lookupStarts t k) = Ready 0 Kept
+planOf s (lookupEnds t k) = Ready 0 Kept
+
+-- "Splits are steps 5 and 8; the pages they make are counted as if table and root list had room."
+abbrev pub pagesMade : Plan → ℕ
+pagesMade Spoiled = 0
+pagesMade (Ready made root) = made
 
 -- 28: "a new root entry finds the list full"
-abbrev pub listLacks : Store → Call → Bool
-listLacks s opening = false
-listLacks s (start tick key weight) = lacksRoot (startsTree s) (plan (startsTree s) (pointOf tick key weight))
-listLacks s (end tick number) = lacksRoot (endsTree s) (plan (endsTree s) (endPoint tick (passOf (s .head) number)))
-listLacks s (question k1 k2 t1 t2) = false
-listLacks s (lookupStarts t k) = false
-listLacks s (lookupEnds t k) = false
+abbrev pub newRoot : Plan → RootChange
+newRoot Spoiled = Kept
+newRoot (Ready made root) = root
 
--- The refusals that the book does not know: "27 comes as demand 3 says, 28 as above, 20 and 26 never".
--- r is the number of the store's refusal, q that of the book's; 0 is none
-pub record Exact (r q : ℕ) (pages list : Bool) : Type 0 where
+abbrev pub ListFull : Tree → Plan → Type 0
+ListFull tree p = (newRoot p ≡ Added) × (length (tree .roots) ≤ tree .used .roots)
+
+-- The refusals that the book does not know: "27 comes as demand 3 says, 28 as above, 20 and 26 never". "27 comes exactly if the splits make more
+-- pages than are left". r is the number of the store's refusal, q that of the book's; 0 is none
+pub record Exact (r q made left : ℕ) (full : Type 0) : Type 0 where
   pub never-20 : r ≡ 20 → ⊥
   pub never-26 : r ≡ 26 → ⊥
-  pub only-27 : r ≡ 27 → (q ≡ 0) × (pages ≡ true)
-  pub always-27 : q ≡ 0 → pages ≡ true → r ≡ 27
-  pub only-28 : r ≡ 28 → (q ≡ 0) × (pages ≡ false) × (list ≡ true)
-  pub always-28 : q ≡ 0 → pages ≡ false → list ≡ true → r ≡ 28
+  pub only-27 : r ≡ 27 → (q ≡ 0) × (left < made)
+  pub always-27 : q ≡ 0 → left < made → r ≡ 27
+  pub only-28 : r ≡ 28 → (q ≡ 0) × (made ≤ left) × full
+  pub always-28 : q ≡ 0 → made ≤ left → full → r ≡ 28
+
+-- Of a call: "Pages left are as in 27, each tree's splits against its own table"
+abbrev pub ExactCall : Store → Book → Call → Type 0
+ExactCall s b c =
+    Exact (refusalOf (perform s c .answer)) (bookRefusal b c) (pagesMade (planOf s c)) (pagesLeft (treeOf s c)) (ListFull (treeOf s c) (planOf s c))
 
 -- The paths that a call follows: "starts(t2 - 1, k2 - 1) - ends(t1, k2 - 1) - starts(t2 - 1, k1 - 1) + ends(t1, k1 - 1). With k1 = 0 the last two
 -- .. open no page."
@@ -103,7 +124,7 @@ Along s b (c ∷ cs) =
     record {
       starts : Bounded (startsTree s) (startPoints (b .passes));
       ends : Bounded (endsTree s) (endPoints (b .passes));
-      refusals : Exact (refusalOf (perform s c .answer)) (bookRefusal b c) (splitsLack s c) (listLacks s c);
+      refusals : ExactCall s b c;
       opens : Opens s c;
       next : Along (perform s c .store) (nextBook s b c) cs;
     }
