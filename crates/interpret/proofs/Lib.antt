@@ -1,0 +1,2 @@
+-- Laws of the commands' code.
+pub mod ByteLaws

@@ -1,0 +1,6 @@
+// One command of the stream, run on lent slices: operands from bytes, a call of the store, its answer to bytes.
+mod bytes;
+
+pub use bytes::number2;
+pub use bytes::number4;
+pub use bytes::put_number;
