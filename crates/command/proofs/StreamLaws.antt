@@ -6,20 +6,12 @@ use mathlib.Core.Path.{_≡_, refl, ap}
 use mathlib.Core.Bool.{cond}
 use mathlib.Core.List.{List, [], _∷_, _++_}
 use lib.ListN.{length, drop, length-drop}
-use lib.Dec.{ltb}
 use Rattle.store.specs.Head.{Store}
-use Rattle.store.specs.Calls.{perform}
-use Rattle.command.specs.Stream.{Kind, unknown, command, kindOf, cutShort, written, runCommand, runFor}
+use Rattle.command.specs.Stream.{kindOf, operandBytes, Ran, runOne, thenRest, runFor}
 
--- One command, where two ways to go on agree on every input that is no longer
-same-command : (f g : Store → List ℕ → List ℕ) (s : Store) (bytes : List ℕ)
-    → ((s′ : Store) (rest : List ℕ) → length rest ≤ length bytes → f s′ rest ≡ g s′ rest)
-    → (kind : Kind) → runCommand f s bytes kind ≡ runCommand g s bytes kind
-same-command f g s bytes h unknown = refl
-same-command f g s bytes h (command n call) =
-    let a = perform s (call bytes) in
-    let same : f (a .store) (drop n bytes) ≡ g (a .store) (drop n bytes) = h (a .store) (drop n bytes) (simp length-drop (omega arith)) in
-    ap (cond (ltb (length bytes) n) cutShort) (ap (_++_ (written (a .answer))) same)
+-- The rest of the input, where two ways to go on agree on it
+same-rest : (f g : Store → List ℕ → List ℕ) (rest : List ℕ) (r : Ran) → f (r .store) rest ≡ g (r .store) rest → thenRest f rest r ≡ thenRest g rest r
+same-rest f g rest r h = ap (λ (l : List ℕ). r .output ++ cond (r .on) l []) h
 
 pub any-bound : (m n : ℕ) (s : Store) (bytes : List ℕ) → length bytes ≤ m → length bytes ≤ n → runFor m s bytes ≡ runFor n s bytes
 unfolding runFor
@@ -30,4 +22,8 @@ any-bound (suc m) zero s [] p q = refl
 any-bound (suc m) zero s (b ∷ bytes) p q = absurd (omega arith)
 any-bound (suc m) (suc n) s [] p q = refl
 any-bound (suc m) (suc n) s (b ∷ bytes) p q =
-    same-command _ _ s bytes (λ s′ rest r. any-bound m n s′ rest (omega arith) (omega arith)) (kindOf b)
+    let r : Ran = runOne s b bytes in
+    let rest : List ℕ = drop (operandBytes (kindOf b)) bytes in
+    let less : length rest ≤ length bytes = simp length-drop (omega arith) in
+    same-rest (λ (s′ : Store) (l : List ℕ). runFor m s′ l) (λ (s′ : Store) (l : List ℕ). runFor n s′ l) rest r
+    (any-bound m n (r .store) rest (omega arith) (omega arith))
