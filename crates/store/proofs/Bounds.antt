@@ -48,12 +48,12 @@ module _ (tree : Tree) (last : ℕ) (points : List Point) (took : TreeTook tree 
   took-bounded =
       record {
         high = λ h.
-        omega (
-          arith,
-          subst (λ (x : Tree). 1 < height x → 2 * 20 ^ (height x - 1) ≤ differentKeys (took .entered) + 1) (sym (took .is))
-              (height-took (took .table) (took .roots) (took .entered) (took .admitted)) h,
-          keys-same,
-        );
+            omega (
+              arith,
+              subst (λ (x : Tree). 1 < height x → 2 * 20 ^ (height x - 1) ≤ differentKeys (took .entered) + 1) (sym (took .is))
+                  (height-took (took .table) (took .roots) (took .entered) (took .admitted)) h,
+              keys-same,
+            );
         wide =
             omega (
               arith,

@@ -56,9 +56,19 @@ unfolding startPass bookRefusal
 start-exact s b tick key weight wide a =
     exact-call s (startsAs s tick key weight) refl (startRefusal s tick key weight) (startGrounds b tick key weight)
     (entryGrounds (startsTree s) p)
-    (omega arith, (omega arith, (omega arith, (omega arith, (omega arith, (omega arith, tt))))))
-    (usual 1 (omega arith), (usual 3 (omega arith), (usual 4 (omega arith), (usual-state 21 (omega arith) (omega arith),
-    (usual-state 24 (omega arith) (omega arith), (usual-state 25 (omega arith) (omega arith), tt))))))
+    (omega arith, (omega arith, (omega arith, (omega arith, (omega arith, (omega arith, tt)))))) (
+      usual 1 (omega arith),
+      (
+        usual 3 (omega arith),
+        (
+          usual 4 (omega arith),
+          (
+            usual-state 21 (omega arith) (omega arith),
+            (usual-state 24 (omega arith) (omega arith), (usual-state 25 (omega arith) (omega arith), tt)),
+          ),
+        ),
+      ),
+    )
     (start-refusal s b tick key weight a) (pagesMade p) (pagesLeft (startsTree s)) (ListFull (startsTree s) p)
     (λ e.
     let able = startable b tick key weight wide e in

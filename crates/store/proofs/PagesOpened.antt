@@ -92,8 +92,11 @@ unfolding lookUpStarts
 lookup-starts-opens s b t k wide a =
     let h =
     lookup-says s b t k wide a (lookup (startsTree s) t k) (length (path (startsTree s) t k))
-    (λ i. (_, exact-lookup (startPoints (b .passes)) (starts-light (b .last) (b .passes) (a .kept))
-    (omega (arith, starts-length (b .passes), a .few)) (startsTree s) (b .last) (a .starts) t k (i .tick) (i .key)))
+    (λ i. (
+      _,
+      exact-lookup (startPoints (b .passes)) (starts-light (b .last) (b .passes) (a .kept))
+          (omega (arith, starts-length (b .passes), a .few)) (startsTree s) (b .last) (a .starts) t k (i .tick) (i .key),
+    ))
     (λ i. took-short (startsTree s) (b .last) (startPoints (b .passes)) (a .starts) t k (i .tick) (i .key)) in
     record { said = h .0; most = h .1 }
 
@@ -102,8 +105,11 @@ unfolding lookUpEnds
 lookup-ends-opens s b t k wide a =
     let h =
     lookup-says s b t k wide a (lookup (endsTree s) t k) (length (path (endsTree s) t k))
-    (λ i. (_, exact-lookup (endPoints (b .passes)) (ends-light (b .last) (b .passes) (a .kept))
-    (omega (arith, ends-length (b .passes), a .few)) (endsTree s) (b .last) (a .ends) t k (i .tick) (i .key)))
+    (λ i. (
+      _,
+      exact-lookup (endPoints (b .passes)) (ends-light (b .last) (b .passes) (a .kept))
+          (omega (arith, ends-length (b .passes), a .few)) (endsTree s) (b .last) (a .ends) t k (i .tick) (i .key),
+    ))
     (λ i. took-short (endsTree s) (b .last) (endPoints (b .passes)) (a .ends) t k (i .tick) (i .key)) in
     record { said = h .0; most = h .1 }
 
