@@ -40,9 +40,11 @@ loop-less c = search needs
 loop-again : tie.Need-loop-again Inv-loop μ-loop
 loop-again c =
     let a = c .before .before .before .before .before .before .args in
-    let l = c .before .before .before .before .loop in
-    (omega arith, λ i h. least-more (a .roots .now) (a .from) (l .at) (l .least) (c .lesser .result) (l .inv .1) (c .lesser .ensures .0)
-    (omega (arith, c .lesser .ensures .1, c .before .birth-of .ensures)) i h)
+    let l = c .before .before .before .before .loop in (
+      omega arith,
+      λ i h. least-more (a .roots .now) (a .from) (l .at) (l .least) (c .lesser .result) (l .inv .1) (c .lesser .ensures .0)
+          (omega (arith, c .lesser .ensures .1, c .before .birth-of .ensures)) i h,
+    )
 
 returns : tie.Need-returns Inv-loop μ-loop
 returns c = λ i h. c .before .loop .inv .1 i (omega (arith, h, c .loop-test .left))
