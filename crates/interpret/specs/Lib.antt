@@ -1,0 +1,2 @@
+-- One command of the stream, as the code runs it.
+pub mod Runs
