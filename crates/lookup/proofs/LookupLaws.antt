@@ -5,7 +5,7 @@ use native.Mathlib.Numerals.{sub-one}
 use native.Mathlib.Omega.{arith}
 use mathlib.Core.Path.{_≡_, refl, ap, sym, _∙_}
 use mathlib.Core.Bool.{Bool, true, false, cond}
-use mathlib.Core.List.{List}
+use mathlib.Core.List.{List, []}
 use lib.ListN.{drop}
 use lib.Seq.{getD-take, getD-drop}
 use lib.Dec.{ltb}
@@ -25,8 +25,8 @@ use Rattle.tree.specs.declared.types.Root.{Root}
 use Rattle.tree.specs.declared.types.Root.the-variants.{At, Missing}
 use Rattle.tree.specs.declared.types.Lookup.{Lookup}
 use Rattle.tree.specs.declared.types.Lookup.the-variants.{Spoiled, Found}
-use Rattle.tree.specs.Tree.{Tree, pageAt, levelOf, topLevel, rootInUse}
-use Rattle.tree.specs.Lookup.{plusPage, withBelow, lookupPage, lookupFrom, lookupRoot}
+use Rattle.tree.specs.Tree.{Tree, pageAt, levelOf, topLevel, rootAt, rootInUse}
+use Rattle.tree.specs.Lookup.{plusPage, withBelow, lookupPage, lookupFrom, lookupRoot, lookup}
 
 -- What a lookup answers that has a total and a number of pages opened already, and the rest before it
 abbrev pub onward : Value → ℕ → Lookup → Lookup
@@ -131,12 +131,19 @@ level-in-table table page =
     ∙ ap (word table) (omega arith)
 
 -- Nor does it from a root that is known
-pub root-roots : (table : List ℕ) (used : TreeUse) (a b : List ℕ) (t k : ℕ) (root : Root)
+root-roots : (table : List ℕ) (used : TreeUse) (a b : List ℕ) (t k : ℕ) (root : Root)
     → lookupRoot (record { table = table; roots = a; used = used }) t k root ≡ lookupRoot (record { table = table; roots = b; used = used }) t k root
 root-roots table used a b t k Missing = refl
 root-roots table used a b t k (At page) =
     ap (λ (found : Lookup). cond (rootInUse (record { table = table; roots = b; used = used }) page) found Spoiled)
     (from-roots table used a b t k (levelOf table page) 0 keyLimit page)
+
+-- The lookup from the root list is the one from the root that is found there
+pub root-found : (table roots : List ℕ) (used : TreeUse) (t k : ℕ) (root : Root) → root ≡ rootAt (record { table = table; roots = roots; used = used }) t
+    → lookupRoot (record { table = table; roots = []; used = used }) t k root ≡ lookup (record { table = table; roots = roots; used = used }) t k
+unfolding lookup
+root-found table roots used t k root e =
+    root-roots table used [] roots t k root ∙ ap (lookupRoot (record { table = table; roots = roots; used = used }) t k) e
 
 module _ (tree : Tree) (t k page : ℕ) where
   pub root-unused : tree .used .pages ≤ page → lookupRoot tree t k (At page) ≡ Spoiled
