@@ -15,16 +15,16 @@ earlier-both gs hs some = go (firstMet gs) refl
     go (suc n) e = first-refuses gs hs n e
 
 -- A first refusal that is met is the earlier one
-pub at-once : {n : ℕ} (m : ℕ) → (n ≡ 0 → ⊥) → n ≡ earlier n m
-at-once {n = zero} m h = absurd (h refl)
-at-once {n = suc n} m h = refl
+pub by-first : {r n : ℕ} (m : ℕ) → r ≡ n → (r ≡ 0 → ⊥) → r ≡ earlier n m
+by-first {n = zero} m e some = absurd (some e)
+by-first {n = suc n} m e some = e
 
 -- Else the second one is
-pub later-on : {n : ℕ} (m : ℕ) → n ≡ 0 → m ≡ earlier n m
-later-on {n = zero} m e = refl
-later-on {n = suc n} m e = absurd (omega arith)
+pub by-second : {r n x m : ℕ} → r ≡ n → r ≡ 0 → x ≡ m → x ≡ earlier n m
+by-second {n = zero} e none f = f
+by-second {n = suc n} e none f = absurd (omega arith)
 
 -- Where there is no refusal, there is none of either
-pub neither : {n m : ℕ} → earlier n m ≡ 0 → (n ≡ 0) × (m ≡ 0)
-neither {n = zero} e = (refl, e)
-neither {n = suc n} e = absurd (omega arith)
+pub neither : (n m : ℕ) → earlier n m ≡ 0 → (n ≡ 0) × (m ≡ 0)
+neither zero m e = (refl, e)
+neither (suc n) m e = absurd (omega arith)

@@ -4,10 +4,8 @@ use mathlib.Core.List.{List, [], _∷_}
 use mathlib.Core.Bool.{_||_, not}
 use lib.Dec.{leb, ltb, eqb}
 use Rattle.words.specs.Words.{keyLimit, openEnd}
-use Rattle.store.specs.declared.types.FoundPass.{FoundPass}
 use Rattle.store.specs.Head.{Store, headFits, openLimit, passLimit, weightLimit}
 use Rattle.store.specs.Refusals.{Ground, _gives_}
-use Rattle.store.specs.Writing.{isMissing, startsAt}
 
 -- The earlier of two refusals; 0 is none
 abbrev pub earlier : ℕ → ℕ → ℕ
@@ -37,7 +35,3 @@ headGrounds s = not (headFits s) gives 20 ∷ []
 -- Start, after the head: the head's last tick, open passes and passes started, and the tick
 abbrev pub startState : ℕ → ℕ → ℕ → ℕ → List Ground
 startState last count started tick = ltb tick last gives 21 ∷ (leb openLimit count gives 24 ∷ (leb passLimit started gives 25 ∷ []))
-
--- End, after the head: the head's last tick, the tick, and where the pass was found
-abbrev pub endState : ℕ → ℕ → FoundPass → List Ground
-endState last tick found = ltb tick last gives 21 ∷ (isMissing found gives 22 ∷ (startsAt tick found gives 23 ∷ []))

@@ -1,9 +1,8 @@
 // The grounds of a refusal, in number order: each function returns the number of the first ground that is met among its own, and 0 where
 // none is.
-use store::FoundPass;
 ghost use mathlib.Core.Path.{_≡_};
 ghost use Rattle.store.specs.Refusals.{firstMet};
-ghost use Rattle.calls.specs.Grounds.{startInput, endInput, questionInput, lookupInput, startState, endState};
+ghost use Rattle.calls.specs.Grounds.{startInput, endInput, questionInput, lookupInput, startState};
 
 // Of the input of a start.
 pub fn start_input(tick: u32, key: u32, weight: u32) -> u8
@@ -78,22 +77,6 @@ pub fn start_state(last: u32, count: u32, started: u32, tick: u32) -> u8
     }
     if 1000000 <= started {
         return 25;
-    }
-    0
-}
-
-// Of an end, in a head that fits: its last tick, and the pass of the number.
-pub fn end_state(last: u32, tick: u32, found: FoundPass) -> u8
-    ensures { λ r. ⌜ r ≡ firstMet (endState last tick found) ⌝ }
-{
-    if tick < last {
-        return 21;
-    }
-    let FoundPass::At { place: _, pass } = found else {
-        return 22;
-    };
-    if tick == pass.start {
-        return 23;
     }
     0
 }

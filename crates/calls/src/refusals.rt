@@ -1,7 +1,6 @@
 // The refusal lists of the calls: the number of the first ground that is met, and 0 where none is. What a later ground reads is only
 // looked at where no earlier one is met: a head is trusted after 20, and a plan is made last.
 use crate::grounds::end_input;
-use crate::grounds::end_state;
 use crate::grounds::start_input;
 use crate::grounds::start_state;
 use head::find_pass;
@@ -81,4 +80,63 @@ fn entry_refusal(table: &[u64], roots: &[u64], used: TreeUse, plan: Plan) -> u8
         RootChange::Added => list_refusal(roots.len(), used.roots),
         RootChange::Replaced => 0,
     }
+}
+
+// Of a start.
+pub fn start_refusal(
+    head: Head,
+    start_table: &[u64],
+    start_roots: &[u64],
+    end_table: &[u64],
+    end_roots: &[u64],
+    tick: u32,
+    key: u32,
+    weight: u32,
+) -> u8
+    ensures { λ r. ⌜ r ≡ startRefusal (storeOf head (now («start_table» .entry)) (now («start_roots» .entry)) (now («end_table» .entry)) (now («end_roots» .entry))) tick key weight ⌝ }
+{
+    let input = start_input(tick, key, weight);
+    let early = head_refusal(head, start_table, start_roots, end_table, end_roots, input);
+    if early != 0 {
+        return early;
+    }
+    let state = start_state(head.last, head.count, head.started, tick);
+    if state != 0 {
+        return state;
+    }
+    let used = head.starts;
+    let plan = plan::plan(start_table, start_roots, used, tick, key as u16);
+    entry_refusal(start_table, start_roots, used, plan)
+}
+
+// Of an end.
+pub fn end_refusal(
+    head: Head,
+    start_table: &[u64],
+    start_roots: &[u64],
+    end_table: &[u64],
+    end_roots: &[u64],
+    tick: u32,
+    number: u32,
+) -> u8
+    ensures { λ r. ⌜ r ≡ endRefusal (storeOf head (now («start_table» .entry)) (now («start_roots» .entry)) (now («end_table» .entry)) (now («end_roots» .entry))) tick number ⌝ }
+{
+    let input = end_input(tick);
+    let early = head_refusal(head, start_table, start_roots, end_table, end_roots, input);
+    if early != 0 {
+        return early;
+    }
+    if tick < head.last {
+        return 21;
+    }
+    let found = find_pass(head, number);
+    let FoundPass::At { place: _, pass } = found else {
+        return 22;
+    };
+    if tick == pass.start {
+        return 23;
+    }
+    let used = head.ends;
+    let plan = plan::plan(end_table, end_roots, used, tick, pass.key as u16);
+    entry_refusal(end_table, end_roots, used, plan)
 }

@@ -4,64 +4,47 @@ use Rattle.store.specs.Refusals.{firstMet}
 use borrow.Author.Needs.{needs}
 use Rattle.calls.proofs.refusals.entry_refusal.Statement.{statement}
 use Rattle.calls.proofs.refusals.entry_refusal.Tie as tie
-use Rattle.calls.proofs.refusals.entry_refusal.Reads as reads
-use Rattle.calls.proofs.refusals.entry_refusal.Lts as lts
-use Rattle.calls.proofs.refusals.list_refusal.Reads as list-refusal-reads
-use Rattle.calls.proofs.refusals.pages_left.Reads as pages-left-reads
 
--- src/refusals.rt:73:23
 enum-known-plan : tie.Need-enum-known-plan
 enum-known-plan c = search needs
 
--- src/refusals.rt:74:9
 enum-told : tie.Need-enum-told
 enum-told c = search needs
 
--- src/refusals.rt:74:9
 returns : tie.Need-returns
 unfolding firstMet
 returns c = search needs
 
--- src/refusals.rt:76:8
 pages-left-requires : tie.Need-pages-left-requires
 pages-left-requires c κs = search needs
 
--- src/refusals.rt:76:34
 cast-if1 : tie.Need-cast-if1
 cast-if1 c = search needs
 
--- src/refusals.rt:77:9
 returns-2 : tie.Need-returns-2
 unfolding firstMet
 returns-2 c = rw (c .before .before .before .plan .given .1, ← c .before .pages-left .ensures, lt-ltb _ _ (c .if1 .taken))
 
--- src/refusals.rt:80:29
 enum-told-2 : tie.Need-enum-told-2
 enum-told-2 c = search needs
 
--- src/refusals.rt:81:43
 enum-told-3 : tie.Need-enum-told-3
 enum-told-3 c = search needs
 
--- src/refusals.rt:81:30
 list-refusal-requires : tie.Need-list-refusal-requires
 list-refusal-requires c κs = search needs
 
--- src/refusals.rt:82:33
 enum-told-4 : tie.Need-enum-told-4
 enum-told-4 c = search needs
 
--- src/refusals.rt:68:1
 returns-3 : tie.Need-returns-3
 unfolding firstMet
 returns-3 c = rw (c .before .before .before .before .before .plan .given .1, ← c .before .before .before .pages-left .ensures, le-ltb _ _ (c .before .before .if1 .left), c .enum-told2 .given .1)
 
--- src/refusals.rt:68:1
 returns-4 : tie.Need-returns-4
 unfolding firstMet
 returns-4 c = rw (c .before .before .before .before .before .before .plan .given .1, ← c .before .before .before .before .pages-left .ensures, le-ltb _ _ (c .before .before .before .if1 .left), c .before .enum-told3 .given .1) (c .list-refusal .ensures)
 
--- src/refusals.rt:68:1
 returns-5 : tie.Need-returns-5
 unfolding firstMet
 returns-5 c = rw (c .before .before .before .before .before .plan .given .1, ← c .before .before .before .pages-left .ensures, le-ltb _ _ (c .before .before .if1 .left), c .enum-told4 .given .1)

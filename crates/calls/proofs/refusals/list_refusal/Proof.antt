@@ -3,15 +3,11 @@ use Rattle.store.specs.Refusals.{firstMet}
 use borrow.Author.Needs.{needs}
 use Rattle.calls.proofs.refusals.list_refusal.Statement.{statement}
 use Rattle.calls.proofs.refusals.list_refusal.Tie as tie
-use Rattle.calls.proofs.refusals.list_refusal.Reads as reads
-use Rattle.calls.proofs.refusals.list_refusal.Lts as lts
 
--- src/refusals.rt:62:9
 returns : tie.Need-returns
 unfolding firstMet
 returns c = search (needs, tests)
 
--- src/refusals.rt:58:1
 returns-2 : tie.Need-returns-2
 unfolding firstMet
 returns-2 c = search (needs, tests)
