@@ -6,3 +6,5 @@ pub mod FoundPasses
 pub mod RefusalParts
 pub mod StartParts
 pub mod EndParts
+pub mod Accepted
+pub mod WritingReplies

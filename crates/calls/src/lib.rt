@@ -2,5 +2,7 @@
 mod grounds;
 mod refusals;
 mod types;
+mod writing;
 
 pub use types::Reply;
+pub use writing::start;

@@ -170,11 +170,11 @@ module _ (s : Store) (b : Book) (a : Agrees s b) (tick number : ℕ) (able : End
         kept = ended-kept number tick (b .passes) started-before later-kept;
         starts =
             took-same (startsTree s) (b .last) tick (startPoints (b .passes)) (startPoints (endPassAt number tick (b .passes))) (able .later)
-                (λ f test. ap (sumWhere f test) (sym (start-points-same number tick (b .passes)))) (a .starts);
+            (λ f test. ap (sumWhere f test) (sym (start-points-same number tick (b .passes)))) (a .starts);
         ends =
             took-more (endsTree s) (b .last) (endPoints (b .passes)) (a .ends) point timely-end made root is (room .pages) (room .place)
-                (endPoints (endPassAt number tick (b .passes)))
-                (λ f test. sym (end-points-more f test number tick (b .passes) is-open));
+            (endPoints (endPassAt number tick (b .passes)))
+            (λ f test. sym (end-points-more f test number tick (b .passes) is-open));
       }
 
 pub end-alike : (s : Store) (b : Book) (tick number : ℕ) → tick ≤ openEnd → Agrees s b → TurnAlike s b (end tick number)

@@ -105,8 +105,8 @@ find-open zero tick place n (p ∷ ps) o = go (p .end) refl o
           at = 0;
           found =
               ap (findPass (n + 0) place) here
-                  ∙ ap (λ (b : Bool). cond b (At place (openPass n p)) (findPass (n + 0) (place + 1) (openOf (suc n) ps))) (eq-eqb n (n + 0) same)
-                  ∙ ap₂ (λ (x m : ℕ). At x (openPass m p)) (omega arith) same;
+              ∙ ap (λ (b : Bool). cond b (At place (openPass n p)) (findPass (n + 0) (place + 1) (openOf (suc n) ps))) (eq-eqb n (n + 0) same)
+              ∙ ap₂ (λ (x m : ℕ). At x (openPass m p)) (omega arith) same;
           inside = rw here (omega arith);
           closes = sym (ap (drop 1) here);
         }
@@ -125,11 +125,11 @@ find-open (suc d) tick place n (p ∷ ps) o = go (p .end) refl (λ place′. fin
           at = suc (ih .at);
           found =
               ap (findPass (n + suc d) place) (here ps)
-                  ∙ ap (λ (b : Bool). cond b (At place (openPass n p)) (findPass (n + suc d) (place + 1) (openOf (suc n) ps)))
-                  (ne-eqb n (n + suc d) (λ e. omega arith))
-                  ∙ ap (λ (m : ℕ). findPass m (place + 1) (openOf (suc n) ps)) number
-                  ∙ ih .found
-                  ∙ ap₂ (λ (x m : ℕ). At x (openPass m (getD ps d noPass))) (omega arith) (sym number);
+              ∙ ap (λ (b : Bool). cond b (At place (openPass n p)) (findPass (n + suc d) (place + 1) (openOf (suc n) ps)))
+              (ne-eqb n (n + suc d) (λ e. omega arith))
+              ∙ ap (λ (m : ℕ). findPass m (place + 1) (openOf (suc n) ps)) number
+              ∙ ih .found
+              ∙ ap₂ (λ (x m : ℕ). At x (openPass m (getD ps d noPass))) (omega arith) (sym number);
           inside = rw (here ps) (omega (arith, ih .inside));
           closes = here (endPassAt d tick ps) ∙ ap (_∷_ (openPass n p)) (ih .closes)
               ∙ sym (ap (λ (l : List OpenPass). take (suc (ih .at)) l ++ drop (suc (suc (ih .at))) l) (here ps));
@@ -142,9 +142,9 @@ find-open (suc d) tick place n (p ∷ ps) o = go (p .end) refl (λ place′. fin
           at = ih .at;
           found =
               ap (findPass (n + suc d) place) (here ps)
-                  ∙ ap (λ (m : ℕ). findPass m place (openOf (suc n) ps)) number
-                  ∙ ih .found
-                  ∙ ap (λ (m : ℕ). At (place + ih .at) (openPass m (getD ps d noPass))) (sym number);
+              ∙ ap (λ (m : ℕ). findPass m place (openOf (suc n) ps)) number
+              ∙ ih .found
+              ∙ ap (λ (m : ℕ). At (place + ih .at) (openPass m (getD ps d noPass))) (sym number);
           inside = rw (here ps) (ih .inside);
           closes = here (endPassAt d tick ps) ∙ ih .closes
               ∙ sym (ap (λ (l : List OpenPass). take (ih .at) l ++ drop (suc (ih .at)) l) (here ps));

@@ -136,20 +136,20 @@ module _ (s : Store) (b : Book) (a : Agrees s b) (tick key weight : ℕ) (able :
         most = omega (arith, count-same, able .place);
         kept =
             all-append (b .passes) pass old-kept
-                (record { key = able .key-fits; some = able .some; weight = able .weight-fits; start = omega arith; lived = tt });
+            (record { key = able .key-fits; some = able .some; weight = able .weight-fits; start = omega arith; lived = tt });
         starts =
             took-more (startsTree s) (b .last) (startPoints (b .passes)) (a .starts) point timely made root is (room .pages) (room .place)
-                (startPoints (b .passes ++ (pass ∷ [])))
-                (λ f test.
-                omega (
-                  arith,
-                  ap (sumWhere f test) (start-points-more (b .passes) pass),
-                  sum-where-append f test (startPoints (b .passes)) (point ∷ []),
-                  sum-where-one f test point,
-                ));
+            (startPoints (b .passes ++ (pass ∷ [])))
+            (λ f test.
+            omega (
+              arith,
+              ap (sumWhere f test) (start-points-more (b .passes) pass),
+              sum-where-append f test (startPoints (b .passes)) (point ∷ []),
+              sum-where-one f test point,
+            ));
         ends =
             took-same (endsTree s) (b .last) tick (endPoints (b .passes)) (endPoints (b .passes ++ (pass ∷ []))) (able .later)
-                (λ f test. sym (end-points-open f test (b .passes) pass refl)) (a .ends);
+            (λ f test. sym (end-points-open f test (b .passes) pass refl)) (a .ends);
       }
 
 pub start-alike : (s : Store) (b : Book) (tick key weight : ℕ) → tick ≤ openEnd → Agrees s b → TurnAlike s b (start tick key weight)
