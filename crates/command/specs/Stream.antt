@@ -1,7 +1,7 @@
 -- The command program, from its whole input to its whole output: document 01, "Commands".
 use Prim.Native.Nat.{ℕ, zero, suc, _*_}
 use mathlib.Core.List.{List, [], _∷_, _++_}
-use mathlib.Core.Bool.{cond}
+use mathlib.Core.Bool.{Bool, true, false, cond}
 use lib.ListN.{length, drop, replicate}
 use lib.Dec.{ltb, eqb}
 use Rattle.tree.specs.Row.{pageWords}
@@ -48,20 +48,41 @@ unknownCommand = 6 ∷ []
 abbrev pub cutShort : List ℕ
 cutShort = 7 ∷ []
 
--- A command's output, then that of the rest of the input
-abbrev pub thenRest : (Store → List ℕ → List ℕ) → List ℕ → Answered → List ℕ
-thenRest onward rest a = written (a .answer) ++ onward (a .store) rest
+-- What one command writes, what it leaves, and whether the run goes on
+pub record Ran : Type 0 where
+  pub output : List ℕ
+  pub store : Store
+  pub on : Bool
 
-abbrev pub runCommand : (Store → List ℕ → List ℕ) → Store → List ℕ → Kind → List ℕ
-runCommand onward s bytes unknown = unknownCommand
-runCommand onward s bytes (command n call) = cond (ltb (length bytes) n) cutShort (thenRest onward (drop n bytes) (perform s (call bytes)))
+abbrev pub stops : Store → List ℕ → Ran
+stops s output = record { output = output; store = s; on = false }
 
--- "Input that ends between commands ends the run, with nothing written." "After 6 or 7 nothing more is read."
+abbrev pub answers : Answered → Ran
+answers a = record { output = written (a .answer); store = a .store; on = true }
+
+-- The bytes that follow the command byte: the operands, and more. "7 command cut short"
+abbrev pub runKind : Store → List ℕ → Kind → Ran
+runKind s bytes unknown = stops s unknownCommand
+runKind s bytes (command n call) = cond (ltb (length bytes) n) (stops s cutShort) (answers (perform s (call bytes)))
+
+abbrev pub runOne : Store → ℕ → List ℕ → Ran
+runOne s byte bytes = runKind s bytes (kindOf byte)
+
+abbrev pub operandBytes : Kind → ℕ
+operandBytes unknown = 0
+operandBytes (command n call) = n
+
+-- The output of one command, then that of the rest of the input. "After 6 or 7 nothing more is read."
+abbrev pub thenRest : (Store → List ℕ → List ℕ) → List ℕ → Ran → List ℕ
+thenRest onward rest r = r .output ++ cond (r .on) (onward (r .store) rest) []
+
+-- "Input that ends between commands ends the run, with nothing written."
 -- The first number bounds the commands; an input has no more of them than bytes (StreamLaws).
 unfoldable pub runFor : ℕ → Store → List ℕ → List ℕ
 runFor zero s bytes = []
 runFor (suc n) s [] = []
-runFor (suc n) s (b ∷ bytes) = runCommand (λ (s′ : Store) (rest : List ℕ). runFor n s′ rest) s bytes (kindOf b)
+runFor (suc n) s (b ∷ bytes) =
+    thenRest (λ (s′ : Store) (rest : List ℕ). runFor n s′ rest) (drop (operandBytes (kindOf b)) bytes) (runOne s b bytes)
 
 -- "the program's own tables hold 12 pages a tree and 12 roots": all zero, and opened
 abbrev pub programPages : ℕ

@@ -1,5 +1,7 @@
 -- The root for a tick, read from the last entry down: what one entry decides, in the terms of a loop that counts the entries left.
-use Prim.Native.Nat.{ℕ, zero, suc, _≤_, _<_, _-_}
+use Prim.Native.Nat.{ℕ, zero, suc, _+_, _≤_, _<_, _-_}
+use native.Mathlib.Omega.{arith}
+use native.Mathlib.Decide.{ℕ-discrete}
 use native.Mathlib.Nat.{not-suc-le-zero}
 use native.Mathlib.Numerals.{sub-one}
 use mathlib.Core.Path.{_≡_, refl, ap, sym, _∙_}
@@ -58,3 +60,25 @@ module _ (ws : List ℕ) (t : ℕ) where
   root-miss {left = zero} more fits later = absurd (not-suc-le-zero more)
   root-miss {left = suc i} more fits later =
       ap (rootFor t) (take-suc ws i 0 fits) ∙ rw sub-one (root-last-miss t (take i ws) (getD ws i 0) (rw sub-one at later))
+
+  -- Entries at the end that are all born later say nothing
+  pub root-skip : (from n : ℕ) → from + n ≤ length ws → ((i : ℕ) → i < n → t < birthOf (getD ws (from + i) 0))
+      → rootFor t (take (from + n) ws) ≡ rootFor t (take from ws)
+  root-skip from zero fits later = let none : from + 0 ≡ from = omega arith in ap (λ (k : ℕ). rootFor t (take k ws)) none
+  root-skip from (suc n) fits later =
+      let last : from + suc n - 1 ≡ from + n = omega arith in
+      root-miss {left = from + suc n} (omega arith) fits (rw last (later n (omega arith)))
+      ∙ ap (λ (k : ℕ). rootFor t (take k ws)) last
+      ∙ root-skip from n (omega arith) (λ i h. later i (omega arith))
+
+-- One entry more, and a bound that is not above the one before nor above its birth
+pub least-more : (ws : List ℕ) (from at least next : ℕ) → ((i : ℕ) → i < at → least ≤ birthOf (getD ws (from + i) 0)) → next ≤ least
+    → next ≤ birthOf (getD ws (from + at) 0) → (i : ℕ) → i < at + 1 → next ≤ birthOf (getD ws (from + i) 0)
+least-more ws from at least next before a b i h = go (ℕ-discrete i at)
+  where
+    go : Dec (i ≡ at) → next ≤ birthOf (getD ws (from + i) 0)
+    go (yes e) = rw e b
+    go (no n) = omega (arith, before i (below n))
+      where
+        below : (i ≡ at → ⊥) → i < at
+        below f = omega (arith, f)

@@ -34,7 +34,7 @@ use Rattle.store.proofs.OpenPasses.{openOf, openPass, FoundAt, find-end
 use Rattle.store.proofs.HeadLists.{closed-length, list-closed}
 use Rattle.store.proofs.RefusalLaws.{first-refuses, first-passes, none-met}
 use Rattle.store.proofs.Agreement.{TreeTook, Agrees, head-fits}
-use Rattle.store.proofs.Turns.{AlikeAt, TurnAlike, both-refuse, lacks-pages, lacks-root, both-do, alike-at}
+use Rattle.store.proofs.Turns.{endsAs, TurnAlike, both-refuse, lacks-pages, lacks-root, both-do, alike-at}
 use Rattle.store.proofs.TreesTook.{Timely, took-same, planned, took-more, HasRoom, EntryCase, entry-case}
 use Rattle.store.proofs.StartTurns.{tick-below}
 
@@ -62,23 +62,23 @@ ended-kept zero tick (p ∷ passes) s h =
 ended-kept (suc number) tick (p ∷ passes) s h = (h .0, ended-kept number tick passes s (h .1))
 
 -- No open pass of that number: both refuse, with 4, 21 or 22
-not-open-refuses : (x y : Bool) → (n : ℕ) × (_≡_ {A = ℕ} (cond x 4 (cond y 21 22)) (suc n))
+pub not-open-refuses : (x y : Bool) → (n : ℕ) × (_≡_ {A = ℕ} (cond x 4 (cond y 21 22)) (suc n))
 not-open-refuses true y = (3, refl)
 not-open-refuses false true = (20, refl)
 not-open-refuses false false = (21, refl)
 
-missing-refusal : (s : Store) (b : Book) (tick number : ℕ) → Agrees s b → passOf (s .head) number ≡ Missing
+pub missing-refusal : (s : Store) (b : Book) (tick number : ℕ) → Agrees s b → passOf (s .head) number ≡ Missing
     → endRefusal s tick number ≡ cond (eqb tick openEnd) 4 (cond (ltb tick (b .last)) 21 22)
 unfolding endRefusal firstMet
 missing-refusal s b tick number a e = rw (head-fits s b a, a .last, e) refl
 
-missing-book : (b : Book) (tick number : ℕ) → isOpen (passNumbered b number) ≡ false
+pub missing-book : (b : Book) (tick number : ℕ) → isOpen (passNumbered b number) ≡ false
     → firstMet (endGrounds b tick number) ≡ cond (eqb tick openEnd) 4 (cond (ltb tick (b .last)) 21 22)
 unfolding firstMet
 missing-book b tick number e = rw e refl
 
 -- An open pass of that number
-found-refusal : (s : Store) (b : Book) (tick number place : ℕ) (p : OpenPass) → Agrees s b → passOf (s .head) number ≡ At place p
+pub found-refusal : (s : Store) (b : Book) (tick number place : ℕ) (p : OpenPass) → Agrees s b → passOf (s .head) number ≡ At place p
     → p .start ≡ passNumbered b number .start → isOpen (passNumbered b number) ≡ true
     → endRefusal s tick number ≡ firstMet (endGrounds b tick number ++ entryGrounds (endsTree s) (plan (endsTree s) (pointOf tick (p .key) (p .weight))))
 unfolding endRefusal firstMet
@@ -90,7 +90,7 @@ pub record Endable (b : Book) (tick number : ℕ) : Type 0 where
   pub later : b .last ≤ tick
   pub other : tick ≡ passNumbered b number .start → ⊥
 
-endable : (b : Book) (tick number : ℕ) → tick ≤ openEnd → firstMet (endGrounds b tick number) ≡ 0 → Endable b tick number
+pub endable : (b : Book) (tick number : ℕ) → tick ≤ openEnd → firstMet (endGrounds b tick number) ≡ 0 → Endable b tick number
 endable b tick number wide e =
     let none = none-met (endGrounds b tick number) (omega arith, (omega arith, (omega arith, (omega arith, tt)))) e in
     record {
@@ -182,11 +182,7 @@ unfolding endPass bookTurn bookRefusal
 end-alike s b tick number wide a = split (isOpen (passNumbered b number)) refl
   where
     done : Answered
-    done =
-        record {
-          answer = Ended;
-          store = endedStore s (enter (endsTree s) (endPoint tick (passOf (s .head) number))) tick (passOf (s .head) number);
-        }
+    done = endsAs s tick number
 
     does : BookTurn
     does = record { book = record { last = tick; passes = endPassAt number tick (b .passes) }; answer = book.ended }

@@ -14,3 +14,8 @@ pub mod TreesTook
 pub mod OpeningTurns
 pub mod StartTurns
 pub mod EndTurns
+pub mod Bounds
+pub mod Exactness
+pub mod PagesOpened
+pub mod ExactCalls
+pub mod Main

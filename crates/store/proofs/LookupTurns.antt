@@ -25,7 +25,7 @@ use Rattle.store.specs.Book.{Book, BookTurn, lookupGrounds, bookPart, bo
 use Rattle.store.proofs.RefusalLaws.{first-refuses, first-passes, none-met}
 use Rattle.store.proofs.Agreement.{Agrees, head-fits}
 use Rattle.store.proofs.LookupTotals.{starts-light, ends-light, starts-length, ends-length, exact-lookup}
-use Rattle.store.proofs.Turns.{AlikeAt, TurnAlike, both-refuse, both-do, alike-at}
+use Rattle.store.proofs.Turns.{looksAs, AlikeAt, TurnAlike, both-refuse, both-do, alike-at}
 
 -- A tick and a key that a lookup is not refused for
 pub record InBounds (t k : ℕ) : Type 0 where
@@ -54,7 +54,7 @@ none-spoiled = refl
 module _ (s : Store) (b : Book) (t k : ℕ) (wide : t ≤ openEnd) (a : Agrees s b) (points : List Point) (found : Lookup) (pages : ℕ)
     (exact : InBounds t k → found ≡ Found (record { count = lookupCount t k points; sum = lookupSum t k points }) pages) where
   abbrev done : Answered
-  done = record { answer = totals (valueOf found) (pagesOf found); store = s }
+  done = looksAs s found
 
   abbrev does : BookTurn
   does = record { book = b; answer = book.totals (lookupCount t k points) (lookupSum t k points) }

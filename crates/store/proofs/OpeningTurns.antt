@@ -23,7 +23,7 @@ use Rattle.store.specs.Book as book
 use Rattle.store.specs.Book.{Book, BookTurn, emptyBook, bookRefusal, bookTurn}
 use Rattle.store.proofs.OpenPasses.{openOf}
 use Rattle.store.proofs.Agreement.{TreeTook, Agrees, opens-anew}
-use Rattle.store.proofs.Turns.{AlikeAt, TurnAlike, both-do, alike-at}
+use Rattle.store.proofs.Turns.{opensAs, TurnAlike, both-do, alike-at}
 use Rattle.store.proofs.QuestionTurns.{or-false}
 
 -- Memory that opening takes
@@ -80,11 +80,8 @@ opened-agrees m e =
 pub opening-alike : (s : Store) (b : Book) → Agrees s b → TurnAlike s b opening
 unfolding openStore bookTurn bookRefusal firstMet
 opening-alike s b a =
-    alike-at s b done does {q = 0} {q′ = 0} (opens-anew s b a) refl
-    (both-do s b done does refl refl (opened-agrees (s .lent) (opens-anew s b a)))
+    alike-at s b (opensAs s) does {q = 0} {q′ = 0} (opens-anew s b a) refl
+    (both-do s b (opensAs s) does refl refl (opened-agrees (s .lent) (opens-anew s b a)))
   where
-    done : Answered
-    done = record { answer = Opened; store = record { head = openedHead; lent = openedLent (s .lent) } }
-
     does : BookTurn
     does = record { book = emptyBook; answer = book.opened }

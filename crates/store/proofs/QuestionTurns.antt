@@ -35,7 +35,7 @@ use Rattle.store.proofs.OpenPasses.{PassKept}
 use Rattle.store.proofs.RefusalLaws.{first-refuses, first-passes, none-met}
 use Rattle.store.proofs.Agreement.{Agrees, head-fits}
 use Rattle.store.proofs.LookupTotals.{Light, starts-light, ends-light, starts-length, ends-length, count-most, sum-most, exact-lookup}
-use Rattle.store.proofs.Turns.{AlikeAt, TurnAlike, both-refuse, both-do, alike-at}
+use Rattle.store.proofs.Turns.{asksAs, TurnAlike, both-refuse, both-do, alike-at}
 use Rattle.store.proofs.LookupTurns.{none-spoiled}
 
 -- A band and ticks that a question is not refused for
@@ -249,11 +249,8 @@ pub question-alike : (s : Store) (b : Book) (k1 k2 t1 t2 : ℕ) → t2 ≤ openE
 unfolding askQuestion bookTurn bookRefusal
 question-alike s b k1 k2 t1 t2 wide a = go (firstMet (questionGrounds k1 k2 t1 t2)) refl
   where
-    q : Four
-    q = fourLookups s k1 k2 t1 t2
-
     done : Answered
-    done = record { answer = totals (fourValue (fourLookups s k1 k2 t1 t2)) (fourPages (fourLookups s k1 k2 t1 t2)); store = s }
+    done = asksAs s k1 k2 t1 t2
 
     does : BookTurn
     does = record { book = b; answer = book.totals (questionCount k1 k2 t1 t2 (b .passes)) (questionSum k1 k2 t1 t2 (b .passes)) }

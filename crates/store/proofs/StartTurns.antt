@@ -34,7 +34,7 @@ use Rattle.store.proofs.OpenPasses.{openOf, openPass, open-count, open-
 use Rattle.store.proofs.HeadLists.{list-more}
 use Rattle.store.proofs.RefusalLaws.{first-refuses, first-passes, none-met}
 use Rattle.store.proofs.Agreement.{TreeTook, Agrees, head-fits}
-use Rattle.store.proofs.Turns.{AlikeAt, TurnAlike, both-refuse, lacks-pages, lacks-root, both-do, alike-at}
+use Rattle.store.proofs.Turns.{startsAs, TurnAlike, both-refuse, lacks-pages, lacks-root, both-do, alike-at}
 use Rattle.store.proofs.QuestionTurns.{or-false}
 use Rattle.store.proofs.TreesTook.{Timely, took-same, planned, took-more, HasRoom, EntryCase, entry-case}
 
@@ -157,11 +157,7 @@ unfolding startPass bookTurn bookRefusal
 start-alike s b tick key weight wide a = go (firstMet (startGrounds b tick key weight)) refl
   where
     done : Answered
-    done =
-        record {
-          answer = Started (s .head .started);
-          store = startedStore s (enter (startsTree s) (pointOf tick key weight)) tick key weight;
-        }
+    done = startsAs s tick key weight
 
     does : BookTurn
     does =

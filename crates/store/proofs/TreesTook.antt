@@ -81,7 +81,7 @@ pub record HasRoom (tree : Tree) (made : ℕ) (root : RootChange) : Type 0 where
 abbrev pub EntryCase : Tree → ℕ → ℕ → RootChange → Type 0
 EntryCase tree r made root = (r ≡ 27) ⊎ ((r ≡ 28) ⊎ ((r ≡ 0) × HasRoom tree made root))
 
-kept-not-added : Kept ≡ Added → ⊥
+pub kept-not-added : Kept ≡ Added → ⊥
 kept-not-added e = subst pick e tt
   where
     pick : RootChange → Type 0
@@ -89,7 +89,7 @@ kept-not-added e = subst pick e tt
     pick Added = ⊥
     pick Replaced = ⊥
 
-replaced-not-added : Replaced ≡ Added → ⊥
+pub replaced-not-added : Replaced ≡ Added → ⊥
 replaced-not-added e = subst pick e tt
   where
     pick : RootChange → Type 0

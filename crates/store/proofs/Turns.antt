@@ -1,12 +1,41 @@
 -- One call: what the store answers and what the book answers, by the number of the refusal that each of them meets.
 use Prim.Native.Nat.{ℕ, zero, suc}
 use mathlib.Core.Path.{_≡_, refl, ap, sym, subst, _∙_}
+use Rattle.tree.specs.declared.types.Lookup.{Lookup}
+use Rattle.tree.specs.Plan.{enter}
 use Rattle.store.specs.declared.types.Answer.{Answer}
-use Rattle.store.specs.Head.{Store}
+use Rattle.store.specs.declared.types.Answer.the-variants.{Opened, Started, Ended}
+use Rattle.store.specs.Head.{Store, startsTree, endsTree, openedHead}
+use Rattle.store.specs.Writing.{openedLent, pointOf, startedStore, passOf, endPoint, endedStore}
+use Rattle.store.specs.Reading.{valueOf, pagesOf, totals, fourLookups, fourValue, fourPages}
 use Rattle.store.specs.Answers.{refusalOf, Answered, unlessRefused}
 use Rattle.store.specs.Calls.{Call, perform}
 use Rattle.store.specs.Book.{Book, bookPart, Fed, fedBy, BookTurn, unlessFed, unlessMet, bookTurn}
 use Rattle.store.proofs.Agreement.{Agrees}
+
+-- What each call does where it is not refused
+abbrev pub opensAs : Store → Answered
+opensAs s = record { answer = Opened; store = record { head = openedHead; lent = openedLent (s .lent) } }
+
+abbrev pub startsAs : Store → ℕ → ℕ → ℕ → Answered
+startsAs s tick key weight =
+    record {
+      answer = Started (s .head .started);
+      store = startedStore s (enter (startsTree s) (pointOf tick key weight)) tick key weight;
+    }
+
+abbrev pub endsAs : Store → ℕ → ℕ → Answered
+endsAs s tick number =
+    record {
+      answer = Ended;
+      store = endedStore s (enter (endsTree s) (endPoint tick (passOf (s .head) number))) tick (passOf (s .head) number);
+    }
+
+abbrev pub asksAs : Store → ℕ → ℕ → ℕ → ℕ → Answered
+asksAs s k1 k2 t1 t2 = record { answer = totals (fourValue (fourLookups s k1 k2 t1 t2)) (fourPages (fourLookups s k1 k2 t1 t2)); store = s }
+
+abbrev pub looksAs : Store → Lookup → Answered
+looksAs s found = record { answer = totals (valueOf found) (pagesOf found); store = s }
 
 -- The answers are the same, and the store agrees with the book afterwards too
 pub record Alike (b : Book) (a : Answered) (turn : Fed → BookTurn) : Type 0 where

@@ -1,6 +1,7 @@
 -- The calls of a store as one list of kinds, and running them one after the other.
-use Prim.Native.Nat.{ℕ}
+use Prim.Native.Nat.{ℕ, _≤_}
 use mathlib.Core.List.{List, [], _∷_}
+use Rattle.words.specs.Words.{openEnd}
 use Rattle.store.specs.declared.types.Answer.{Answer}
 use Rattle.store.specs.Head.{Store}
 use Rattle.store.specs.Answers.{Answered}
@@ -15,6 +16,15 @@ pub data Call : Type 0 where
   question : ℕ → ℕ → ℕ → ℕ → Call
   lookupStarts : ℕ → ℕ → Call
   lookupEnds : ℕ → ℕ → Call
+
+-- "Tick: 10 ms, 0 to 4,294,967,294", and 4,294,967,295 beside: a tick that a call is handed is a number of 32 bits
+abbrev pub Sent : Call → Type 0
+Sent opening = Unit {0}
+Sent (start tick key weight) = tick ≤ openEnd
+Sent (end tick number) = tick ≤ openEnd
+Sent (question k1 k2 t1 t2) = t2 ≤ openEnd
+Sent (lookupStarts t k) = t ≤ openEnd
+Sent (lookupEnds t k) = t ≤ openEnd
 
 abbrev pub perform : Store → Call → Answered
 perform s opening = openStore s

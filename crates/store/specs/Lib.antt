@@ -9,3 +9,5 @@ pub mod Calls
 pub mod Passes
 pub mod Points
 pub mod Book
+-- What is claimed of whole lists of calls
+pub mod Demand

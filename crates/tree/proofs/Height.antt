@@ -22,7 +22,7 @@ use Rattle.tree.proofs.RootLaws.{root-now}
 use Rattle.tree.proofs.TreeViews.{pageOf}
 use Rattle.tree.proofs.Growth.{isKnown, Known, numbers, Kept}
 
-many-same : (f g : ℕ → Bool) (from n : ℕ) → ((k : ℕ) → from ≤ k → f k ≡ g k) → howMany f from n ≡ howMany g from n
+pub many-same : (f g : ℕ → Bool) (from n : ℕ) → ((k : ℕ) → from ≤ k → f k ≡ g k) → howMany f from n ≡ howMany g from n
 unfolding howMany
 many-same f g from zero h = refl
 many-same f g from (suc n) h =

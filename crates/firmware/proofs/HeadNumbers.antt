@@ -1,0 +1,86 @@
+-- Open passes as numbers: read one after the other, written one after the other, and back again.
+use Prim.Native.Nat.{ℕ, zero, suc, _+_, _*_, _≤_, _<_}
+use native.Mathlib.Omega.{arith}
+use mathlib.Core.Path.{_≡_, refl, ap, ap₂, sym, _∙_}
+use mathlib.Core.List.{List, [], _∷_, _++_, append-assoc, append-nil}
+use lib.ListN.{length, getD, set, take, length-append}
+use lib.Seq.{take-suc, take-suc-set, take-all, length-take-le, drop-cons}
+use Rattle.words.specs.Overwrite.{overwrite}
+use Rattle.words.proofs.OverwriteLaws.{overwrite-none, overwrite-sets, overwrite-more, overwrite-all}
+use Rattle.store.specs.declared.types.OpenPass.{OpenPass}
+use Rattle.firmware.specs.Heads.{passAt, passesFrom, passNumbersOf, numbersOf}
+
+-- Reading
+pub passes-length : (ns : List ℕ) (at n : ℕ) → length (passesFrom ns at n) ≡ n
+unfolding passesFrom
+passes-length ns at zero = refl
+passes-length ns at (suc n) = ap suc (passes-length ns (at + 4) n)
+
+passes-more : (ns : List ℕ) (at n : ℕ) → passesFrom ns at (suc n) ≡ passesFrom ns at n ++ (passAt ns (at + 4 * n) ∷ [])
+unfolding passesFrom
+passes-more ns at zero = ap (λ (i : ℕ). passAt ns i ∷ []) (omega arith)
+passes-more ns at (suc n) =
+    let same : at + 4 + 4 * n ≡ at + 4 * suc n = omega arith in
+    ap (_∷_ (passAt ns at)) (passes-more ns (at + 4) n ∙ ap (λ (i : ℕ). passesFrom ns (at + 4) n ++ (passAt ns i ∷ [])) same)
+
+pub read-more : (ns : List ℕ) (passes : List OpenPass) (place : ℕ) → place < length passes → take place passes ≡ passesFrom ns 0 place
+    → take (place + 1) (set passes place (passAt ns (4 * place))) ≡ passesFrom ns 0 (place + 1)
+read-more ns passes place h e =
+    let next : place + 1 ≡ suc place = omega arith in
+    let here : 4 * place ≡ 0 + 4 * place = omega arith in
+    ap (λ (n : ℕ). take n (set passes place (passAt ns (4 * place)))) next
+    ∙ take-suc-set passes place (passAt ns (4 * place)) h
+    ∙ ap₂ (λ (l : List OpenPass) (i : ℕ). l ++ (passAt ns i ∷ [])) e here
+    ∙ sym (passes-more ns 0 place)
+    ∙ ap (passesFrom ns 0) (sym next)
+
+-- Writing
+pub numbers-length : (passes : List OpenPass) → length (numbersOf passes) ≡ 4 * length passes
+unfolding numbersOf
+numbers-length [] = refl
+numbers-length (p ∷ passes) = omega (arith, numbers-length passes)
+
+numbers-append : (xs ys : List OpenPass) → numbersOf (xs ++ ys) ≡ numbersOf xs ++ numbersOf ys
+unfolding numbersOf
+numbers-append [] ys = refl
+numbers-append (x ∷ xs) ys = ap (_++_ (passNumbersOf x)) (numbers-append xs ys) ∙ sym (append-assoc (passNumbersOf x) (numbersOf xs) (numbersOf ys))
+
+-- Four numbers set in a row
+pub four-set : (l : List ℕ) (at a b c d : ℕ) → at + 4 ≤ length l
+    → set (set (set (set l at a) (at + 1) b) (at + 2) c) (at + 3) d ≡ overwrite l at (a ∷ (b ∷ (c ∷ (d ∷ []))))
+four-set l at a b c d h =
+    let one : at + 1 ≡ suc at = omega arith in
+    let two : at + 2 ≡ suc (suc at) = omega arith in
+    let three : at + 3 ≡ suc (suc (suc at)) = omega arith in
+    ap (λ (i : ℕ). set (set (set (set l at a) i b) (at + 2) c) (at + 3) d) one
+    ∙ ap₂ (λ (i j : ℕ). set (set (set (set l at a) (suc at) b) i c) j d) two three
+    ∙ overwrite-sets l at (a ∷ (b ∷ (c ∷ (d ∷ [])))) h
+
+module _ (out : List ℕ) (passes : List OpenPass) (long : length passes ≡ 64) (room : length out ≡ 256) where
+  abbrev upTo : ℕ → List ℕ
+  upTo place = numbersOf (take place passes)
+
+  up-to-length : (place : ℕ) → place ≤ 64 → length (upTo place) ≡ 4 * place
+  up-to-length place h = omega (arith, numbers-length (take place passes), length-take-le place passes (omega arith))
+
+  pub write-none : out ≡ overwrite out 0 (numbersOf (take 0 passes))
+  unfolding numbersOf
+  write-none = sym (overwrite-none out 0)
+
+  pub write-more : (d : OpenPass) (place : ℕ) → place < 64
+      → overwrite (overwrite out 0 (upTo place)) (4 * place) (passNumbersOf (getD passes place d)) ≡ overwrite out 0 (upTo (place + 1))
+  unfolding numbersOf
+  write-more d place h =
+      let p : OpenPass = getD passes place d in
+      let here : length (upTo place) ≡ 4 * place = up-to-length place (omega arith) in
+      let next : place + 1 ≡ suc place = omega arith in
+      overwrite-more out 0 (upTo place) (omega arith) (4 * place) (passNumbersOf p) (omega arith)
+      ∙ ap (overwrite out 0)
+      (ap (_++_ (upTo place)) (sym (append-nil (passNumbersOf p)))
+      ∙ sym (numbers-append (take place passes) (p ∷ []))
+      ∙ ap numbersOf (sym (take-suc passes place d (omega arith)) ∙ ap (λ (n : ℕ). take n passes) (sym next)))
+
+  pub write-all : (now : List ℕ) → now ≡ overwrite out 0 (upTo 64) → now ≡ numbersOf passes
+  write-all now e =
+      e ∙ ap (λ (l : List OpenPass). overwrite out 0 (numbersOf l)) (take-all 64 passes (omega arith))
+      ∙ overwrite-all out (numbersOf passes) (omega (arith, numbers-length passes))

@@ -1,0 +1,83 @@
+use Prim.Native.Nat.{ℕ, _+_, _-_, _*_, _≤_, _<_}
+use native.Mathlib.Omega.{arith}
+use mathlib.Core.Path.{_≡_, ap, sym, _∙_}
+use mathlib.Core.List.{List}
+use lib.ListN.{length, take}
+use Rattle.words.specs.Overwrite.{overwrite}
+use Rattle.tree.proofs.Lists.{length-mapped}
+use Rattle.firmware.specs.Heads.{numbersOf}
+use Rattle.firmware.proofs.HeadNumbers.{write-none, write-more, write-all}
+use borrow.Author.Needs.{needs}
+use Rattle.firmware.proofs.heads.write_passes.Statement.{statement}
+use Rattle.firmware.proofs.heads.write_passes.Tie as tie
+
+abbrev Inv-loop : tie.InvT-loop
+Inv-loop numbers₀ passes place₀ numbers place =
+    (place ≤ 64) × (length numbers ≡ 256) × (numbers ≡ overwrite numbers₀ 0 (numbersOf (take place passes)))
+
+abbrev μ-loop : tie.MeasureT-loop
+μ-loop numbers₀ passes place₀ numbers place = 64 - place
+
+loop-holds : tie.Need-loop-holds Inv-loop μ-loop
+loop-holds c =
+    let a = c .before .args in
+    let long : length (a .t2) ≡ 64 = search (needs, length-mapped) in
+    (search needs, search needs, write-none (a .numbers .now) (a .t2) long (c .before .pre))
+
+mul-pass : tie.Need-mul-pass Inv-loop μ-loop
+mul-pass c = search needs
+
+array-copy-out-pass : tie.Need-array-copy-out-pass Inv-loop μ-loop
+array-copy-out-pass c = search needs
+
+mul-write-pass : tie.Need-mul-write-pass Inv-loop μ-loop
+mul-write-pass c = search needs
+
+write-pass-requires : tie.Need-write-pass-requires Inv-loop μ-loop
+write-pass-requires c κs = search needs
+
+add-place : tie.Need-add-place Inv-loop μ-loop
+add-place c = search needs
+
+loop-less : tie.Need-loop-less Inv-loop μ-loop
+loop-less c = search needs
+
+loop-again : tie.Need-loop-again Inv-loop μ-loop
+loop-again c =
+    let a = c .before .before .before .before .before .before .before .before .args in
+    let l = c .before .before .before .before .before .before .loop in
+    let long : length (a .t2) ≡ 64 = search (needs, length-mapped) in (
+      search needs,
+      search needs,
+      rw (c .before .before .write-pass .ensures, l .inv .2)
+          (write-more (a .numbers .now) (a .t2) long (c .before .before .before .before .before .before .before .before .pre) _ (l .place) (omega arith)),
+    )
+
+same-length : tie.Need-same-length Inv-loop μ-loop
+same-length c = search needs
+
+returns : tie.Need-returns Inv-loop μ-loop
+returns c =
+    let a = c .before .before .before .args in
+    let l = c .before .loop in
+    let long : length (a .t2) ≡ 64 = search (needs, length-mapped) in
+    let done : l .place ≡ 64 = omega (arith, l .inv .0, c .loop-test .left) in
+    write-all (a .numbers .now) (a .t2) long (c .before .before .before .pre) (l .numbers)
+    (l .inv .2 ∙ ap (λ (n : ℕ). overwrite (a .numbers .now) 0 (numbersOf (take n (a .t2)))) done)
+
+pub write-passes-spec : {M : Type 1} → statement M
+write-passes-spec =
+    tie.close
+    (tie.spec
+    Inv-loop
+    μ-loop
+    loop-holds
+    mul-pass
+    array-copy-out-pass
+    mul-write-pass
+    write-pass-requires
+    add-place
+    loop-less
+    loop-again
+    same-length
+    returns)

@@ -1,0 +1,65 @@
+// The open passes of a head, from 256 lent numbers and back.
+use store::OpenPass;
+ghost use mathlib.Core.Path.{_≡_};
+ghost use Prim.Native.Nat.{_+_, _≤_};
+ghost use lib.ListN.{length};
+ghost use Rattle.words.specs.Overwrite.{overwrite};
+ghost use Rattle.store.specs.Head.{openLimit};
+ghost use Rattle.firmware.specs.Heads.{passNumbers, passAt, passesFrom, passNumbersOf, numbersOf};
+
+// The pass in the four numbers from a place on.
+fn read_pass(numbers: &[u32], at: usize) -> OpenPass
+    requires { ⌜ at + 4 ≤ length (now numbers) ⌝ }
+    ensures { λ r. ⌜ r ≡ passAt (now (numbers .entry)) at ⌝ }
+{
+    OpenPass {
+        number: numbers[at],
+        key: numbers[at + 1],
+        weight: numbers[at + 2],
+        start: numbers[at + 3],
+    }
+}
+
+// The passes that the numbers stand for.
+pub fn read_passes(numbers: &[u32]) -> [OpenPass; 64]
+    requires { ⌜ length (now numbers) ≡ passNumbers ⌝ }
+    ensures { λ r. ⌜ r ≡ passesFrom (now (numbers .entry)) 0 openLimit ⌝ }
+{
+    let none = OpenPass {
+        number: 0,
+        key: 0,
+        weight: 0,
+        start: 0,
+    };
+    let mut passes = [none; 64];
+    let mut place: usize = 0;
+    while place < 64 {
+        passes[place] = read_pass(numbers, 4 * place);
+        place += 1;
+    }
+    passes
+}
+
+// Writes a pass over the four numbers from a place on.
+fn write_pass(numbers: &mut [u32], at: usize, pass: OpenPass)
+    requires { ⌜ at + 4 ≤ length (now numbers) ⌝ }
+    ensures { λ _. ⌜ now (numbers .exit) ≡ overwrite (now (numbers .entry)) at (passNumbersOf pass) ⌝ }
+{
+    numbers[at] = pass.number;
+    numbers[at + 1] = pass.key;
+    numbers[at + 2] = pass.weight;
+    numbers[at + 3] = pass.start;
+}
+
+// Writes passes over the numbers.
+pub fn write_passes(numbers: &mut [u32], passes: [OpenPass; 64])
+    requires { ⌜ length (now numbers) ≡ passNumbers ⌝ }
+    ensures { λ _. ⌜ now (numbers .exit) ≡ numbersOf passes ⌝ }
+{
+    let mut place: usize = 0;
+    while place < 64 {
+        let pass = passes[place];
+        write_pass(numbers, 4 * place, pass);
+        place += 1;
+    }
+}

@@ -1,0 +1,3 @@
+-- Laws of the commands' code.
+pub mod ByteLaws
+pub mod AnswerLaws

@@ -1,0 +1,52 @@
+use Prim.Native.Nat.{ℕ, _+_, _-_, _≤_, _<_}
+use native.Mathlib.Omega.{arith}
+use mathlib.Core.Path.{_≡_, ap, sym, _∙_}
+use lib.ListN.{length, take}
+use Rattle.tree.specs.Tree.{rootFor}
+use Rattle.lookup.proofs.RootSearch.{root-skip}
+use borrow.Author.Needs.{needs}
+use Rattle.lookup.proofs.roots.skip_later.Statement.{statement}
+use Rattle.lookup.proofs.roots.skip_later.Tie as tie
+
+abbrev Inv-loop : tie.InvT-loop
+Inv-loop roots used t left₀ left = (left ≤ length roots) × (rootFor t (take left roots) ≡ rootFor t (take used roots))
+
+abbrev μ-loop : tie.MeasureT-loop
+μ-loop roots used t left₀ left = left
+
+loop-holds : tie.Need-loop-holds Inv-loop μ-loop
+loop-holds c = search needs
+
+least-birth-requires : tie.Need-least-birth-requires Inv-loop μ-loop
+least-birth-requires c κs = search needs
+
+returns : tie.Need-returns Inv-loop μ-loop
+returns c = search needs
+
+loop-less : tie.Need-loop-less Inv-loop μ-loop
+loop-less c = search needs
+
+loop-again : tie.Need-loop-again Inv-loop μ-loop
+loop-again c =
+    let a = c .before .before .before .before .before .args in
+    let l = c .before .before .before .loop in
+    let whole : l .left - 32 + 32 ≡ l .left = omega arith in
+    let later = root-skip (a .roots .now) (a .t) (l .left - 32) 32 (omega (arith, l .inv .0))
+    (λ i h. omega (arith, c .before .least-birth .ensures i h, c .if1 .left)) in
+    (omega (arith, l .inv .0), sym later ∙ ap (λ (k : ℕ). rootFor (a .t) (take k (a .roots .now))) whole ∙ l .inv .1)
+
+returns-2 : tie.Need-returns-2 Inv-loop μ-loop
+returns-2 c = search needs
+
+pub skip-later-spec : {M : Type 1} → statement M
+skip-later-spec =
+    tie.close
+    (tie.spec
+    Inv-loop
+    μ-loop
+    loop-holds
+    least-birth-requires
+    returns
+    loop-less
+    loop-again
+    returns-2)
