@@ -22,7 +22,7 @@ use Rattle.store.specs.Refusals.{firstMet}
 use Rattle.store.specs.Writing.{pointOf, passOf, entryGrounds, startRefusal, endRefusal}
 use Rattle.store.proofs.TreesTook.{HasRoom, EntryCase, entry-case}
 use Rattle.store.proofs.RefusalLaws.{none-met}
-use Rattle.calls.specs.Grounds.{headGrounds, startInput, endInput}
+use Rattle.calls.specs.Grounds.{earlier, headGrounds, startInput, endInput}
 use Rattle.calls.proofs.Earlier.{neither}
 use Rattle.calls.proofs.HeadFacts.{UseFacts, HeadFacts, fits-head}
 use Rattle.calls.proofs.InputFacts.{PointFacts, start-input-facts, end-input-facts, StateFacts, start-state-facts}
@@ -82,35 +82,35 @@ missing-refused s tick e =
     let none = none-met (endHead s tick Missing) (omega arith, (omega arith, (omega arith, tt))) e in
     false≢true (sym (none .1 .0))
 
--- An end finds its pass
-pub record EndAccepted (s : Store) (tick number : ℕ) : Type 0 where
-  pub at : ℕ
-  pub pass : OpenPass
-  pub found : passOf (s .head) number ≡ At at pass
-  pub inside : at < s .head .count
+-- An end of the pass that is found
+pub record EndAccepted (s : Store) (tick place : ℕ) (pass : OpenPass) : Type 0 where
+  pub inside : place < s .head .count
   pub most : s .head .count ≤ openLimit
   pub key-fits : pass .key < keyLimit
   pub planned : Planned (endsTree s) (pointOf tick (pass .key) (pass .weight))
 
-pub end-accepted : (s : Store) (tick number : ℕ) → endRefusal s tick number ≡ 0 → EndAccepted s tick number
-end-accepted s tick number e =
-    let both = neither (endEarly s tick) _ (sym (end-parts s tick number) ∙ e) in
-    let early = neither (firstMet (endInput tick)) (firstMet (headGrounds s)) (both .0) in
-    let head = fits-head s (early .1) in
-    let rest = neither (firstMet (endHead s tick (passOf (s .head) number))) (firstMet (endEntry s tick (passOf (s .head) number))) (both .1) in
-    go (passOf (s .head) number) refl head (rest .0) (rest .1)
-  where
-    go : (f : FoundPass) → passOf (s .head) number ≡ f → HeadFacts s → firstMet (endHead s tick f) ≡ 0 → firstMet (endEntry s tick f) ≡ 0
-        → EndAccepted s tick number
-    go Missing is head state entry = absurd (missing-refused s tick state)
-    go (At place pass) is head state entry =
-        let facts = found-facts (s .head) number (head .passes) is in
-        record {
-          at = place;
-          pass = pass;
-          found = is;
-          inside = facts .inside;
-          most = head .count;
-          key-fits = facts .key;
-          planned = entry-planned (endsTree s) (pointOf tick (pass .key) (pass .weight)) (head .ends) entry;
-        }
+module _ (s : Store) (tick number : ℕ) (none : endRefusal s tick number ≡ 0) where
+  parts : (endEarly s tick ≡ 0)
+      × (earlier (firstMet (endHead s tick (passOf (s .head) number))) (firstMet (endEntry s tick (passOf (s .head) number))) ≡ 0)
+  parts = neither (endEarly s tick) _ (sym (end-parts s tick number) ∙ none)
+
+  pub end-head-fits : HeadFacts s
+  end-head-fits = fits-head s (neither (firstMet (endInput tick)) (firstMet (headGrounds s)) (parts .0) .1)
+
+  rest : (found : FoundPass) → passOf (s .head) number ≡ found → (firstMet (endHead s tick found) ≡ 0) × (firstMet (endEntry s tick found) ≡ 0)
+  rest found is =
+      neither (firstMet (endHead s tick found)) (firstMet (endEntry s tick found))
+      (ap (λ (f : FoundPass). earlier (firstMet (endHead s tick f)) (firstMet (endEntry s tick f))) (sym is) ∙ parts .1)
+
+  pub end-not-missing : passOf (s .head) number ≡ Missing → ⊥
+  end-not-missing is = missing-refused s tick (rest Missing is .0)
+
+  pub end-accepted : (place : ℕ) (pass : OpenPass) → passOf (s .head) number ≡ At place pass → EndAccepted s tick place pass
+  end-accepted place pass is =
+      let facts = found-facts (s .head) number (end-head-fits .passes) is in
+      record {
+        inside = facts .inside;
+        most = end-head-fits .count;
+        key-fits = facts .key;
+        planned = entry-planned (endsTree s) (pointOf tick (pass .key) (pass .weight)) (end-head-fits .ends) (rest (At place pass) is .1);
+      }

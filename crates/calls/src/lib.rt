@@ -5,4 +5,5 @@ mod types;
 mod writing;
 
 pub use types::Reply;
+pub use writing::end;
 pub use writing::start;

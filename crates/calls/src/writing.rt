@@ -56,3 +56,49 @@ pub fn start(
         head: started_head(head, used, tick, key, weight),
     }
 }
+
+// A pass ends.
+pub fn end(
+    head: Head,
+    start_table: &[u64],
+    start_roots: &[u64],
+    end_table: &mut [u64],
+    end_roots: &mut [u64],
+    tick: u32,
+    number: u32,
+) -> Reply
+    ensures { λ r. ⌜ RepliedAs (endPass (storeOf head (now («start_table» .entry)) (now («start_roots» .entry)) (now («end_table» .entry)) (now («end_roots» .entry))) tick number) r (now («start_table» .entry)) (now («start_roots» .entry)) (now («end_table» .exit)) (now («end_roots» .exit)) ⌝ }
+{
+    let refusal = end_refusal(
+        head,
+        start_table,
+        start_roots,
+        end_table,
+        end_roots,
+        tick,
+        number,
+    );
+    if refusal != 0 {
+        return Reply {
+            answer: Answer::Refused(refusal),
+            head,
+        };
+    }
+    let found = find_pass(head, number);
+    let FoundPass::At { place, pass } = found else {
+        return Reply {
+            answer: Answer::Refused(22),
+            head,
+        };
+    };
+    let value = Value {
+        count: 1,
+        sum: pass.weight as u64,
+    };
+    let ends = head.ends;
+    let used = enter::enter(end_table, end_roots, ends, tick, pass.key as u16, value);
+    Reply {
+        answer: Answer::Ended,
+        head: ended_head(head, used, tick, place),
+    }
+}
