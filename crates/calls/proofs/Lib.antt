@@ -4,5 +4,6 @@ pub mod HeadFacts
 pub mod InputFacts
 pub mod FoundPasses
 pub mod RefusalParts
+pub mod OpeningParts
 pub mod StartParts
 pub mod EndParts
