@@ -1,4 +1,5 @@
 -- Laws of the calls.
+-- Refusals, in the parts that the code tests
 pub mod Earlier
 pub mod HeadFacts
 pub mod InputFacts
@@ -7,3 +8,9 @@ pub mod RefusalParts
 pub mod OpeningParts
 pub mod StartParts
 pub mod EndParts
+-- Answers
+pub mod Outcomes
+pub mod LookupAnswers
+pub mod Differences
+pub mod BandLaws
+pub mod QuestionAnswers

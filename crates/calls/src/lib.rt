@@ -1,6 +1,10 @@
 // The calls of the store: opening, start, end, question and the lookup of each tree. None of them asks anything of what it is handed.
 mod grounds;
+mod reading;
 mod refusals;
 mod types;
 
+pub use reading::lookup_ends;
+pub use reading::lookup_starts;
+pub use reading::question;
 pub use types::Reply;
