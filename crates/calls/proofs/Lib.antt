@@ -10,7 +10,9 @@ pub mod StartParts
 pub mod EndParts
 -- Answers
 pub mod Outcomes
+pub mod RepliesAs
 pub mod LookupAnswers
 pub mod Differences
 pub mod BandLaws
 pub mod QuestionAnswers
+pub mod OpeningReplies

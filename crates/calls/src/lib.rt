@@ -1,9 +1,11 @@
 // The calls of the store: opening, start, end, question and the lookup of each tree. None of them asks anything of what it is handed.
 mod grounds;
+mod opening;
 mod reading;
 mod refusals;
 mod types;
 
+pub use opening::open;
 pub use reading::lookup_ends;
 pub use reading::lookup_starts;
 pub use reading::question;
