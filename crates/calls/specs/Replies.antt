@@ -3,14 +3,18 @@ use Prim.Native.Nat.{ℕ}
 use mathlib.Core.Path.{_≡_}
 use mathlib.Core.List.{List}
 use Rattle.store.specs.declared.types.Head.{Head}
-use Rattle.store.specs.Head.{Store}
+use Rattle.store.specs.Head.{Lent, Store}
 use Rattle.store.specs.Answers.{Answered}
 use Rattle.calls.specs.declared.types.Reply.{Reply}
 
--- A head and the lent slices: page table and root list of the starts, then of the ends
+-- The lent slices: page table and root list of the starts, then of the ends
+abbrev pub lentOf : List ℕ → List ℕ → List ℕ → List ℕ → Lent
+lentOf startTable startRoots endTable endRoots =
+    record { startTable = startTable; startRoots = startRoots; endTable = endTable; endRoots = endRoots }
+
+-- With a head
 abbrev pub storeOf : Head → List ℕ → List ℕ → List ℕ → List ℕ → Store
-storeOf head startTable startRoots endTable endRoots =
-    record { head = head; lent = record { startTable = startTable; startRoots = startRoots; endTable = endTable; endRoots = endRoots } }
+storeOf head startTable startRoots endTable endRoots = record { head = head; lent = lentOf startTable startRoots endTable endRoots }
 
 -- The answer, the head and every lent word afterwards are those that a definition says
 pub record RepliedAs (a : Answered) (r : Reply) (startTable startRoots endTable endRoots : List ℕ) : Type 0 where

@@ -16,9 +16,37 @@ ghost use lib.Dec.{leb};
 ghost use Prim.Native.Nat.{_≤_};
 ghost use Rattle.tree.specs.Tree.{wholePages, pagesLeft, pageLimit};
 ghost use Rattle.store.specs.Refusals.{_gives_, firstMet};
-ghost use Rattle.store.specs.Writing.{entryGrounds, openingRefusal, startRefusal, endRefusal};
-ghost use Rattle.calls.specs.Replies.{storeOf};
+ghost use Rattle.store.specs.Writing.{entryGrounds, tooSmall, openingRefusal, startRefusal, endRefusal};
+ghost use Rattle.calls.specs.Replies.{lentOf, storeOf};
 ghost use Rattle.calls.specs.Grounds.{earlier, headGrounds};
+
+// Whether a table has no room for a page, or a list none for a root.
+fn too_small(table: &[u64], roots: &[u64]) -> bool
+    ensures { λ r. ⌜ r ≡ tooSmall (now (table .entry)) (now (roots .entry)) ⌝ }
+{
+    if table.len() < 260 {
+        return true;
+    }
+    roots.len() < 1
+}
+
+// Of an opening.
+pub fn opening_refusal(
+    start_table: &[u64],
+    start_roots: &[u64],
+    end_table: &[u64],
+    end_roots: &[u64],
+) -> u8
+    ensures { λ r. ⌜ r ≡ openingRefusal (lentOf (now («start_table» .entry)) (now («start_roots» .entry)) (now («end_table» .entry)) (now («end_roots» .entry))) ⌝ }
+{
+    if too_small(start_table, start_roots) {
+        return 8;
+    }
+    if too_small(end_table, end_roots) {
+        return 8;
+    }
+    0
+}
 
 // 20, after the refusal that the input calls for, if any.
 pub fn head_refusal(
