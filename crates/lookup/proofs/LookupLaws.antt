@@ -5,7 +5,7 @@ use native.Mathlib.Numerals.{sub-one}
 use native.Mathlib.Omega.{arith}
 use mathlib.Core.Path.{_≡_, refl, ap, sym, _∙_}
 use mathlib.Core.Bool.{Bool, true, false, cond}
-use mathlib.Core.List.{List}
+use mathlib.Core.List.{List, []}
 use lib.ListN.{drop}
 use lib.Seq.{getD-take, getD-drop}
 use lib.Dec.{ltb}
@@ -21,10 +21,11 @@ use Rattle.tree.specs.declared.types.Held.the-variants as held
 use Rattle.tree.specs.Row.{word, pageWords}
 use Rattle.tree.specs.TrueValue.{heldIn}
 use Rattle.tree.specs.declared.types.TreeUse.{TreeUse}
+use Rattle.tree.specs.declared.types.Root.{Root}
 use Rattle.tree.specs.declared.types.Root.the-variants.{At, Missing}
 use Rattle.tree.specs.declared.types.Lookup.{Lookup}
 use Rattle.tree.specs.declared.types.Lookup.the-variants.{Spoiled, Found}
-use Rattle.tree.specs.Tree.{Tree, pageAt, levelOf, topLevel, rootAt}
+use Rattle.tree.specs.Tree.{Tree, pageAt, levelOf, topLevel, rootAt, rootInUse}
 use Rattle.tree.specs.Lookup.{plusPage, withBelow, lookupPage, lookupFrom, lookupRoot, lookup}
 
 -- What a lookup answers that has a total and a number of pages opened already, and the rest before it
@@ -129,25 +130,30 @@ level-in-table table page =
     ∙ getD-drop (page * pageWords) table 0 0
     ∙ ap (word table) (omega arith)
 
-module _ (tree : Tree) (t k : ℕ) where
-  pub no-root : rootAt tree t ≡ Missing → lookup tree t k ≡ Spoiled
-  unfolding lookup
-  no-root e = ap (lookupRoot tree t k) e
+-- Nor does it from a root that is known
+root-roots : (table : List ℕ) (used : TreeUse) (a b : List ℕ) (t k : ℕ) (root : Root)
+    → lookupRoot (record { table = table; roots = a; used = used }) t k root ≡ lookupRoot (record { table = table; roots = b; used = used }) t k root
+root-roots table used a b t k Missing = refl
+root-roots table used a b t k (At page) =
+    ap (λ (found : Lookup). cond (rootInUse (record { table = table; roots = b; used = used }) page) found Spoiled)
+    (from-roots table used a b t k (levelOf table page) 0 keyLimit page)
 
-  module _ (page : ℕ) (found : rootAt tree t ≡ At page) where
-    pub root-unused : tree .used .pages ≤ page → lookup tree t k ≡ Spoiled
-    unfolding lookup
-    root-unused h = ap (lookupRoot tree t k) found ∙ rw (le-ltb page (tree .used .pages) h)
+-- The lookup from the root list is the one from the root that is found there
+pub root-found : (table roots : List ℕ) (used : TreeUse) (t k : ℕ) (root : Root) → root ≡ rootAt (record { table = table; roots = roots; used = used }) t
+    → lookupRoot (record { table = table; roots = []; used = used }) t k root ≡ lookup (record { table = table; roots = roots; used = used }) t k
+unfolding lookup
+root-found table roots used t k root e =
+    root-roots table used [] roots t k root ∙ ap (lookupRoot (record { table = table; roots = roots; used = used }) t k) e
 
-    pub root-too-high : page < tree .used .pages → topLevel < word (tree .table) (page * pageWords) → lookup tree t k ≡ Spoiled
-    unfolding lookup
-    root-too-high h high =
-        ap (lookupRoot tree t k) found
-        ∙ rw (lt-ltb page (tree .used .pages) h, level-in-table (tree .table) page, lt-leb (word (tree .table) (page * pageWords)) topLevel high)
+module _ (tree : Tree) (t k page : ℕ) where
+  pub root-unused : tree .used .pages ≤ page → lookupRoot tree t k (At page) ≡ Spoiled
+  root-unused h = rw (le-ltb page (tree .used .pages) h)
 
-    pub root-opens : page < tree .used .pages → word (tree .table) (page * pageWords) ≤ topLevel
-        → lookup tree t k ≡ lookupFrom tree t k (word (tree .table) (page * pageWords)) 0 keyLimit page
-    unfolding lookup
-    root-opens h fits =
-        ap (lookupRoot tree t k) found
-        ∙ rw (lt-ltb page (tree .used .pages) h, level-in-table (tree .table) page, le-leb (word (tree .table) (page * pageWords)) topLevel fits)
+  pub root-too-high : page < tree .used .pages → topLevel < word (tree .table) (page * pageWords) → lookupRoot tree t k (At page) ≡ Spoiled
+  root-too-high h high =
+      rw (lt-ltb page (tree .used .pages) h, level-in-table (tree .table) page, lt-leb (word (tree .table) (page * pageWords)) topLevel high)
+
+  pub root-opens : page < tree .used .pages → word (tree .table) (page * pageWords) ≤ topLevel
+      → lookupRoot tree t k (At page) ≡ lookupFrom tree t k (word (tree .table) (page * pageWords)) 0 keyLimit page
+  root-opens h fits =
+      rw (lt-ltb page (tree .used .pages) h, level-in-table (tree .table) page, le-leb (word (tree .table) (page * pageWords)) topLevel fits)

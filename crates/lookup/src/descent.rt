@@ -16,7 +16,7 @@ ghost use Rattle.tree.specs.Row.{pageWords};
 ghost use Rattle.tree.specs.TrueValue.{heldIn};
 ghost use Rattle.tree.specs.declared.types.Held.the-variants as held;
 ghost use Rattle.tree.specs.Tree.{pageAt, topLevel};
-ghost use Rattle.tree.specs.Lookup.{lookupFrom, lookup};
+ghost use Rattle.tree.specs.Lookup.{lookupFrom, lookupRoot, lookup};
 
 // Opens one page: what it has for (t, k), if its number is below the pages used and its words are those of a page of this level and range.
 fn open_page(
@@ -72,22 +72,31 @@ fn descend(table: &[u64], used: TreeUse, root: u32, top: u64, t: u32, k: u16) ->
     }
 }
 
-// The total of the points with tick at most t and key at most k, and the pages opened for it.
+// The total of the points with tick at most t and key at most k, and the pages opened for it, where the root for t was found already: what
+// asks for several keys at one tick searches the root list once.
+pub fn lookup_at(table: &[u64], used: TreeUse, root: Root, t: u32, k: u16) -> Lookup
+    requires { ⌜ used .pages * pageWords ≤ length (now table) ⌝ }
+    ensures { λ r. ⌜ r ≡ lookupRoot (record { table = now (table .entry); roots = []; used = used }) t k root ⌝ }
+{
+    let Root::At(page) = root else {
+        return Lookup::Spoiled;
+    };
+    if used.pages <= page {
+        return Lookup::Spoiled;
+    }
+    let top = table[page as usize * 260];
+    if 3 < top {
+        return Lookup::Spoiled;
+    }
+    descend(table, used, page, top, t, k)
+}
+
+// The same from the root list.
 pub fn lookup(table: &[u64], roots: &[u64], used: TreeUse, t: u32, k: u16) -> Lookup
     requires { ⌜ used .pages * pageWords ≤ length (now table) ⌝ }
     requires { ⌜ used .roots ≤ length (now roots) ⌝ }
     ensures { λ r. ⌜ r ≡ lookup (record { table = now (table .entry); roots = now (roots .entry); used = used }) t k ⌝ }
 {
-    let found = find_root(roots, used.roots as usize, t);
-    let Root::At(root) = found else {
-        return Lookup::Spoiled;
-    };
-    if used.pages <= root {
-        return Lookup::Spoiled;
-    }
-    let top = table[root as usize * 260];
-    if 3 < top {
-        return Lookup::Spoiled;
-    }
-    descend(table, used, root, top, t, k)
+    let root = find_root(roots, used.roots as usize, t);
+    lookup_at(table, used, root, t, k)
 }

@@ -3,4 +3,5 @@ mod descent;
 mod roots;
 
 pub use descent::lookup;
+pub use descent::lookup_at;
 pub use roots::find_root;

@@ -1,5 +1,5 @@
 -- The laws of adding values: the order and the grouping do not matter, and the zero adds nothing to a value of two 64-bit words.
-use Prim.Native.Nat.{_<_, _^_}
+use Prim.Native.Nat.{ℕ, _+_, _-_, _%_, _<_, _^_}
 use native.Mathlib.Omega.{arith}
 use mathlib.Core.Path.{_≡_, sym, ap, _∙_}
 use Rattle.words.specs.declared.value.Value.{Value}
@@ -38,3 +38,7 @@ plus-zero v h = plus-comm v zero ∙ zero-plus v h
 
 pub zero-plus-plus : (a b : Value) → plus zero (plus a b) ≡ plus a b
 zero-plus-plus a b = zero-plus (plus a b) (plus-stored a b)
+
+-- What added to b wraps to a is the difference
+pub taken-away : (a b r : ℕ) → b < 2 ^ 64 → r < 2 ^ 64 → (r + b) % 2 ^ 64 ≡ a → r ≡ (a + (2 ^ 64 - b % 2 ^ 64)) % 2 ^ 64
+taken-away a b r hb hr e = omega arith

@@ -2,10 +2,10 @@
 ghost use mathlib.Core.Path.{_≡_};
 ghost use Prim.Native.Nat.{_+_, _≤_};
 ghost use lib.ListN.{length};
-ghost use Rattle.words.specs.Value.{zero, plus, valueAt, encodeValue, valueWords};
+ghost use Rattle.words.specs.Value.{zero, plus, minus, valueAt, encodeValue, valueWords};
 ghost use Rattle.words.specs.Overwrite.{overwrite};
 
-// A count and a weight sum. Whoever uses a value knows only that it has a zero and a sum.
+// A count and a weight sum. Whoever uses a value knows only that it has a zero, a sum and a difference.
 pub struct Value {
     pub count: u64,
     pub sum: u64,
@@ -26,6 +26,16 @@ impl Value {
         Value {
             count: std::num::wrapping_add_u64(self.count, other.count),
             sum: std::num::wrapping_add_u64(self.sum, other.sum),
+        }
+    }
+
+    // This value without the other one: what is taken away from less wraps, so that adding it again gives this value back.
+    pub fn minus(self, other: Value) -> Value
+        ensures { λ r. ⌜ r ≡ minus self other ⌝ }
+    {
+        Value {
+            count: std::num::wrapping_sub_u64(self.count, other.count),
+            sum: std::num::wrapping_sub_u64(self.sum, other.sum),
         }
     }
 

@@ -1,0 +1,25 @@
+-- A call by the number of its refusal: refused, or done.
+use Prim.Native.Nat.{ℕ, zero, suc}
+use native.Mathlib.Omega.{arith}
+use mathlib.Core.Path.{_≡_, refl, ap, sym}
+use Rattle.store.specs.declared.types.Answer.the-variants.{Refused}
+use Rattle.store.specs.Head.{Store}
+use Rattle.store.specs.Answers.{Answered, unlessRefused}
+
+abbrev pub refusedAs : Store → ℕ → Answered
+refusedAs s r = record { answer = Refused r; store = s }
+
+module _ {r n : ℕ} (s : Store) (done : Answered) (is : r ≡ n) where
+  pub is-refused : (r ≡ 0 → ⊥) → unlessRefused n s done ≡ refusedAs s r
+  is-refused some = go n is
+    where
+      go : (m : ℕ) → r ≡ m → unlessRefused m s done ≡ refusedAs s r
+      go zero e = absurd (some e)
+      go (suc m) e = ap (refusedAs s) (sym e)
+
+  pub is-done : r ≡ 0 → unlessRefused n s done ≡ done
+  is-done none = go n is
+    where
+      go : (m : ℕ) → r ≡ m → unlessRefused m s done ≡ done
+      go zero e = refl
+      go (suc m) e = absurd (omega arith)

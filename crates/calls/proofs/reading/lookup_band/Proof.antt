@@ -1,0 +1,74 @@
+use Prim.Native.Nat.{_-_}
+use mathlib.Core.Path.{ap₂, sym, _∙_}
+use borrow.Author.Tests.{eq-eqb, ne-eqb}
+use Rattle.tree.specs.Tree.{Tree}
+use Rattle.lookup.proofs.LookupLaws.{root-found}
+use Rattle.calls.specs.Bands.{without}
+use Rattle.calls.proofs.BandLaws.{few-pages}
+use borrow.Author.Needs.{needs}
+use Rattle.calls.proofs.reading.lookup_band.Statement.{statement}
+use Rattle.calls.proofs.reading.lookup_band.Tie as tie
+
+cast-find-root : tie.Need-cast-find-root
+cast-find-root c = search needs
+
+find-root-requires : tie.Need-find-root-requires
+find-root-requires c κs = search needs
+
+sub-lookup-at : tie.Need-sub-lookup-at
+sub-lookup-at c = search needs
+
+cast-lookup-at : tie.Need-cast-lookup-at
+cast-lookup-at c = search needs
+
+lookup-at-requires : tie.Need-lookup-at-requires
+lookup-at-requires c κs = search needs
+
+returns : tie.Need-returns
+returns c =
+    let a = c .before .before .before .before .before .before .args in
+    let root = c .before .before .find-root in
+    let high = c .before .lookup-at .ensures ∙ root-found (a .table .now) (a .roots .now) (a .used) (a .t) (a .k2 - 1) (root .result) (root .ensures) in
+    rw (eq-eqb (a .k1) 0 (c .if1 .taken)) high
+
+sub-lookup-at-2 : tie.Need-sub-lookup-at-2
+sub-lookup-at-2 c = search needs
+
+cast-lookup-at-2 : tie.Need-cast-lookup-at-2
+cast-lookup-at-2 c = search needs
+
+lookup-at-requires-2 : tie.Need-lookup-at-requires-2
+lookup-at-requires-2 c κs = search needs
+
+without-requires : tie.Need-without-requires
+without-requires c κs =
+    let a = c .before .before .before .before .before .before .before .args in
+    let tree : Tree = record { table = a .table .now; roots = a .roots .now; used = a .used } in
+    let root = c .before .before .before .find-root in
+    let high = c .before .before .lookup-at .ensures ∙ root-found (a .table .now) (a .roots .now) (a .used) (a .t) (a .k2 - 1) (root .result) (root .ensures) in
+    let low = c .lookup-at2 .ensures ∙ root-found (a .table .now) (a .roots .now) (a .used) (a .t) (a .k1 - 1) (root .result) (root .ensures) in
+    (few-pages tree (a .t) (a .k2 - 1) high, few-pages tree (a .t) (a .k1 - 1) low)
+
+returns-2 : tie.Need-returns-2
+returns-2 c =
+    let a = c .before .before .before .before .before .before .before .before .args in
+    let root = c .before .before .before .before .find-root in
+    let high = c .before .before .before .lookup-at .ensures ∙ root-found (a .table .now) (a .roots .now) (a .used) (a .t) (a .k2 - 1) (root .result) (root .ensures) in
+    let low = c .before .lookup-at2 .ensures ∙ root-found (a .table .now) (a .roots .now) (a .used) (a .t) (a .k1 - 1) (root .result) (root .ensures) in
+    rw (ne-eqb (a .k1) 0 (c .before .before .if1 .left)) (c .without .ensures ∙ ap₂ without high low)
+
+pub lookup-band-spec : {M : Type 1} → statement M
+lookup-band-spec =
+    tie.close
+    (tie.spec
+    cast-find-root
+    find-root-requires
+    sub-lookup-at
+    cast-lookup-at
+    lookup-at-requires
+    returns
+    sub-lookup-at-2
+    cast-lookup-at-2
+    lookup-at-requires-2
+    without-requires
+    returns-2)

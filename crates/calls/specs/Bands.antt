@@ -1,0 +1,27 @@
+-- A question as the code asks it: the band of each tree, then the starts less the ends.
+use Prim.Native.Nat.{ℕ, _+_, _-_}
+use mathlib.Core.Bool.{cond}
+use lib.Dec.{eqb}
+use Rattle.words.specs.Value.{minus}
+use Rattle.tree.specs.declared.types.Lookup.{Lookup}
+use Rattle.tree.specs.declared.types.Lookup.the-variants.{Spoiled, Found}
+use Rattle.tree.specs.Tree.{Tree}
+use Rattle.tree.specs.Lookup.{lookup}
+use Rattle.store.specs.declared.types.Answer.{Answer}
+use Rattle.store.specs.declared.types.Answer.the-variants.{Refused}
+use Rattle.store.specs.Reading.{totals}
+
+-- One lookup less another: spoiled where one of them is; the pages of both were opened
+abbrev pub without : Lookup → Lookup → Lookup
+without Spoiled low = Spoiled
+without (Found v m) Spoiled = Spoiled
+without (Found v m) (Found w n) = Found (minus v w) (m + n)
+
+-- What a tree has at t from key k1 up to but not k2; from key 0 on there is nothing below
+abbrev pub inBand : Tree → ℕ → ℕ → ℕ → Lookup
+inBand tree t k1 k2 = cond (eqb k1 0) (lookup tree t (k2 - 1)) (without (lookup tree t (k2 - 1)) (lookup tree t (k1 - 1)))
+
+-- A lookup's totals, or 26
+abbrev pub answerOf : Lookup → Answer
+answerOf Spoiled = Refused 26
+answerOf (Found v pages) = totals v pages

@@ -1,0 +1,26 @@
+-- What a call is handed, as a store, and what it hands back.
+use Prim.Native.Nat.{ℕ}
+use mathlib.Core.Path.{_≡_}
+use mathlib.Core.List.{List}
+use Rattle.store.specs.declared.types.Head.{Head}
+use Rattle.store.specs.Head.{Lent, Store}
+use Rattle.store.specs.Answers.{Answered}
+use Rattle.calls.specs.declared.types.Reply.{Reply}
+
+-- The lent slices: page table and root list of the starts, then of the ends
+abbrev pub lentOf : List ℕ → List ℕ → List ℕ → List ℕ → Lent
+lentOf startTable startRoots endTable endRoots =
+    record { startTable = startTable; startRoots = startRoots; endTable = endTable; endRoots = endRoots }
+
+-- With a head
+abbrev pub storeOf : Head → List ℕ → List ℕ → List ℕ → List ℕ → Store
+storeOf head startTable startRoots endTable endRoots = record { head = head; lent = lentOf startTable startRoots endTable endRoots }
+
+-- The answer, the head and every lent word afterwards are those that a definition says
+pub record RepliedAs (a : Answered) (r : Reply) (startTable startRoots endTable endRoots : List ℕ) : Type 0 where
+  pub answer : r .answer ≡ a .answer
+  pub head : r .head ≡ a .store .head
+  pub start-table : startTable ≡ a .store .lent .startTable
+  pub start-roots : startRoots ≡ a .store .lent .startRoots
+  pub end-table : endTable ≡ a .store .lent .endTable
+  pub end-roots : endRoots ≡ a .store .lent .endRoots
