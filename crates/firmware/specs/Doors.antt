@@ -1,0 +1,78 @@
+-- What an exported call says and leaves. Numbers stand for what C is given: 0 or the number of the refusal, and lent numbers.
+use Prim.Native.Nat.{ℕ}
+use mathlib.Core.Path.{_≡_}
+use mathlib.Core.List.{List}
+use lib.ListN.{length}
+use Rattle.store.specs.declared.types.Answer.{Answer}
+use Rattle.store.specs.declared.types.Answer.the-variants.{Refused, Opened, Started, Ended, Totals}
+use Rattle.store.specs.Head.{Store}
+use Rattle.store.specs.Answers.{refusalOf, Answered}
+use Rattle.calls.specs.Replies.{storeOf}
+use Rattle.firmware.specs.Heads.{Fields, passNumbers, headOf, fieldsOf, numbersOf}
+
+-- The four lent slices of a store, page table and root list of the starts, then of the ends
+pub record Slices : Type 0 where
+  pub startTable : List ℕ
+  pub startList : List ℕ
+  pub endTable : List ℕ
+  pub endList : List ℕ
+
+abbrev pub storeIn : Fields → List ℕ → Slices → Store
+storeIn f passes m = storeOf (headOf f passes) (m .startTable) (m .startList) (m .endTable) (m .endList)
+
+-- The fields of an answer; where it has none, what stood in the lent number before
+abbrev pub countSaid : ℕ → Answer → ℕ
+countSaid old (Refused n) = old
+countSaid old Opened = old
+countSaid old (Started n) = old
+countSaid old Ended = old
+countSaid old (Totals count sum pages) = count
+
+abbrev pub sumSaid : ℕ → Answer → ℕ
+sumSaid old (Refused n) = old
+sumSaid old Opened = old
+sumSaid old (Started n) = old
+sumSaid old Ended = old
+sumSaid old (Totals count sum pages) = sum
+
+abbrev pub pagesSaid : ℕ → Answer → ℕ
+pagesSaid old (Refused n) = old
+pagesSaid old Opened = old
+pagesSaid old (Started n) = old
+pagesSaid old Ended = old
+pagesSaid old (Totals count sum pages) = pages
+
+abbrev pub numberSaid : ℕ → Answer → ℕ
+numberSaid old (Refused n) = old
+numberSaid old Opened = old
+numberSaid old (Started n) = n
+numberSaid old Ended = old
+numberSaid old (Totals count sum pages) = old
+
+-- The totals as lent numbers
+pub record Told : Type 0 where
+  pub count : ℕ
+  pub sum : ℕ
+  pub pages : ℕ
+
+-- A reading call that answers a: the refusal, and the totals
+pub record Tells (a : Answer) (r : ℕ) (before after : Told) : Type 0 where
+  pub refusal : r ≡ refusalOf a
+  pub count : after .count ≡ countSaid (before .count) a
+  pub sum : after .sum ≡ sumSaid (before .sum) a
+  pub pages : after .pages ≡ pagesSaid (before .pages) a
+
+-- A list of open passes of another length than 256 numbers is no head: 20, and nothing changes
+pub record Shut (r : ℕ) (before after : Told) : Type 0 where
+  pub refusal : r ≡ 20
+  pub same : after ≡ before
+
+-- A writing call that comes to a: the refusal, the head's fields, its open passes and every lent word
+pub record Leaves (a : Answered) (r : ℕ) (f : Fields) (passes : List ℕ) (m : Slices) : Type 0 where
+  pub refusal : r ≡ refusalOf (a .answer)
+  pub fields : f ≡ fieldsOf (a .store .head)
+  pub passes-are : passes ≡ numbersOf (a .store .head .passes)
+  pub start-table : m .startTable ≡ a .store .lent .startTable
+  pub start-list : m .startList ≡ a .store .lent .startRoots
+  pub end-table : m .endTable ≡ a .store .lent .endTable
+  pub end-list : m .endList ≡ a .store .lent .endRoots
