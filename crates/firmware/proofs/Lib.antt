@@ -1,2 +1,3 @@
 -- Laws of the head as numbers.
 pub mod HeadNumbers
+pub mod DoorLaws

@@ -1,11 +1,13 @@
 // The open passes of a head, from 256 lent numbers and back.
+use store::Head;
 use store::OpenPass;
+use tree::TreeUse;
 ghost use mathlib.Core.Path.{_≡_};
 ghost use Prim.Native.Nat.{_+_, _≤_};
 ghost use lib.ListN.{length};
 ghost use Rattle.words.specs.Overwrite.{overwrite};
 ghost use Rattle.store.specs.Head.{openLimit};
-ghost use Rattle.firmware.specs.Heads.{passNumbers, passAt, passesFrom, passNumbersOf, numbersOf};
+ghost use Rattle.firmware.specs.Heads.{passNumbers, passAt, passesFrom, passNumbersOf, numbersOf, headOf};
 
 // The pass in the four numbers from a place on.
 fn read_pass(numbers: &[u32], at: usize) -> OpenPass
@@ -61,5 +63,36 @@ pub fn write_passes(numbers: &mut [u32], passes: [OpenPass; 64])
         let pass = passes[place];
         write_pass(numbers, 4 * place, pass);
         place += 1;
+    }
+}
+
+// The head that fields and open passes make.
+pub fn head_of(
+    last: u32,
+    started: u32,
+    count: u32,
+    start_pages: u32,
+    start_roots: u32,
+    end_pages: u32,
+    end_roots: u32,
+    passes: &[u32],
+) -> Head
+    requires { ⌜ length (now passes) ≡ passNumbers ⌝ }
+    ensures { λ r. ⌜ r ≡ headOf (record { last = last; started = started; count = count; startPages = «start_pages»; startRoots = «start_roots»; endPages = «end_pages»; endRoots = «end_roots» }) (now (passes .entry)) ⌝ }
+{
+    let open = read_passes(passes);
+    Head {
+        last,
+        started,
+        count,
+        passes: open,
+        starts: TreeUse {
+            pages: start_pages,
+            roots: start_roots,
+        },
+        ends: TreeUse {
+            pages: end_pages,
+            roots: end_roots,
+        },
     }
 }

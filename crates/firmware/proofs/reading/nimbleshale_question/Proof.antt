@@ -1,0 +1,31 @@
+use mathlib.Core.Path.{refl, ap, _∙_}
+use Rattle.store.specs.declared.types.Head.{Head}
+use Rattle.store.specs.Reading.{askQuestion}
+use Rattle.calls.specs.Replies.{storeOf}
+use Rattle.firmware.proofs.DoorLaws.{told}
+use borrow.Author.Needs.{needs}
+use Rattle.firmware.proofs.reading.nimbleshale_question.Statement.{statement}
+use Rattle.firmware.proofs.reading.nimbleshale_question.Tie as tie
+
+returns : tie.Need-returns
+returns c = (λ e. absurd (c .if1 .taken e), λ n. record { refusal = refl; same = refl })
+
+head-of-requires : tie.Need-head-of-requires
+head-of-requires c κs = search needs
+
+question-requires : tie.Need-question-requires
+question-requires c κs = search needs
+
+tell-requires : tie.Need-tell-requires
+tell-requires c κs = search needs
+
+returns-2 : tie.Need-returns-2
+returns-2 c =
+    let a = c .before .before .before .before .before .before .before .before .before .before .before .before .args in
+    let said = c .before .before .before .before .question .ensures
+    ∙ ap (λ (h : Head). askQuestion (storeOf h (a .start-table .now) (a .start-list .now) (a .end-table .now) (a .end-list .now)) (a .k1) (a .k2) (a .t1) (a .t2) .answer) (c .before .before .before .before .before .head-of .ensures) in
+    (λ e. told said (c .tell .ensures), λ n. absurd (n (c .before .before .before .before .before .before .if1 .left)))
+
+pub nimbleshale-question-spec : {M : Type 1} → statement M
+nimbleshale-question-spec =
+    tie.close (tie.spec returns head-of-requires question-requires tell-requires returns-2)

@@ -1,0 +1,84 @@
+// The calls that only read, for C: the question and the lookup of each tree. The totals go into lent numbers, which stay as they are where
+// the call is refused.
+use crate::heads::head_of;
+use store::Answer;
+ghost use mathlib.Core.Path.{_≡_};
+ghost use lib.ListN.{length};
+ghost use Rattle.store.specs.Reading.{askQuestion, lookUpStarts, lookUpEnds};
+ghost use Rattle.firmware.specs.Heads.{passNumbers};
+ghost use Rattle.firmware.specs.Doors.{storeIn, Tells, Shut};
+
+// Writes an answer's totals, and returns its refusal, 0 for none.
+fn tell(answer: Answer, count: &mut u64, sum: &mut u64, pages: &mut u32) -> u8
+    ensures { λ r. ⌜ Tells answer r (record { count = now (count .entry); sum = now (sum .entry); pages = now (pages .entry) }) (record { count = now (count .exit); sum = now (sum .exit); pages = now (pages .exit) }) ⌝ }
+{
+    match answer {
+        Answer::Refused(number) => number,
+        Answer::Opened => 0,
+        Answer::Started(_) => 0,
+        Answer::Ended => 0,
+        Answer::Totals {
+            count: said_count,
+            sum: said_sum,
+            pages: said_pages,
+        } => {
+            *count = said_count;
+            *sum = said_sum;
+            *pages = said_pages;
+            0
+        }
+    }
+}
+
+// "A question": passes with a key from k1 up to but not k2 that live at a tick from t1 up to but not t2.
+#[no_mangle]
+pub extern "C" fn nimbleshale_question(
+    last: u32,
+    started: u32,
+    count_open: u32,
+    start_pages: u32,
+    start_roots: u32,
+    end_pages: u32,
+    end_roots: u32,
+    passes: &[u32],
+    start_table: &[u64],
+    start_list: &[u64],
+    end_table: &[u64],
+    end_list: &[u64],
+    k1: u32,
+    k2: u32,
+    t1: u32,
+    t2: u32,
+    count: &mut u64,
+    sum: &mut u64,
+    pages: &mut u32,
+) -> u8
+    ensures { λ r. ⌜ (length (now (passes .entry)) ≡ passNumbers → Tells (askQuestion (storeIn (record { last = last; started = started; count = «count_open»; startPages = «start_pages»; startRoots = «start_roots»; endPages = «end_pages»; endRoots = «end_roots» }) (now (passes .entry)) (record { startTable = now («start_table» .entry); startList = now («start_list» .entry); endTable = now («end_table» .entry); endList = now («end_list» .entry) })) k1 k2 t1 t2 .answer) r (record { count = now (count .entry); sum = now (sum .entry); pages = now (pages .entry) }) (record { count = now (count .exit); sum = now (sum .exit); pages = now (pages .exit) })) ⌝ }
+    ensures { λ r. ⌜ ((length (now (passes .entry)) ≡ passNumbers → ⊥) → Shut r (record { count = now (count .entry); sum = now (sum .entry); pages = now (pages .entry) }) (record { count = now (count .exit); sum = now (sum .exit); pages = now (pages .exit) })) ⌝ }
+{
+    if passes.len() != 256 {
+        return 20;
+    }
+    let head = head_of(
+        last,
+        started,
+        count_open,
+        start_pages,
+        start_roots,
+        end_pages,
+        end_roots,
+        passes,
+    );
+    let answer = calls::question(
+        head,
+        start_table,
+        start_list,
+        end_table,
+        end_list,
+        k1,
+        k2,
+        t1,
+        t2,
+    );
+    tell(answer, count, sum, pages)
+}
