@@ -82,3 +82,85 @@ pub extern "C" fn nimbleshale_question(
     );
     tell(answer, count, sum, pages)
 }
+
+// The lookup of the tree of starts at (t, k).
+#[no_mangle]
+pub extern "C" fn nimbleshale_lookup_starts(
+    last: u32,
+    started: u32,
+    count_open: u32,
+    start_pages: u32,
+    start_roots: u32,
+    end_pages: u32,
+    end_roots: u32,
+    passes: &[u32],
+    start_table: &[u64],
+    start_list: &[u64],
+    end_table: &[u64],
+    end_list: &[u64],
+    t: u32,
+    k: u32,
+    count: &mut u64,
+    sum: &mut u64,
+    pages: &mut u32,
+) -> u8
+    ensures { λ r. ⌜ (length (now (passes .entry)) ≡ passNumbers → Tells (lookUpStarts (storeIn (record { last = last; started = started; count = «count_open»; startPages = «start_pages»; startRoots = «start_roots»; endPages = «end_pages»; endRoots = «end_roots» }) (now (passes .entry)) (record { startTable = now («start_table» .entry); startList = now («start_list» .entry); endTable = now («end_table» .entry); endList = now («end_list» .entry) })) t k .answer) r (record { count = now (count .entry); sum = now (sum .entry); pages = now (pages .entry) }) (record { count = now (count .exit); sum = now (sum .exit); pages = now (pages .exit) })) ⌝ }
+    ensures { λ r. ⌜ ((length (now (passes .entry)) ≡ passNumbers → ⊥) → Shut r (record { count = now (count .entry); sum = now (sum .entry); pages = now (pages .entry) }) (record { count = now (count .exit); sum = now (sum .exit); pages = now (pages .exit) })) ⌝ }
+{
+    if passes.len() != 256 {
+        return 20;
+    }
+    let head = head_of(
+        last,
+        started,
+        count_open,
+        start_pages,
+        start_roots,
+        end_pages,
+        end_roots,
+        passes,
+    );
+    let answer = calls::lookup_starts(head, start_table, start_list, end_table, end_list, t, k);
+    tell(answer, count, sum, pages)
+}
+
+// The lookup of the tree of ends at (t, k).
+#[no_mangle]
+pub extern "C" fn nimbleshale_lookup_ends(
+    last: u32,
+    started: u32,
+    count_open: u32,
+    start_pages: u32,
+    start_roots: u32,
+    end_pages: u32,
+    end_roots: u32,
+    passes: &[u32],
+    start_table: &[u64],
+    start_list: &[u64],
+    end_table: &[u64],
+    end_list: &[u64],
+    t: u32,
+    k: u32,
+    count: &mut u64,
+    sum: &mut u64,
+    pages: &mut u32,
+) -> u8
+    ensures { λ r. ⌜ (length (now (passes .entry)) ≡ passNumbers → Tells (lookUpEnds (storeIn (record { last = last; started = started; count = «count_open»; startPages = «start_pages»; startRoots = «start_roots»; endPages = «end_pages»; endRoots = «end_roots» }) (now (passes .entry)) (record { startTable = now («start_table» .entry); startList = now («start_list» .entry); endTable = now («end_table» .entry); endList = now («end_list» .entry) })) t k .answer) r (record { count = now (count .entry); sum = now (sum .entry); pages = now (pages .entry) }) (record { count = now (count .exit); sum = now (sum .exit); pages = now (pages .exit) })) ⌝ }
+    ensures { λ r. ⌜ ((length (now (passes .entry)) ≡ passNumbers → ⊥) → Shut r (record { count = now (count .entry); sum = now (sum .entry); pages = now (pages .entry) }) (record { count = now (count .exit); sum = now (sum .exit); pages = now (pages .exit) })) ⌝ }
+{
+    if passes.len() != 256 {
+        return 20;
+    }
+    let head = head_of(
+        last,
+        started,
+        count_open,
+        start_pages,
+        start_roots,
+        end_pages,
+        end_roots,
+        passes,
+    );
+    let answer = calls::lookup_ends(head, start_table, start_list, end_table, end_list, t, k);
+    tell(answer, count, sum, pages)
+}

@@ -1,0 +1,31 @@
+use mathlib.Core.Path.{refl, ap, _∙_}
+use Rattle.store.specs.declared.types.Head.{Head}
+use Rattle.store.specs.Reading.{lookUpEnds}
+use Rattle.calls.specs.Replies.{storeOf}
+use Rattle.firmware.proofs.DoorLaws.{told}
+use borrow.Author.Needs.{needs}
+use Rattle.firmware.proofs.reading.nimbleshale_lookup_ends.Statement.{statement}
+use Rattle.firmware.proofs.reading.nimbleshale_lookup_ends.Tie as tie
+
+returns : tie.Need-returns
+returns c = (λ e. absurd (c .if1 .taken e), λ n. record { refusal = refl; same = refl })
+
+head-of-requires : tie.Need-head-of-requires
+head-of-requires c κs = search needs
+
+lookup-ends-requires : tie.Need-lookup-ends-requires
+lookup-ends-requires c κs = search needs
+
+tell-requires : tie.Need-tell-requires
+tell-requires c κs = search needs
+
+returns-2 : tie.Need-returns-2
+returns-2 c =
+    let a = c .before .before .before .before .before .before .before .before .before .before .before .before .args in
+    let said = c .before .before .before .before .lookup-ends .ensures
+    ∙ ap (λ (h : Head). lookUpEnds (storeOf h (a .start-table .now) (a .start-list .now) (a .end-table .now) (a .end-list .now)) (a .t) (a .k) .answer) (c .before .before .before .before .before .head-of .ensures) in
+    (λ e. told said (c .tell .ensures), λ n. absurd (n (c .before .before .before .before .before .before .if1 .left)))
+
+pub nimbleshale-lookup-ends-spec : {M : Type 1} → statement M
+nimbleshale-lookup-ends-spec =
+    tie.close (tie.spec returns head-of-requires lookup-ends-requires tell-requires returns-2)
