@@ -1,8 +1,95 @@
--- Exported calls: what they say of an answer that is the definition's.
-use Prim.Native.Nat.{ℕ}
-use mathlib.Core.Path.{_≡_, subst}
+-- Exported calls: what they say and leave, from what the calls of the store hand back.
+use Prim.Native.Nat.{ℕ, zero, suc}
+use native.Mathlib.Omega.{arith}
+use mathlib.Core.Path.{_≡_, refl, ap, sym, subst, _∙_}
+use mathlib.Core.List.{List}
+use lib.ListN.{length}
+use Rattle.store.specs.declared.types.Head.{Head}
 use Rattle.store.specs.declared.types.Answer.{Answer}
-use Rattle.firmware.specs.Doors.{Told, Tells}
+use Rattle.store.specs.declared.types.Answer.the-variants.{Refused, Opened, Started, Ended, Totals}
+use Rattle.store.specs.Head.{Store}
+use Rattle.store.specs.Answers.{refusalOf, Answered, unlessRefused}
+use Rattle.store.specs.Writing.{startRefusal, startPass, endRefusal, endPass, openingRefusal, openStore}
+use Rattle.store.proofs.Turns.{opensAs, startsAs, endsAs}
+use Rattle.calls.specs.declared.types.Reply.{Reply}
+use Rattle.calls.specs.Replies.{storeOf, RepliedAs}
+use Rattle.firmware.specs.Heads.{Fields, passNumbers, headOf, fieldsOf, numbersOf}
+use Rattle.firmware.specs.Doors.{Slices, storeIn, numberSaid, Told, Tells, Leaves}
+use Rattle.firmware.proofs.HeadNumbers.{numbers-back}
 
 pub told : {a b : Answer} {r : ℕ} {before after : Told} → a ≡ b → Tells a r before after → Tells b r before after
 told {r = r} {before = before} {after = after} e h = subst (λ (x : Answer). Tells x r before after) e h
+
+-- A call that refuses leaves the store as it was
+unchanged : (n : ℕ) (s : Store) (done : Answered) → refusalOf (done .answer) ≡ 0 → (refusalOf (unlessRefused n s done .answer) ≡ 0 → ⊥)
+    → unlessRefused n s done .store ≡ s
+unchanged zero s done e some = absurd (some e)
+unchanged (suc n) s done e some = refl
+
+pub start-unchanged : (s : Store) (tick key weight : ℕ) → (refusalOf (startPass s tick key weight .answer) ≡ 0 → ⊥) → startPass s tick key weight .store ≡ s
+unfolding startPass
+start-unchanged s tick key weight = unchanged (startRefusal s tick key weight) s (startsAs s tick key weight) refl
+
+pub end-unchanged : (s : Store) (tick number : ℕ) → (refusalOf (endPass s tick number .answer) ≡ 0 → ⊥) → endPass s tick number .store ≡ s
+unfolding endPass
+end-unchanged s tick number = unchanged (endRefusal s tick number) s (endsAs s tick number) refl
+
+pub open-unchanged : (s : Store) → (refusalOf (openStore s .answer) ≡ 0 → ⊥) → openStore s .store ≡ s
+unfolding openStore
+open-unchanged s = unchanged (openingRefusal (s .lent)) s (opensAs s) refl
+
+-- What a call of the store handed back, of the head that the numbers make
+pub handed : (call : Store → Answered) (f : Fields) (passes : List ℕ) (m after : Slices) (head : Head) (reply : Reply)
+    → head ≡ headOf f passes
+    → RepliedAs (call (storeOf head (m .startTable) (m .startList) (m .endTable) (m .endList))) reply (after .startTable) (after .startList) (after .endTable) (after .endList)
+    → RepliedAs (call (storeIn f passes m)) reply (after .startTable) (after .startList) (after .endTable) (after .endList)
+handed call f passes m after head reply e h =
+    subst
+    (λ (x : Head).
+    RepliedAs (call (storeOf x (m .startTable) (m .startList) (m .endTable) (m .endList))) reply (after .startTable) (after .startList) (after .endTable) (after .endList))
+    e h
+
+module _ (a : Answered) (f : Fields) (passes : List ℕ) (m after : Slices) (long : length passes ≡ passNumbers) (reply : Reply)
+    (is : RepliedAs a reply (after .startTable) (after .startList) (after .endTable) (after .endList)) where
+  said : (r : ℕ) → r ≡ refusalOf (reply .answer) → r ≡ refusalOf (a .answer)
+  said r e = e ∙ ap refusalOf (is .answer)
+
+  -- Refused: no field and no number of a pass was written
+  pub leaves-refused : (r : ℕ) → r ≡ refusalOf (reply .answer) → (r ≡ 0 → ⊥) → ((refusalOf (a .answer) ≡ 0 → ⊥) → a .store ≡ storeIn f passes m)
+      → Leaves a r f passes after
+  leaves-refused r e some same =
+      let kept = same (λ z. some (said r e ∙ z)) in
+      record {
+        refusal = said r e;
+        fields = sym (ap (λ (x : Store). fieldsOf (x .head)) kept);
+        passes-are = sym (ap (λ (x : Store). numbersOf (x .head .passes)) kept ∙ numbers-back passes long);
+        start-table = is .start-table;
+        start-list = is .start-roots;
+        end-table = is .end-table;
+        end-list = is .end-roots;
+      }
+
+  -- Done: the head that the call handed back was written
+  pub leaves-done : (r : ℕ) → r ≡ refusalOf (reply .answer) → r ≡ 0 → (f′ : Fields) (passes′ : List ℕ) → f′ ≡ fieldsOf (reply .head)
+      → passes′ ≡ numbersOf (reply .head .passes) → Leaves a 0 f′ passes′ after
+  leaves-done r e none f′ passes′ fs ps =
+      record {
+        refusal = sym none ∙ said r e;
+        fields = fs ∙ ap fieldsOf (is .head);
+        passes-are = ps ∙ ap (λ (h : Head). numbersOf (h .passes)) (is .head);
+        start-table = is .start-table;
+        start-list = is .start-roots;
+        end-table = is .end-table;
+        end-list = is .end-roots;
+      }
+
+-- A pass number that a refused start leaves as it was
+pub start-number-kept : {x y : Answer} (old r : ℕ) → r ≡ refusalOf x → (r ≡ 0 → ⊥) → x ≡ y → old ≡ numberSaid old y
+start-number-kept {x} {y} old r e some is = go y (λ z. some (e ∙ ap refusalOf is ∙ z))
+  where
+    go : (b : Answer) → (refusalOf b ≡ 0 → ⊥) → old ≡ numberSaid old b
+    go (Refused n) f = refl
+    go Opened f = refl
+    go (Started n) f = absurd (f refl)
+    go Ended f = refl
+    go (Totals count sum pages) f = refl

@@ -3,7 +3,7 @@ use Prim.Native.Nat.{ℕ, zero, suc, _+_, _*_, _≤_, _<_}
 use native.Mathlib.Omega.{arith}
 use mathlib.Core.Path.{_≡_, refl, ap, ap₂, sym, _∙_}
 use mathlib.Core.List.{List, [], _∷_, _++_, append-assoc, append-nil}
-use lib.ListN.{length, getD, set, take, length-append}
+use lib.ListN.{length, getD, set, take, drop, length-append}
 use lib.Seq.{take-suc, take-suc-set, take-all, length-take-le, drop-cons}
 use Rattle.words.specs.Overwrite.{overwrite}
 use Rattle.words.proofs.OverwriteLaws.{overwrite-none, overwrite-sets, overwrite-more, overwrite-all}
@@ -84,3 +84,28 @@ module _ (out : List ℕ) (passes : List OpenPass) (long : length passes ≡ 64)
   write-all now e =
       e ∙ ap (λ (l : List OpenPass). overwrite out 0 (numbersOf l)) (take-all 64 passes (omega arith))
       ∙ overwrite-all out (numbersOf passes) (omega (arith, numbers-length passes))
+
+-- Numbers that are read as passes and written again are as before
+four-front : (ns : List ℕ) (at m : ℕ) → at + 4 ≤ length ns
+    → take (4 + m) (drop at ns) ≡ passNumbersOf (passAt ns at) ++ take m (drop (at + 4) ns)
+four-front ns at m h =
+    let one : suc at ≡ at + 1 = omega arith in
+    let two : suc (at + 1) ≡ at + 2 = omega arith in
+    let three : suc (at + 2) ≡ at + 3 = omega arith in
+    let four : suc (at + 3) ≡ at + 4 = omega arith in
+    let size : 4 + m ≡ suc (suc (suc (suc m))) = omega arith in
+    let at3 = ap (λ (i : ℕ). drop i ns) three ∙ drop-cons ns (at + 3) 0 (omega arith) ∙ ap (λ (i : ℕ). getD ns (at + 3) 0 ∷ drop i ns) four in
+    let at2 = ap (λ (i : ℕ). drop i ns) two ∙ drop-cons ns (at + 2) 0 (omega arith) ∙ ap (_∷_ (getD ns (at + 2) 0)) at3 in
+    let at1 = ap (λ (i : ℕ). drop i ns) one ∙ drop-cons ns (at + 1) 0 (omega arith) ∙ ap (_∷_ (getD ns (at + 1) 0)) at2 in
+    ap₂ take size (drop-cons ns at 0 (omega arith) ∙ ap (_∷_ (getD ns at 0)) at1)
+
+numbers-front : (ns : List ℕ) (n at : ℕ) → at + 4 * n ≤ length ns → numbersOf (passesFrom ns at n) ≡ take (4 * n) (drop at ns)
+unfolding numbersOf passesFrom
+numbers-front ns zero at h = refl
+numbers-front ns (suc n) at h =
+    let size : 4 * suc n ≡ 4 + 4 * n = omega arith in
+    ap (_++_ (passNumbersOf (passAt ns at))) (numbers-front ns n (at + 4) (omega arith))
+    ∙ sym (ap (λ (k : ℕ). take k (drop at ns)) size ∙ four-front ns at (4 * n) (omega arith))
+
+pub numbers-back : (ns : List ℕ) → length ns ≡ 256 → numbersOf (passesFrom ns 0 64) ≡ ns
+numbers-back ns long = numbers-front ns 64 0 (omega arith) ∙ take-all 256 ns (omega arith)

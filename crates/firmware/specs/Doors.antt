@@ -76,3 +76,10 @@ pub record Leaves (a : Answered) (r : ℕ) (f : Fields) (passes : List ℕ) (m :
   pub start-list : m .startList ≡ a .store .lent .startRoots
   pub end-table : m .endTable ≡ a .store .lent .endTable
   pub end-list : m .endList ≡ a .store .lent .endRoots
+
+-- A writing call that is handed a list of open passes of another length: 20, and nothing changes
+pub record Kept (r : ℕ) (before after : Fields) (passesBefore passesAfter : List ℕ) (lentBefore lentAfter : Slices) : Type 0 where
+  pub refusal : r ≡ 20
+  pub fields : after ≡ before
+  pub passes : passesAfter ≡ passesBefore
+  pub lent : lentAfter ≡ lentBefore

@@ -7,7 +7,7 @@ ghost use Prim.Native.Nat.{_+_, _≤_};
 ghost use lib.ListN.{length};
 ghost use Rattle.words.specs.Overwrite.{overwrite};
 ghost use Rattle.store.specs.Head.{openLimit};
-ghost use Rattle.firmware.specs.Heads.{passNumbers, passAt, passesFrom, passNumbersOf, numbersOf, headOf};
+ghost use Rattle.firmware.specs.Heads.{passNumbers, passAt, passesFrom, passNumbersOf, numbersOf, headOf, fieldsOf};
 
 // The pass in the four numbers from a place on.
 fn read_pass(numbers: &[u32], at: usize) -> OpenPass
@@ -95,4 +95,33 @@ pub fn head_of(
             roots: end_roots,
         },
     }
+}
+
+// Writes a head into its lent fields and the numbers of its open passes.
+pub fn put_head(
+    head: Head,
+    last: &mut u32,
+    started: &mut u32,
+    count: &mut u32,
+    start_pages: &mut u32,
+    start_roots: &mut u32,
+    end_pages: &mut u32,
+    end_roots: &mut u32,
+    passes: &mut [u32],
+)
+    requires { ⌜ length (now passes) ≡ passNumbers ⌝ }
+    ensures { λ _. ⌜ record { last = now (last .exit); started = now (started .exit); count = now (count .exit); startPages = now («start_pages» .exit); startRoots = now («start_roots» .exit); endPages = now («end_pages» .exit); endRoots = now («end_roots» .exit) } ≡ fieldsOf head ⌝ }
+    ensures { λ _. ⌜ now (passes .exit) ≡ numbersOf (head .passes) ⌝ }
+{
+    *last = head.last;
+    *started = head.started;
+    *count = head.count;
+    let starts = head.starts;
+    *start_pages = starts.pages;
+    *start_roots = starts.roots;
+    let ends = head.ends;
+    *end_pages = ends.pages;
+    *end_roots = ends.roots;
+    let open = head.passes;
+    write_passes(passes, open);
 }
