@@ -1,16 +1,15 @@
 -- An open pass that is found by its number, in a head that fits: its place is below the open count, and its key is in range.
-use Prim.Native.Nat.{ℕ, _+_, _≤_, _<_}
+use Prim.Native.Nat.{ℕ, _+_, _<_}
 use native.Mathlib.Omega.{arith}
-use mathlib.Core.Path.{_≡_, refl}
+use mathlib.Core.Path.{_≡_}
 use mathlib.Core.Bool.{Bool, true, false, cond, and-eq-true-iff}
 use mathlib.Core.List.{List, [], _∷_}
-use lib.ListN.{length, take, length-take}
+use lib.ListN.{length, length-take}
 use lib.Dec.{eqb}
 use borrow.Author.Tests.{ltb-true}
 use Rattle.words.specs.Words.{keyLimit}
 use Rattle.store.specs.declared.types.OpenPass.{OpenPass}
 use Rattle.store.specs.declared.types.Head.{Head}
-use Rattle.store.specs.declared.types.FoundPass.{FoundPass}
 use Rattle.store.specs.declared.types.FoundPass.the-variants.{Missing, At}
 use Rattle.store.specs.Head.{openPasses, passFits, passesFit}
 use Rattle.store.specs.Writing.{findPass, passOf}

@@ -16,6 +16,6 @@ pub mod Differences
 pub mod BandLaws
 pub mod QuestionAnswers
 pub mod OpeningReplies
--- Starts and ends that are not refused
-pub mod Accepted
-pub mod WritingReplies
+pub mod PlannedEntries
+pub mod StartReplies
+pub mod EndReplies

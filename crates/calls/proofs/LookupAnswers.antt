@@ -9,7 +9,7 @@ use Rattle.store.specs.declared.types.Answer.the-variants.{Refused}
 use Rattle.store.specs.Head.{Store}
 use Rattle.store.specs.Refusals.{firstMet}
 use Rattle.store.specs.Answers.{Answered}
-use Rattle.store.specs.Reading.{valueOf, pagesOf, totals, lookupRefusal, lookupIn}
+use Rattle.store.specs.Reading.{valueOf, pagesOf, totals, lookupIn}
 use Rattle.calls.specs.Grounds.{earlier, lookupInput, headGrounds}
 use Rattle.calls.specs.Bands.{answerOf}
 use Rattle.calls.proofs.Earlier.{by-first, by-second, neither}

@@ -4,14 +4,13 @@ use native.Mathlib.Omega.{arith}
 use mathlib.Core.Path.{_≡_, refl, ap, sym, _∙_}
 use mathlib.Core.Bool.{Bool, true, false, cond}
 use lib.Dec.{eqb}
-use Rattle.tree.specs.declared.types.Lookup.{Lookup}
 use Rattle.tree.specs.declared.types.Lookup.the-variants.{Spoiled, Found}
 use Rattle.tree.specs.Lookup.{lookup}
 use Rattle.store.specs.declared.types.Answer.the-variants.{Refused}
 use Rattle.store.specs.Head.{Store, startsTree, endsTree}
 use Rattle.store.specs.Refusals.{firstMet}
 use Rattle.store.specs.Answers.{Answered}
-use Rattle.store.specs.Reading.{totals, Four, fourLookups, fourSpoiled, fourValue, fourPages, questionRefusal, questionOf, askQuestion}
+use Rattle.store.specs.Reading.{totals, Four, fourLookups, fourSpoiled, fourValue, fourPages, questionOf, askQuestion}
 use Rattle.calls.specs.Grounds.{earlier, questionInput, headGrounds}
 use Rattle.calls.specs.Bands.{without, inBand, answerOf}
 use Rattle.calls.proofs.Earlier.{by-first, by-second, neither}

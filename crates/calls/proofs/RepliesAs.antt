@@ -1,12 +1,11 @@
 -- What a call hands back, from what its definition comes to.
 use Prim.Native.Nat.{ℕ}
-use mathlib.Core.Path.{_≡_, refl, sym, subst}
+use mathlib.Core.Path.{_≡_, refl, ap, sym, subst}
 use mathlib.Core.List.{List}
-use Rattle.store.specs.declared.types.Answer.the-variants.{Refused}
 use Rattle.store.specs.Head.{Store}
 use Rattle.store.specs.Answers.{Answered}
 use Rattle.calls.specs.declared.types.Reply.{Reply}
-use Rattle.calls.specs.Replies.{RepliedAs}
+use Rattle.calls.specs.Replies.{refusedReply, RepliedAs}
 use Rattle.calls.proofs.Outcomes.{refusedAs}
 
 pub replied : {a b : Answered} {r : Reply} {startTable startRoots endTable endRoots : List ℕ} → a ≡ b
@@ -14,7 +13,14 @@ pub replied : {a b : Answered} {r : Reply} {startTable startRoots endTable endRo
 replied {r = r} {startTable = st} {startRoots = sr} {endTable = et} {endRoots = er} e x = subst (λ (y : Answered). RepliedAs y r st sr et er) (sym e) x
 
 -- Refused, with the head and every lent word as before
-pub refused-reply : (s : Store) (n : ℕ)
-    → RepliedAs (refusedAs s n) (record { answer = Refused n; head = s .head }) (s .lent .startTable) (s .lent .startRoots) (s .lent .endTable)
-    (s .lent .endRoots)
-refused-reply s n = record { answer = refl; head = refl; start-table = refl; start-roots = refl; end-table = refl; end-roots = refl }
+pub refused-reply : (s : Store) (n : ℕ) {r : Reply} → r ≡ refusedReply n (s .head)
+    → RepliedAs (refusedAs s n) r (s .lent .startTable) (s .lent .startRoots) (s .lent .endTable) (s .lent .endRoots)
+refused-reply s n e =
+    record {
+      answer = ap (λ (x : Reply). x .answer) e;
+      head = ap (λ (x : Reply). x .head) e;
+      start-table = refl;
+      start-roots = refl;
+      end-table = refl;
+      end-roots = refl;
+    }

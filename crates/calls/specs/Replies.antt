@@ -3,6 +3,7 @@ use Prim.Native.Nat.{ℕ}
 use mathlib.Core.Path.{_≡_}
 use mathlib.Core.List.{List}
 use Rattle.store.specs.declared.types.Head.{Head}
+use Rattle.store.specs.declared.types.Answer.the-variants.{Refused}
 use Rattle.store.specs.Head.{Lent, Store}
 use Rattle.store.specs.Answers.{Answered}
 use Rattle.calls.specs.declared.types.Reply.{Reply}
@@ -15,6 +16,10 @@ lentOf startTable startRoots endTable endRoots =
 -- With a head
 abbrev pub storeOf : Head → List ℕ → List ℕ → List ℕ → List ℕ → Store
 storeOf head startTable startRoots endTable endRoots = record { head = head; lent = lentOf startTable startRoots endTable endRoots }
+
+-- "A refusal returns its number and no other field"
+abbrev pub refusedReply : ℕ → Head → Reply
+refusedReply number head = record { answer = Refused number; head = head }
 
 -- The answer, the head and every lent word afterwards are those that a definition says
 pub record RepliedAs (a : Answered) (r : Reply) (startTable startRoots endTable endRoots : List ℕ) : Type 0 where

@@ -38,10 +38,7 @@ pub fn open(
 {
     let refusal = opening_refusal(start_table, start_roots, end_table, end_roots);
     if refusal != 0 {
-        return Reply {
-            answer: Answer::Refused(refusal),
-            head,
-        };
+        return Reply::refused(refusal, head);
     }
     open_tree(start_table, start_roots);
     open_tree(end_table, end_roots);

@@ -1,7 +1,9 @@
-// The calls that enter a point: start and end. Every ground for a refusal is looked at before anything is written.
+// The calls that enter a point: a start into the tree of starts, an end into the tree of ends. Nothing is written before every refusal is
+// ruled out, and then nothing can go wrong.
 use crate::refusals::end_refusal;
 use crate::refusals::start_refusal;
 use crate::types::Reply;
+use enter::enter;
 use head::ended_head;
 use head::find_pass;
 use head::started_head;
@@ -9,13 +11,21 @@ use store::Answer;
 use store::FoundPass;
 use store::Head;
 use words::Value;
-ghost use Prim.Native.Nat.{_<_};
-ghost use Rattle.enter.specs.EnterRoot.{Planned};
-ghost use Rattle.store.specs.Head.{startsTree, openLimit, passLimit};
+ghost use mathlib.Core.Path.{_≡_};
 ghost use Rattle.store.specs.Writing.{pointOf, startPass, endPass};
 ghost use Rattle.calls.specs.Replies.{storeOf, RepliedAs};
 
-// A pass starts.
+// What a pass of a weight adds to a tree: a count of 1, and the weight.
+fn one_pass(weight: u32) -> Value
+    ensures { λ r. ⌜ r ≡ pointOf 0 0 weight .value ⌝ }
+{
+    Value {
+        count: 1,
+        sum: weight as u64,
+    }
+}
+
+// A pass starts. The answer is its number.
 pub fn start(
     head: Head,
     start_table: &mut [u64],
@@ -39,25 +49,19 @@ pub fn start(
         weight,
     );
     if refusal != 0 {
-        return Reply {
-            answer: Answer::Refused(refusal),
-            head,
-        };
+        return Reply::refused(refusal, head);
     }
-    let value = Value {
-        count: 1,
-        sum: weight as u64,
-    };
+    let value = one_pass(weight);
     let starts = head.starts;
-    let used = enter::enter(start_table, start_roots, starts, tick, key as u16, value);
-    let number = head.started;
+    let used = enter(start_table, start_roots, starts, tick, key as u16, value);
     Reply {
-        answer: Answer::Started(number),
+        answer: Answer::Started(head.started),
         head: started_head(head, used, tick, key, weight),
     }
 }
 
-// A pass ends.
+// The pass of a number ends. Its place is looked up again after the refusals, which hand back a number and nothing else; at most 64 places
+// are searched.
 pub fn end(
     head: Head,
     start_table: &[u64],
@@ -79,24 +83,15 @@ pub fn end(
         number,
     );
     if refusal != 0 {
-        return Reply {
-            answer: Answer::Refused(refusal),
-            head,
-        };
+        return Reply::refused(refusal, head);
     }
     let found = find_pass(head, number);
     let FoundPass::At { place, pass } = found else {
-        return Reply {
-            answer: Answer::Refused(22),
-            head,
-        };
+        return Reply::refused(22, head);
     };
-    let value = Value {
-        count: 1,
-        sum: pass.weight as u64,
-    };
+    let value = one_pass(pass.weight);
     let ends = head.ends;
-    let used = enter::enter(end_table, end_roots, ends, tick, pass.key as u16, value);
+    let used = enter(end_table, end_roots, ends, tick, pass.key as u16, value);
     Reply {
         answer: Answer::Ended,
         head: ended_head(head, used, tick, place),

@@ -1,4 +1,4 @@
-use mathlib.Core.Path.{_≡_, refl, sym, _∙_}
+use mathlib.Core.Path.{refl, sym, _∙_}
 use Rattle.store.specs.Head.{Store}
 use Rattle.store.proofs.OpeningTurns.{takes}
 use Rattle.calls.specs.Replies.{storeOf}
@@ -10,6 +10,9 @@ use Rattle.calls.proofs.opening.open.Tie as tie
 
 opening-refusal-requires : tie.Need-opening-refusal-requires
 opening-refusal-requires c κs = search needs
+
+refused-requires : tie.Need-refused-requires
+refused-requires c κs = search needs
 
 same-length : tie.Need-same-length
 same-length c = search needs
@@ -25,9 +28,9 @@ same-length-4 c = search needs
 
 returns : tie.Need-returns
 returns c =
-    let a = c .before .before .before .before .before .before .before .before .before .before .args in
+    let a = c .before .before .before .before .before .before .before .before .before .before .before .args in
     let s : Store = storeOf (a .head) (a .start-table .now) (a .start-roots .now) (a .end-table .now) (a .end-roots .now) in
-    replied (opening-refused s (c .before .opening-refusal .ensures) (c .if1 .taken)) (refused-reply s (c .before .opening-refusal .result))
+    replied (opening-refused s (c .before .before .opening-refusal .ensures) (c .before .if1 .taken)) (refused-reply s (c .before .before .opening-refusal .result) (c .refused .ensures))
 
 open-tree-requires : tie.Need-open-tree-requires
 open-tree-requires c κs =
@@ -79,6 +82,7 @@ open-spec =
     tie.close
     (tie.spec
     opening-refusal-requires
+    refused-requires
     same-length
     same-length-2
     same-length-3

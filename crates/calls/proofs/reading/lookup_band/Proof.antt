@@ -1,5 +1,5 @@
 use Prim.Native.Nat.{_-_}
-use mathlib.Core.Path.{ap₂, sym, _∙_}
+use mathlib.Core.Path.{ap₂, _∙_}
 use borrow.Author.Tests.{eq-eqb, ne-eqb}
 use Rattle.tree.specs.Tree.{Tree}
 use Rattle.lookup.proofs.LookupLaws.{root-found}
