@@ -1,0 +1,211 @@
+//! The library's six functions as they are declared in `nimbleshale.h`, and a store with its lent memory on which a call can be made by the
+//! library or by the port. Each test program uses a part of it.
+
+#![allow(dead_code)]
+
+use port::{Head, Lent, Totals};
+
+extern "C" {
+    fn nimbleshale_open(
+        last: &mut u32, started: &mut u32, open: &mut u32,
+        start_pages: &mut u32, start_roots: &mut u32, end_pages: &mut u32, end_roots: &mut u32,
+        passes: *mut u32, passes_length: usize,
+        start_table: *mut u64, start_table_length: usize, start_list: *mut u64, start_list_length: usize,
+        end_table: *mut u64, end_table_length: usize, end_list: *mut u64, end_list_length: usize,
+    ) -> u8;
+    fn nimbleshale_start(
+        last: &mut u32, started: &mut u32, open: &mut u32,
+        start_pages: &mut u32, start_roots: &mut u32, end_pages: &mut u32, end_roots: &mut u32,
+        passes: *mut u32, passes_length: usize,
+        start_table: *mut u64, start_table_length: usize, start_list: *mut u64, start_list_length: usize,
+        end_table: *mut u64, end_table_length: usize, end_list: *mut u64, end_list_length: usize,
+        tick: u32, key: u32, weight: u32, number: &mut u32,
+    ) -> u8;
+    fn nimbleshale_end(
+        last: &mut u32, started: &mut u32, open: &mut u32,
+        start_pages: &mut u32, start_roots: &mut u32, end_pages: &mut u32, end_roots: &mut u32,
+        passes: *mut u32, passes_length: usize,
+        start_table: *mut u64, start_table_length: usize, start_list: *mut u64, start_list_length: usize,
+        end_table: *mut u64, end_table_length: usize, end_list: *mut u64, end_list_length: usize,
+        tick: u32, number: u32,
+    ) -> u8;
+    fn nimbleshale_question(
+        last: u32, started: u32, open: u32, start_pages: u32, start_roots: u32, end_pages: u32, end_roots: u32,
+        passes: *const u32, passes_length: usize,
+        start_table: *const u64, start_table_length: usize, start_list: *const u64, start_list_length: usize,
+        end_table: *const u64, end_table_length: usize, end_list: *const u64, end_list_length: usize,
+        k1: u32, k2: u32, t1: u32, t2: u32, count: &mut u64, sum: &mut u64, pages: &mut u32,
+    ) -> u8;
+    fn nimbleshale_lookup_starts(
+        last: u32, started: u32, open: u32, start_pages: u32, start_roots: u32, end_pages: u32, end_roots: u32,
+        passes: *const u32, passes_length: usize,
+        start_table: *const u64, start_table_length: usize, start_list: *const u64, start_list_length: usize,
+        end_table: *const u64, end_table_length: usize, end_list: *const u64, end_list_length: usize,
+        t: u32, k: u32, count: &mut u64, sum: &mut u64, pages: &mut u32,
+    ) -> u8;
+    fn nimbleshale_lookup_ends(
+        last: u32, started: u32, open: u32, start_pages: u32, start_roots: u32, end_pages: u32, end_roots: u32,
+        passes: *const u32, passes_length: usize,
+        start_table: *const u64, start_table_length: usize, start_list: *const u64, start_list_length: usize,
+        end_table: *const u64, end_table_length: usize, end_list: *const u64, end_list_length: usize,
+        t: u32, k: u32, count: &mut u64, sum: &mut u64, pages: &mut u32,
+    ) -> u8;
+}
+
+/// A head and what is lent with it.
+#[derive(Clone, PartialEq, Eq)]
+pub struct Store {
+    pub head: Head,
+    pub passes: Vec<u32>,
+    pub start_table: Vec<u64>,
+    pub start_list: Vec<u64>,
+    pub end_table: Vec<u64>,
+    pub end_list: Vec<u64>,
+}
+
+#[derive(Clone, Copy, Debug, PartialEq, Eq)]
+pub enum Call {
+    Open,
+    Start { tick: u32, key: u32, weight: u32 },
+    End { tick: u32, number: u32 },
+    Question { k1: u32, k2: u32, t1: u32, t2: u32 },
+    LookupStarts { t: u32, k: u32 },
+    LookupEnds { t: u32, k: u32 },
+}
+
+/// What a call answers. A result that the call does not set stays `UNSET`.
+#[derive(Clone, Copy, Debug, PartialEq, Eq)]
+pub struct Answer {
+    pub refusal: u8,
+    pub number: u32,
+    pub totals: Totals,
+}
+
+const UNSET: u32 = 0xa5a5_a5a5;
+
+impl Answer {
+    pub fn unset(refusal: u8) -> Answer {
+        Answer { refusal, number: UNSET, totals: Totals { count: UNSET as u64, sum: UNSET as u64, pages: UNSET } }
+    }
+}
+
+/// The seven numbers and five slices of a store, lent.
+macro_rules! lent {
+    ($function:ident, $store:ident $(, $more:expr)*) => {{
+        let Store { head, passes, start_table, start_list, end_table, end_list } = $store;
+        unsafe {
+            $function(
+                &mut head.last, &mut head.started, &mut head.open,
+                &mut head.start_pages, &mut head.start_roots, &mut head.end_pages, &mut head.end_roots,
+                passes.as_mut_ptr(), passes.len(),
+                start_table.as_mut_ptr(), start_table.len(), start_list.as_mut_ptr(), start_list.len(),
+                end_table.as_mut_ptr(), end_table.len(), end_list.as_mut_ptr(), end_list.len()
+                $(, $more)*
+            )
+        }
+    }};
+}
+
+/// The same, only shown.
+macro_rules! shown {
+    ($function:ident, $store:ident, $totals:ident $(, $more:expr)*) => {{
+        let Store { head, passes, start_table, start_list, end_table, end_list } = &*$store;
+        unsafe {
+            $function(
+                head.last, head.started, head.open, head.start_pages, head.start_roots, head.end_pages, head.end_roots,
+                passes.as_ptr(), passes.len(),
+                start_table.as_ptr(), start_table.len(), start_list.as_ptr(), start_list.len(),
+                end_table.as_ptr(), end_table.len(), end_list.as_ptr(), end_list.len()
+                $(, $more)*, &mut $totals.count, &mut $totals.sum, &mut $totals.pages
+            )
+        }
+    }};
+}
+
+/// A call made by the library.
+#[inline]
+pub fn by_library(store: &mut Store, call: Call) -> Answer {
+    let Answer { mut number, mut totals, .. } = Answer::unset(0);
+    let refusal = match call {
+        Call::Open => lent!(nimbleshale_open, store),
+        Call::Start { tick, key, weight } => lent!(nimbleshale_start, store, tick, key, weight, &mut number),
+        Call::End { tick, number } => lent!(nimbleshale_end, store, tick, number),
+        Call::Question { k1, k2, t1, t2 } => shown!(nimbleshale_question, store, totals, k1, k2, t1, t2),
+        Call::LookupStarts { t, k } => shown!(nimbleshale_lookup_starts, store, totals, t, k),
+        Call::LookupEnds { t, k } => shown!(nimbleshale_lookup_ends, store, totals, t, k),
+    };
+    Answer { refusal, number, totals }
+}
+
+/// A call made by the port.
+#[inline]
+pub fn by_port(store: &mut Store, call: Call) -> Answer {
+    let Answer { mut number, mut totals, .. } = Answer::unset(0);
+    let Store { head, passes, start_table, start_list, end_table, end_list } = store;
+    let lent = Lent { passes, start_table, start_list, end_table, end_list };
+    let refusal = match call {
+        Call::Open => port::open(head, lent),
+        Call::Start { tick, key, weight } => port::start(head, lent, tick, key, weight, &mut number),
+        Call::End { tick, number } => port::end(head, lent, tick, number),
+        Call::Question { k1, k2, t1, t2 } => port::question(head, lent.seen(), k1, k2, t1, t2, &mut totals),
+        Call::LookupStarts { t, k } => port::lookup_starts(head, lent.seen(), t, k, &mut totals),
+        Call::LookupEnds { t, k } => port::lookup_ends(head, lent.seen(), t, k, &mut totals),
+    };
+    Answer { refusal, number, totals }
+}
+
+/// Words of a page.
+pub const PAGE_WORDS: usize = 260;
+
+impl Store {
+    /// Memory of so many pages and root entries a tree, all zero, with a head that fits nothing.
+    pub fn lent(pages: usize, roots: usize) -> Store {
+        Store {
+            head: Head::default(),
+            passes: vec![0; 256],
+            start_table: vec![0; PAGE_WORDS * pages],
+            start_list: vec![0; roots],
+            end_table: vec![0; PAGE_WORDS * pages],
+            end_list: vec![0; roots],
+        }
+    }
+}
+
+/// A small random generator (splitmix64), so that every run makes the same calls.
+pub struct Random(pub u64);
+
+impl Random {
+    pub fn word(&mut self) -> u64 {
+        self.0 = self.0.wrapping_add(0x9e37_79b9_7f4a_7c15);
+        let x = (self.0 ^ self.0 >> 30).wrapping_mul(0xbf58_476d_1ce4_e5b9);
+        let x = (x ^ x >> 27).wrapping_mul(0x94d0_49bb_1331_11eb);
+        x ^ x >> 31
+    }
+
+    /// A number below a limit.
+    pub fn below(&mut self, limit: u32) -> u32 {
+        (self.word() >> 32) as u32 % limit.max(1)
+    }
+
+    /// A number from one to another, both included.
+    pub fn between(&mut self, from: u32, to: u32) -> u32 {
+        from + (self.word() >> 32) as u32 % (to - from).saturating_add(1).max(1)
+    }
+
+    pub fn one_in(&mut self, of: u32) -> bool {
+        self.below(of) == 0
+    }
+
+    pub fn pick<'a, T>(&mut self, items: &'a [T]) -> &'a T {
+        &items[self.below(items.len() as u32) as usize]
+    }
+}
+
+extern "C" {
+    fn alarm(seconds: u32) -> u32;
+}
+
+/// Ends the program if it still runs after so many seconds: every call must end.
+pub fn end_after(seconds: u32) {
+    unsafe { alarm(seconds) };
+}

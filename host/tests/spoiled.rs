@@ -1,0 +1,113 @@
+//! Spoiled memory: random heads, tables and root lists, each call made by the library and by the port on the same store. The answer and every
+//! number and word must be the same; a refused call, a question and a lookup must leave everything as it was; and every call must end.
+//!
+//! spoiled [ROUNDS]
+
+mod library;
+mod made;
+mod shapes;
+
+use library::{by_library, by_port, end_after, Answer, Call, Random, Store, PAGE_WORDS};
+use std::collections::BTreeMap;
+
+/// A call with keys and ticks that the store's own words name, or close to them.
+fn call_on(random: &mut Random, store: &Store) -> Call {
+    let tick = near_tick(random, store);
+    let later = store.head.last.saturating_add(random.below(2));
+    match random.below(16) {
+        0 if random.one_in(20) => Call::Open,
+        0..=5 => Call::Start { tick: *random.pick(&[tick, store.head.last, later]), key: near_key(random, store), weight: random.between(1, 10_000) },
+        6..=9 => {
+            let place = random.below(store.head.open.min(64)) as usize;
+            let number = store.passes.get(4 * place).copied().unwrap_or(0);
+            Call::End { tick: *random.pick(&[tick, later, later]), number }
+        }
+        10 | 11 => Call::LookupStarts { t: tick, k: near_key(random, store) },
+        12 | 13 => Call::LookupEnds { t: tick, k: near_key(random, store) },
+        _ => {
+            let (k, l, u) = (near_key(random, store), near_key(random, store), near_tick(random, store));
+            Call::Question { k1: if random.one_in(4) { 0 } else { k.min(l) }, k2: k.max(l) + 1, t1: tick.min(u), t2: tick.max(u).saturating_add(1) }
+        }
+    }
+}
+
+/// A word of one of the tables.
+fn any_word(random: &mut Random, store: &Store, of_row: u32) -> u64 {
+    let (table, pages) = if random.one_in(2) {
+        (&store.start_table, store.head.start_pages)
+    } else {
+        (&store.end_table, store.head.end_pages)
+    };
+    let at = PAGE_WORDS * random.below(pages.min(1_000)) as usize + (4 + 4 * random.below(64) + of_row) as usize;
+    table.get(at).copied().unwrap_or(0)
+}
+
+fn near_key(random: &mut Random, store: &Store) -> u32 {
+    if random.one_in(4) {
+        return *random.pick(&[0, 1, 29_999, 15_000, 30_000]);
+    }
+    let word = any_word(random, store, 0) >> *random.pick(&[0, 16]);
+    let key = (word as u16 as u32 + random.below(3)).saturating_sub(1);
+    if random.one_in(50) { key } else { key.min(29_999) }
+}
+
+fn near_tick(random: &mut Random, store: &Store) -> u32 {
+    match random.below(8) {
+        0 => *random.pick(&[0, 0, u32::MAX - 1, u32::MAX]),
+        1..=5 => store.head.last.saturating_add(random.below(4)).saturating_sub(1),
+        _ => ((any_word(random, store, 1) >> *random.pick(&[0, 32])) as u32).saturating_add(random.below(3)).saturating_sub(1),
+    }
+}
+
+fn main() {
+    let rounds = std::env::args().nth(1).map_or(1, |rounds| rounds.parse().expect("ROUNDS is a number"));
+    end_after(60 * rounds);
+    let (mut compared, mut differed, mut written, mut split) = (0u64, 0u64, 0u64, 0u64);
+    let mut refusals: BTreeMap<u8, u64> = BTreeMap::new();
+    let stores = 12_000 * rounds as u64;
+    for seed in 0..stores {
+        let mut random = Random(seed);
+        let mut before = if random.one_in(3) { made::grown(&mut random) } else { made::random_trees(&mut random) };
+        for _ in 0..random.below(3) {
+            made::spoil(&mut random, &mut before);
+        }
+        let (mut library, mut port) = (before.clone(), before.clone());
+        for _ in 0..40 {
+            // A fault in the midst of calls, too.
+            if random.one_in(24) {
+                made::spoil(&mut random, &mut before);
+                library.clone_from(&before);
+                port.clone_from(&before);
+            }
+            let call = call_on(&mut random, &before);
+            let found = by_library(&mut library, call);
+            let wanted = by_port(&mut port, call);
+            *refusals.entry(wanted.refusal).or_default() += 1;
+            let writes = wanted.refusal == 0 && matches!(call, Call::Open | Call::Start { .. } | Call::End { .. });
+            let kept = writes && library == port || !writes && library == before && port == before;
+            let set = wanted.refusal == 0 || found == Answer::unset(found.refusal);
+            compared += 1;
+            if found != wanted || !kept || !set {
+                differed += 1;
+                if differed <= 10 {
+                    println!("differs: store {seed}, {call:?}: {found:?}, not {wanted:?}; memory as it should be: {kept}");
+                }
+                library.clone_from(&port);
+            }
+            if writes {
+                written += 1;
+                split += u64::from(port.head.start_pages > before.head.start_pages || port.head.end_pages > before.head.end_pages);
+                before.clone_from(&port);
+            } else if !kept {
+                library.clone_from(&before);
+                port.clone_from(&before);
+            }
+        }
+    }
+    let seen: Vec<String> = refusals.iter().filter(|seen| *seen.0 != 0).map(|(refusal, times)| format!("{refusal} × {times}")).collect();
+    println!(
+        "spoiled: {stores} stores, {written} accepted writes, {split} of them with splits, refusals {}: {compared} compared, {differed} differed",
+        seen.join(", ")
+    );
+    std::process::exit(i32::from(differed != 0));
+}

@@ -1,0 +1,270 @@
+/* The vectors of host/vectors: traces to the word, command streams byte for byte.
+ * vectors TRACES STREAMS, the traces unpacked */
+#define _DEFAULT_SOURCE
+#include "lent.h"
+
+#define UNTOUCHED 0xa5a5a5a5u
+
+static unsigned long compared, differed;
+
+static void judge(int same, const char *what)
+{
+    compared++;
+    if (!same) {
+        differed++;
+        if (differed <= 10)
+            printf("differs: %.200s\n", what);
+    }
+}
+
+/* The numbers of a line from `text` on, in a base. Returns how many; at most `limit` are kept. */
+static size_t numbers_of(const char *text, int base, uint64_t *numbers, size_t limit)
+{
+    size_t count = 0;
+    char *end;
+    for (;;) {
+        uint64_t number = strtoull(text, &end, base);
+        if (end == text)
+            return count;
+        if (count < limit)
+            numbers[count] = number;
+        count++;
+        text = end;
+    }
+}
+
+static void load_head(struct nimbleshale_store *store, const uint64_t *numbers)
+{
+    size_t place;
+    store->last = (uint32_t)numbers[0];
+    store->started = (uint32_t)numbers[1];
+    store->open = (uint32_t)numbers[2];
+    for (place = 0; place < NIMBLESHALE_OPEN_PASSES; place++) {
+        store->passes[place].number = (uint32_t)numbers[3 + 4 * place];
+        store->passes[place].key = (uint32_t)numbers[4 + 4 * place];
+        store->passes[place].weight = (uint32_t)numbers[5 + 4 * place];
+        store->passes[place].start = (uint32_t)numbers[6 + 4 * place];
+    }
+    store->start_pages = (uint32_t)numbers[259];
+    store->start_roots = (uint32_t)numbers[260];
+    store->end_pages = (uint32_t)numbers[261];
+    store->end_roots = (uint32_t)numbers[262];
+}
+
+/* A slice with the numbers of a line. */
+static uint64_t *load_slice(const char *text, size_t *length)
+{
+    uint64_t *slice;
+    *length = numbers_of(text, 16, NULL, 0);
+    slice = lend(8 * *length);
+    numbers_of(text, 16, slice, *length);
+    return slice;
+}
+
+/* Makes a call of a trace. The three numbers are those that the trace has after the refusal. */
+static uint8_t call_store(struct nimbleshale_store *store, char kind, const uint64_t *given, uint64_t *answers)
+{
+    struct nimbleshale_totals totals = {UNTOUCHED, UNTOUCHED, UNTOUCHED};
+    uint32_t number = UNTOUCHED, a = (uint32_t)given[0], b = (uint32_t)given[1], c = (uint32_t)given[2], d = (uint32_t)given[3];
+    uint8_t refusal = 255;
+    answers[0] = answers[1] = answers[2] = 0;
+    switch (kind) {
+    case 'o': return nimbleshale_open_store(store);
+    case 'e': return nimbleshale_record_end(store, a, b);
+    case 's':
+        refusal = nimbleshale_record_start(store, a, b, c, &number);
+        answers[0] = number;
+        if (refusal != 0 && number != UNTOUCHED)
+            return 255;
+        return refusal;
+    case 'l': refusal = a == 0 ? nimbleshale_look_up_starts(store, b, c, &totals) : nimbleshale_look_up_ends(store, b, c, &totals); break;
+    case 'q': refusal = nimbleshale_ask(store, a, b, c, d, &totals); break;
+    }
+    answers[0] = totals.count;
+    answers[1] = totals.sum;
+    answers[2] = totals.pages;
+    if (refusal != 0 && (totals.count != UNTOUCHED || totals.sum != UNTOUCHED || totals.pages != UNTOUCHED))
+        return 255;
+    return refusal;
+}
+
+/* A call's line: the call, what it must answer and what it must leave. */
+static void try_call(struct nimbleshale_store *store, const char *line)
+{
+    uint64_t given[4] = {0, 0, 0, 0}, expected[4] = {0, 0, 0, 0}, answers[3], digest;
+    const char *answer = strstr(line, " = "), *after = strstr(line, " # ");
+    uint8_t refusal;
+    if (answer == NULL || after == NULL) {
+        judge(0, line);
+        return;
+    }
+    numbers_of(line + 1, 10, given, 4);
+    numbers_of(answer + 3, 10, expected, 4);
+    numbers_of(after + 3, 10, &digest, 1);
+    refusal = call_store(store, line[0], given, answers);
+    judge(refusal == expected[0] && digest_store(store) == digest &&
+              (refusal != 0 || (answers[0] == expected[1] && answers[1] == expected[2] && answers[2] == expected[3])),
+          line);
+}
+
+static void try_traces(FILE *file)
+{
+    struct nimbleshale_store store;
+    uint64_t head[263];
+    char *line = NULL;
+    size_t room = 0, stores = 0, slices = 0;
+    while (getline(&line, &room, file) > 0) {
+        switch (line[0]) {
+        case 'S':
+            if (stores++ > 0)
+                give_back_store(&store);
+            slices = 0;
+            judge(numbers_of(line + 1, 16, head, 263) == 263, line);
+            load_head(&store, head);
+            break;
+        case 'P':
+        case 'R':
+            switch (slices++) {
+            case 0: store.start_table = load_slice(line + 1, &store.start_table_length); break;
+            case 1: store.start_list = load_slice(line + 1, &store.start_list_length); break;
+            case 2: store.end_table = load_slice(line + 1, &store.end_table_length); break;
+            case 3: store.end_list = load_slice(line + 1, &store.end_list_length); break;
+            }
+            break;
+        case 'o': case 's': case 'e': case 'l': case 'q':
+            try_call(&store, line);
+            break;
+        }
+    }
+    if (stores > 0)
+        give_back_store(&store);
+    free(line);
+    printf("vectors: %lu stores", (unsigned long)stores);
+}
+
+/* The command program of document 01, over a store of its own. */
+struct stream {
+    struct nimbleshale_store store;
+    const unsigned char *input;
+    size_t left;
+    unsigned char *output;
+    size_t written;
+};
+
+static uint32_t operand(const unsigned char *bytes, int count)
+{
+    return count == 0 ? 0 : bytes[0] + 256u * operand(bytes + 1, count - 1);
+}
+
+static void put_number(struct stream *stream, uint64_t number, int bytes)
+{
+    for (; bytes > 0; bytes--, number /= 256)
+        stream->output[stream->written++] = (unsigned char)(number % 256);
+}
+
+/* One command; 0 where nothing more is read. */
+static int run_command(struct stream *stream)
+{
+    static const size_t operands[4] = {0, 8, 8, 12};
+    const unsigned char *at = stream->input + 1;
+    struct nimbleshale_totals totals = {0, 0, 0};
+    uint32_t number = 0;
+    uint8_t refusal;
+    int kind = stream->input[0];
+    if (kind < 1 || kind > 3) {
+        put_number(stream, NIMBLESHALE_REFUSED_COMMAND, 1);
+        return 0;
+    }
+    if (stream->left - 1 < operands[kind]) {
+        put_number(stream, NIMBLESHALE_REFUSED_CUT_SHORT, 1);
+        return 0;
+    }
+    stream->input += 1 + operands[kind];
+    stream->left -= 1 + operands[kind];
+    if (kind == 1)
+        refusal = nimbleshale_record_start(&stream->store, operand(at, 4), operand(at + 4, 2), operand(at + 6, 2), &number);
+    else if (kind == 2)
+        refusal = nimbleshale_record_end(&stream->store, operand(at, 4), operand(at + 4, 4));
+    else
+        refusal = nimbleshale_ask(&stream->store, operand(at, 2), operand(at + 2, 2), operand(at + 4, 4), operand(at + 8, 4), &totals);
+    put_number(stream, refusal, 1);
+    if (refusal != 0)
+        return 1;
+    if (kind == 1)
+        put_number(stream, number, 4);
+    if (kind == 3) {
+        put_number(stream, totals.count, 8);
+        put_number(stream, totals.sum, 8);
+        put_number(stream, totals.pages, 1);
+    }
+    return 1;
+}
+
+/* The bytes of a word in hexadecimal; "-" is none. */
+static size_t bytes_of(const char *text, unsigned char *bytes)
+{
+    size_t count = 0;
+    unsigned byte;
+    for (; sscanf(text, "%2x", &byte) == 1; text += 2)
+        bytes[count++] = (unsigned char)byte;
+    return count;
+}
+
+static void try_streams(FILE *file)
+{
+    char *line = NULL;
+    size_t room = 0, streams = 0, commands = 0;
+    ssize_t length;
+    while ((length = getline(&line, &room, file)) > 0) {
+        struct stream stream;
+        unsigned char *input = malloc((size_t)length), *expected = malloc((size_t)length);
+        const char *name = strtok(line, " \n"), *in = strtok(NULL, " \n"), *out = strtok(NULL, " \n");
+        size_t wanted;
+        if (name == NULL || in == NULL || out == NULL || input == NULL || expected == NULL)
+            exit(2);
+        lend_store(&stream.store, NIMBLESHALE_TABLE_WORDS(12), 12, NIMBLESHALE_TABLE_WORDS(12), 12);
+        stream.input = input;
+        stream.left = bytes_of(in, input);
+        /* A command writes at most 18 bytes for its 13, so twice the input is room enough. */
+        stream.output = malloc(2 * stream.left + 2);
+        if (stream.output == NULL)
+            exit(2);
+        stream.written = 0;
+        wanted = bytes_of(out, expected);
+        judge(nimbleshale_open_store(&stream.store) == 0, name);
+        while (stream.left > 0) {
+            commands++;
+            if (!run_command(&stream))
+                break;
+        }
+        judge(stream.written == wanted && memcmp(stream.output, expected, wanted) == 0, name);
+        give_back_store(&stream.store);
+        free(stream.output);
+        free(input);
+        free(expected);
+        streams++;
+    }
+    free(line);
+    printf(", %lu streams of %lu commands", (unsigned long)streams, (unsigned long)commands);
+}
+
+static FILE *opened(const char *name)
+{
+    FILE *file = fopen(name, "r");
+    if (file == NULL) {
+        perror(name);
+        exit(2);
+    }
+    return file;
+}
+
+int main(int count, char **names)
+{
+    if (count != 3)
+        return 2;
+    alarm(60);
+    try_traces(opened(names[1]));
+    try_streams(opened(names[2]));
+    printf(": %lu compared, %lu differed\n", compared, differed);
+    return differed != 0 || compared < 2000;
+}
