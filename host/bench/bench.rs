@@ -1,0 +1,233 @@
+//! How fast the library is, beside the port and a plain list of passes.
+//!
+//! Every contender makes the same calls several times over. Of a call the best of its times counts, so that what else the machine does stays
+//! out of the figures; the mean and the slowest are over these. The time of reading the clock is subtracted.
+//!
+//! bench [LARGEST]: stores of up to so many passes
+
+#[path = "../tests/library.rs"]
+mod library;
+mod list;
+mod workload;
+
+use library::{by_library, by_port, Answer, Call, Store};
+use list::List;
+use std::hint::black_box;
+use std::time::Instant;
+use workload::{questions_past, questions_today, season, Question, SHAPES};
+
+const SIZES: [u32; 4] = [5_000, 50_000, 200_000, 1_000_000];
+const QUESTIONS: usize = 2_000;
+
+/// Something that takes the calls of a detector.
+trait Contender {
+    fn open(&mut self);
+    fn start(&mut self, tick: u32, key: u32, weight: u32) -> u32;
+    fn end(&mut self, tick: u32, number: u32);
+    fn question(&mut self, question: Question) -> (u64, u64, u32);
+}
+
+struct Library(Store);
+struct Port(Store);
+
+/// Both answer through the same store; only who makes the call differs.
+macro_rules! contender_by {
+    ($contender:ident, $made_by:ident) => {
+        impl Contender for $contender {
+            fn open(&mut self) {
+                accepted($made_by(&mut self.0, Call::Open));
+            }
+            #[inline]
+            fn start(&mut self, tick: u32, key: u32, weight: u32) -> u32 {
+                accepted($made_by(&mut self.0, Call::Start { tick, key, weight })).number
+            }
+            #[inline]
+            fn end(&mut self, tick: u32, number: u32) {
+                accepted($made_by(&mut self.0, Call::End { tick, number }));
+            }
+            #[inline]
+            fn question(&mut self, (k1, k2, t1, t2): Question) -> (u64, u64, u32) {
+                let totals = accepted($made_by(&mut self.0, Call::Question { k1, k2, t1, t2 })).totals;
+                (totals.count, totals.sum, totals.pages)
+            }
+        }
+    };
+}
+
+contender_by!(Library, by_library);
+contender_by!(Port, by_port);
+
+impl Contender for List {
+    fn open(&mut self) {
+        self.clear();
+    }
+    #[inline]
+    fn start(&mut self, tick: u32, key: u32, weight: u32) -> u32 {
+        List::start(self, tick, key, weight)
+    }
+    #[inline]
+    fn end(&mut self, tick: u32, number: u32) {
+        List::end(self, tick, number)
+    }
+    #[inline]
+    fn question(&mut self, (k1, k2, t1, t2): Question) -> (u64, u64, u32) {
+        let (count, sum) = List::question(self, k1, k2, t1, t2);
+        (count, sum, 0)
+    }
+}
+
+#[inline]
+fn accepted(answer: Answer) -> Answer {
+    assert!(answer.refusal == 0, "a call of the benchmark was refused: {}", answer.refusal);
+    answer
+}
+
+/// Mean and slowest, in nanoseconds.
+#[derive(Clone, Copy)]
+struct Time {
+    mean: f64,
+    slowest: f64,
+}
+
+impl Time {
+    fn of(times: &[u32], clock: f64) -> Time {
+        let less = |time: u32| (time as f64 - clock).max(0.0);
+        let slowest = times.iter().copied().max().map_or(0.0, less);
+        Time { mean: times.iter().copied().map(less).sum::<f64>() / times.len().max(1) as f64, slowest }
+    }
+}
+
+/// What one contender took: start, end, question on today's ticks, question on past ticks.
+struct Figures {
+    times: [Time; 4],
+    answers: Vec<(u64, u64)>,
+    /// Pages opened by a question, on the mean
+    pages: [f64; 2],
+}
+
+const OPERATIONS: [&str; 4] = ["start", "end", "question today", "question past"];
+
+#[inline]
+fn take_time(best: &mut u32, work: impl FnOnce()) {
+    let begin = Instant::now();
+    work();
+    *best = (*best).min(begin.elapsed().as_nanos() as u32);
+}
+
+/// What reading the clock takes by itself.
+fn clock_time() -> f64 {
+    let mut times = vec![u32::MAX; 10_000];
+    for time in &mut times {
+        take_time(time, || ());
+    }
+    times.sort_unstable();
+    times[times.len() / 2] as f64
+}
+
+fn measure(contender: &mut impl Contender, calls: &[Call], questions: [&[Question]; 2], runs: u32, clock: f64) -> Figures {
+    let (mut start_times, mut end_times) = (vec![u32::MAX; calls.len()], vec![u32::MAX; calls.len()]);
+    for _ in 0..runs {
+        contender.open();
+        let (mut starts, mut ends) = (start_times.iter_mut(), end_times.iter_mut());
+        for &call in calls {
+            match call {
+                Call::Start { tick, key, weight } => take_time(starts.next().unwrap(), || {
+                    black_box(contender.start(tick, key, weight));
+                }),
+                Call::End { tick, number } => take_time(ends.next().unwrap(), || contender.end(tick, number)),
+                _ => (),
+            }
+        }
+    }
+    start_times.retain(|&time| time != u32::MAX);
+    end_times.retain(|&time| time != u32::MAX);
+    let mut answers = Vec::new();
+    let mut pages = [0.0; 2];
+    let mut asked = |at: usize| {
+        let mut times = vec![u32::MAX; questions[at].len()];
+        for run in 0..runs {
+            for (&question, time) in questions[at].iter().zip(&mut times) {
+                let mut answer = (0, 0, 0);
+                take_time(time, || answer = black_box(contender.question(black_box(question))));
+                if run == 0 {
+                    answers.push((answer.0, answer.1));
+                    pages[at] += answer.2 as f64 / questions[at].len() as f64;
+                }
+            }
+        }
+        Time::of(&times, clock)
+    };
+    let (today, past) = (asked(0), asked(1));
+    Figures { times: [Time::of(&start_times, clock), Time::of(&end_times, clock), today, past], answers, pages }
+}
+
+fn shown(nanoseconds: f64) -> String {
+    match nanoseconds {
+        n if n < 1_000.0 => format!("{n:.0} ns"),
+        n if n < 1_000_000.0 => format!("{:.2} us", n / 1_000.0),
+        n => format!("{:.2} ms", n / 1_000_000.0),
+    }
+}
+
+/// An empty store with as many pages as a tree of so many points may use: at most 4 + 4n/9.
+fn roomy_store(passes: u32) -> Store {
+    let pages = 4 + 4 * passes as usize / 9;
+    Store::lent(pages, pages)
+}
+
+/// One shape at one size. Returns the library's times.
+fn compare(shape: workload::Shape, name: &str, passes: u32, clock: f64) -> [Time; 4] {
+    let calls = season(shape, passes);
+    let last = calls.iter().map(|call| if let Call::Start { tick, .. } | Call::End { tick, .. } = *call { tick } else { 0 }).max().unwrap();
+    let (today, past) = (questions_today(shape, last, QUESTIONS), questions_past(shape, last, QUESTIONS));
+    let runs = if passes > 200_000 { 2 } else { 3 };
+    let mut library = Library(roomy_store(passes));
+    let by_library = measure(&mut library, &calls, [&today, &past], runs, clock);
+    let head = library.0.head;
+    drop(library);
+    let by_port = measure(&mut Port(roomy_store(passes)), &calls, [&today, &past], runs, clock);
+    // A question to the list takes long, so it gets fewer of them.
+    let few = (QUESTIONS as u64 * 20_000 / passes as u64).clamp(50, QUESTIONS as u64) as usize;
+    let by_list = measure(&mut List::default(), &calls, [&today[..few], &past[..few]], runs, clock);
+    let same = by_library.answers == by_port.answers
+        && by_library.answers[..few] == by_list.answers[..few]
+        && by_library.answers[QUESTIONS..][..few] == by_list.answers[few..];
+    assert!(same, "the answers differ");
+
+    let pages = head.start_pages + head.end_pages;
+    let bytes = (2_080 * pages as u64 + 8 * (head.start_roots + head.end_roots) as u64) as f64 / passes as f64;
+    println!("\n{name}, {passes} passes: {bytes:.0} bytes a pass; {} pages and {} roots of starts", head.start_pages, head.start_roots);
+    println!(
+        "{:16}{:>10}{:>10}{:>12}{:>10}{:>12}{:>10}{:>10}{:>10}{:>8}",
+        "", "lib mean", "slowest", "port mean", "slowest", "list mean", "slowest", "lib/port", "list/lib", "pages"
+    );
+    for (at, operation) in OPERATIONS.iter().enumerate() {
+        let (lib, port, list) = (by_library.times[at], by_port.times[at], by_list.times[at]);
+        let opened = if at < 2 { String::new() } else { format!("{:.1}", by_library.pages[at - 2]) };
+        println!(
+            "{operation:16}{:>10}{:>10}{:>12}{:>10}{:>12}{:>10}{:>10.2}{:>10.2}{opened:>8}",
+            shown(lib.mean), shown(lib.slowest), shown(port.mean), shown(port.slowest), shown(list.mean), shown(list.slowest),
+            lib.mean / port.mean, list.mean / lib.mean
+        );
+    }
+    by_library.times
+}
+
+fn main() {
+    let largest: u32 = std::env::args().nth(1).map_or(u32::MAX, |largest| largest.parse().expect("LARGEST is a number"));
+    let sizes: Vec<u32> = SIZES.into_iter().filter(|&size| size <= largest).collect();
+    let clock = clock_time();
+    println!("Reading the clock takes {clock:.0} ns, which is subtracted. Of each call the best of 3 runs counts, of 2 at 1000000 passes.");
+    for (shape, name) in SHAPES {
+        let times: Vec<[Time; 4]> = sizes.iter().map(|&size| compare(shape, name, size, clock)).collect();
+        println!("\n{name}, growth of the library's mean time from size to size:");
+        for (at, operation) in OPERATIONS.iter().enumerate() {
+            let steps: Vec<String> = sizes
+                .windows(2)
+                .zip(times.windows(2))
+                .map(|(sizes, times)| format!("{} to {}: {:.2}", sizes[0], sizes[1], times[1][at].mean / times[0][at].mean))
+                .collect();
+            println!("{operation:16}{}", steps.join("   "));
+        }
+    }
+}

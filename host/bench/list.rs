@@ -1,0 +1,65 @@
+//! The plain list: every pass in arrays, added up on demand.
+
+/// Passes as arrays, in order of their starts. Ends are kept as signed numbers in the same order, since the processor compares those faster;
+/// an open pass has the highest.
+#[derive(Default)]
+pub struct List {
+    starts: Vec<u32>,
+    ends: Vec<i32>,
+    keys: Vec<u16>,
+    weights: Vec<u16>,
+}
+
+const OPEN: u32 = u32::MAX;
+
+/// Passes that are added up in 32 bits: their weights, at most 10,000 each, cannot overflow.
+const BLOCK: usize = 4096;
+
+fn ordered(tick: u32) -> i32 {
+    (tick ^ 1 << 31) as i32
+}
+
+impl List {
+    pub fn clear(&mut self) {
+        self.starts.clear();
+        self.ends.clear();
+        self.keys.clear();
+        self.weights.clear();
+    }
+
+    pub fn start(&mut self, tick: u32, key: u32, weight: u32) -> u32 {
+        self.starts.push(tick);
+        self.ends.push(ordered(OPEN));
+        self.keys.push(key as u16);
+        self.weights.push(weight as u16);
+        self.starts.len() as u32 - 1
+    }
+
+    pub fn end(&mut self, tick: u32, number: u32) {
+        self.ends[number as usize] = ordered(tick);
+    }
+
+    /// Starts rise, so the passes that started before t2 are found by halves; of those, all are looked at.
+    pub fn question(&self, k1: u32, k2: u32, t1: u32, t2: u32) -> (u64, u64) {
+        let upto = self.starts.partition_point(|&start| start < t2);
+        let blocks = self.keys[..upto].chunks(BLOCK).zip(self.ends[..upto].chunks(BLOCK)).zip(self.weights[..upto].chunks(BLOCK));
+        let (low, width, after) = (k1 as u16, (k2 - k1) as u16, ordered(t1));
+        let mut totals = (0, 0);
+        for ((keys, ends), weights) in blocks {
+            let (count, sum) = add_block(keys, ends, weights, low, width, after);
+            totals = (totals.0 + count as u64, totals.1 + sum as u64);
+        }
+        totals
+    }
+}
+
+/// Without branches, so that the compiler takes several passes at once.
+fn add_block(keys: &[u16], ends: &[i32], weights: &[u16], low: u16, width: u16, after: i32) -> (u32, u32) {
+    let (mut count, mut sum) = (0, 0);
+    for ((&key, &end), &weight) in keys.iter().zip(ends).zip(weights) {
+        let meets = u32::from((key.wrapping_sub(low) < width) & (end > after));
+        count += meets;
+        sum += meets.wrapping_neg() & weight as u32;
+    }
+    (count, sum)
+}

@@ -1,0 +1,147 @@
+/*
+ * How deep each call goes into the stack. Calls are made on a thread whose stack is memory of this program: the part below the caller is
+ * filled with a pattern before each call, and the lowest byte that is no longer the pattern tells how far the call went. The figure has
+ * what the caller pushes as arguments in it.
+ *
+ * The store is grown with rising keys to trees four pages high, and each call is measured; the deepest one counts.
+ */
+#define _POSIX_C_SOURCE 200809L
+#include <nimbleshale.h>
+#include <pthread.h>
+#include <stdio.h>
+
+#define PAGES 8000
+#define PASSES 29000u
+#define PAINTED 65536
+#define PATTERN 0xa5a5a5a5a5a5a5a5u
+
+static uint64_t start_table[NIMBLESHALE_TABLE_WORDS(PAGES)], end_table[NIMBLESHALE_TABLE_WORDS(PAGES)];
+static uint64_t start_list[PAGES], end_list[PAGES];
+static uint64_t stack_memory[131072 / 4];
+
+static struct nimbleshale_store store;
+static struct nimbleshale_totals totals;
+static uint32_t tick, key, number;
+
+/* A function with a frame of its own. */
+#define FRAMED __attribute__((noinline))
+
+/* The stack pointer of the caller when it makes a call. */
+static unsigned char *caller;
+
+/* Finds it: the saved frame pointer of this function stands two words below. */
+static FRAMED uint8_t find_caller(void)
+{
+    caller = (unsigned char *)__builtin_frame_address(0) + 16;
+    return 0;
+}
+
+static FRAMED uint8_t call_open(void)
+{
+    return nimbleshale_open_store(&store);
+}
+
+static FRAMED uint8_t call_start(void)
+{
+    return nimbleshale_record_start(&store, tick, key, 100, &number);
+}
+
+static FRAMED uint8_t call_end(void)
+{
+    return nimbleshale_record_end(&store, tick, number);
+}
+
+static FRAMED uint8_t call_question(void)
+{
+    return nimbleshale_ask(&store, 1 + key / 2, key + 2, tick / 2, tick + 1, &totals);
+}
+
+static FRAMED uint8_t call_lookup_starts(void)
+{
+    return nimbleshale_look_up_starts(&store, tick, key, &totals);
+}
+
+static FRAMED uint8_t call_lookup_ends(void)
+{
+    return nimbleshale_look_up_ends(&store, tick, key, &totals);
+}
+
+enum { FIND_CALLER, OPEN, START, END, QUESTION, LOOKUP_STARTS, LOOKUP_ENDS, CALLS };
+
+static const struct {
+    const char *name;
+    uint8_t (*make)(void);
+} calls[CALLS] = {
+    {"", find_caller},
+    {"nimbleshale_open", call_open},
+    {"nimbleshale_start", call_start},
+    {"nimbleshale_end", call_end},
+    {"nimbleshale_question", call_question},
+    {"nimbleshale_lookup_starts", call_lookup_starts},
+    {"nimbleshale_lookup_ends", call_lookup_ends},
+};
+
+static size_t deepest[CALLS];
+static unsigned refused;
+
+/* Paints what is below, makes a call, and looks how far it went. Loops on volatile words: a function would use the stack itself. */
+static FRAMED void measure(int which)
+{
+    volatile uint64_t *top, *bottom, *at;
+    size_t depth;
+    calls[FIND_CALLER].make();
+    top = (volatile uint64_t *)(void *)caller;
+    bottom = top - PAINTED / 8;
+    for (at = bottom; at < top; at++)
+        *at = PATTERN;
+    if (calls[which].make() != 0)
+        refused++;
+    for (at = bottom; at < top && *at == PATTERN;)
+        at++;
+    depth = (size_t)(top - at) * 8;
+    if (depth > deepest[which])
+        deepest[which] = depth;
+}
+
+static void *run(void *unused)
+{
+    uint32_t pass;
+    (void)unused;
+    measure(OPEN);
+    for (pass = 0; pass < PASSES; pass++) {
+        tick = 10 * pass + 1;
+        key = pass + 1;
+        measure(START);
+        tick += 5;
+        measure(END);
+        if (pass % 50 == 0 || pass == PASSES - 1) {
+            measure(QUESTION);
+            measure(LOOKUP_STARTS);
+            measure(LOOKUP_ENDS);
+        }
+    }
+    return NULL;
+}
+
+int main(void)
+{
+    pthread_attr_t attributes;
+    pthread_t thread;
+    int call;
+    store.start_table = start_table;
+    store.end_table = end_table;
+    store.start_table_length = store.end_table_length = NIMBLESHALE_TABLE_WORDS(PAGES);
+    store.start_list = start_list;
+    store.end_list = end_list;
+    store.start_list_length = store.end_list_length = PAGES;
+    if (pthread_attr_init(&attributes) != 0 || pthread_attr_setstack(&attributes, stack_memory, sizeof stack_memory) != 0 ||
+        pthread_create(&thread, &attributes, run, NULL) != 0 || pthread_join(thread, NULL) != 0) {
+        perror("thread");
+        return 2;
+    }
+    printf("\nStack below the caller, arguments included; deepest of %u starts and ends, trees %u pages high:\n", 2 * PASSES,
+           (unsigned)start_table[NIMBLESHALE_PAGE_WORDS * (size_t)(start_list[store.start_roots - 1] >> 32)] + 1);
+    for (call = OPEN; call < CALLS; call++)
+        printf("%-28s%6lu bytes\n", calls[call].name, (unsigned long)deepest[call]);
+    return refused != 0;
+}
