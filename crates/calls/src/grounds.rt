@@ -1,10 +1,10 @@
-// The grounds of a refusal, in number order: each function returns the number of the first ground that is met among its own, and 0 where
-// none is.
+// The grounds that numbers alone decide, those of the input and of the head's own numbers. Each function tests its grounds in number order
+// and returns the number of the first that is met, or 0.
 ghost use mathlib.Core.Path.{_≡_};
 ghost use Rattle.store.specs.Refusals.{firstMet};
 ghost use Rattle.calls.specs.Grounds.{startInput, endInput, questionInput, lookupInput, startState};
 
-// Of the input of a start.
+// The input of a start: 1, 3, 4.
 pub fn start_input(tick: u32, key: u32, weight: u32) -> u8
     ensures { λ r. ⌜ r ≡ firstMet (startInput tick key weight) ⌝ }
 {
@@ -23,7 +23,7 @@ pub fn start_input(tick: u32, key: u32, weight: u32) -> u8
     0
 }
 
-// Of the input of an end. Any number may be that of a pass.
+// The input of an end: 4. Any number may be that of a pass.
 pub fn end_input(tick: u32) -> u8
     ensures { λ r. ⌜ r ≡ firstMet (endInput tick) ⌝ }
 {
@@ -33,7 +33,7 @@ pub fn end_input(tick: u32) -> u8
     0
 }
 
-// Of the input of a question.
+// The input of a question: 1, 2, 5. The tick 4,294,967,295 may be its t2, which is not included.
 pub fn question_input(k1: u32, k2: u32, t1: u32, t2: u32) -> u8
     ensures { λ r. ⌜ r ≡ firstMet (questionInput k1 k2 t1 t2) ⌝ }
 {
@@ -52,7 +52,7 @@ pub fn question_input(k1: u32, k2: u32, t1: u32, t2: u32) -> u8
     0
 }
 
-// Of the input of a lookup.
+// The input of a lookup: 1, 4.
 pub fn lookup_input(t: u32, k: u32) -> u8
     ensures { λ r. ⌜ r ≡ firstMet (lookupInput t k) ⌝ }
 {
@@ -65,7 +65,7 @@ pub fn lookup_input(t: u32, k: u32) -> u8
     0
 }
 
-// Of a start, in a head that fits: its last tick, its open passes and the passes started.
+// A start, by the head's last tick, open passes and passes started: 21, 24, 25. The head fits by then, so `count` is at most 64.
 pub fn start_state(last: u32, count: u32, started: u32, tick: u32) -> u8
     ensures { λ r. ⌜ r ≡ firstMet (startState last count started tick) ⌝ }
 {

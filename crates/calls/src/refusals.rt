@@ -1,5 +1,5 @@
-// The refusal lists of the calls: the number of the first ground that is met, and 0 where none is. What a later ground reads is only
-// looked at where no earlier one is met: a head is trusted after 20, and a plan is made last.
+// The refusal lists: the number of the first ground that is met, or 0. What a ground reads is looked at only where no earlier one is met,
+// since only then may it be trusted: the head after 20, the open passes and the trees after that. The plan, which opens pages, comes last.
 use crate::grounds::end_input;
 use crate::grounds::start_input;
 use crate::grounds::start_state;
@@ -30,7 +30,7 @@ fn too_small(table: &[u64], roots: &[u64]) -> bool
     roots.len() < 1
 }
 
-// Of an opening.
+// The refusal of an opening. Both trees are tested before either is written.
 pub fn opening_refusal(
     start_table: &[u64],
     start_roots: &[u64],
@@ -48,7 +48,7 @@ pub fn opening_refusal(
     0
 }
 
-// 20, after the refusal that the input calls for, if any.
+// 20, unless the input calls for a refusal already.
 pub fn head_refusal(
     head: Head,
     start_table: &[u64],
@@ -91,7 +91,7 @@ fn list_refusal(places: usize, used: u32) -> u8
     0
 }
 
-// 26, 27 and 28, of a call that enters a point into a tree as planned.
+// 26, 27 and 28: what the plan of an entry says of the pages met, of the pages left and of the root list.
 fn entry_refusal(table: &[u64], roots: &[u64], used: TreeUse, plan: Plan) -> u8
     requires { ⌜ used .pages ≤ wholePages (now table) ⌝ }
     requires { ⌜ used .pages ≤ pageLimit ⌝ }
@@ -110,7 +110,7 @@ fn entry_refusal(table: &[u64], roots: &[u64], used: TreeUse, plan: Plan) -> u8
     }
 }
 
-// Of a start.
+// The refusal of a start.
 pub fn start_refusal(
     head: Head,
     start_table: &[u64],
@@ -137,7 +137,7 @@ pub fn start_refusal(
     entry_refusal(start_table, start_roots, used, plan)
 }
 
-// Of an end.
+// The refusal of an end. The pass gives the key of the point to plan.
 pub fn end_refusal(
     head: Head,
     start_table: &[u64],

@@ -60,8 +60,7 @@ pub fn start(
     }
 }
 
-// The pass of a number ends. Its place is looked up again after the refusals, which hand back a number and nothing else; at most 64 places
-// are searched.
+// The pass of a number ends. The refusals hand back no more than a number, so the pass is found a second time, among at most 64.
 pub fn end(
     head: Head,
     start_table: &[u64],
@@ -87,6 +86,7 @@ pub fn end(
     }
     let found = find_pass(head, number);
     let FoundPass::At { place, pass } = found else {
+        // 22 is ruled out by now
         return Reply::refused(22, head);
     };
     let value = one_pass(pass.weight);

@@ -114,7 +114,7 @@ module _ (tree : Tree) (t k low high page : ℕ) where
         ap (onward total pages) (from-above level h e) ∙ deeper v (lookupFrom tree t k (level - 1) (row .low) (row .high) (row .child))
 
 -- Below the root a lookup does not look into the root list
-pub from-roots : (table : List ℕ) (used : TreeUse) (a b : List ℕ) (t k level low high page : ℕ)
+from-roots : (table : List ℕ) (used : TreeUse) (a b : List ℕ) (t k level low high page : ℕ)
     → lookupFrom (record { table = table; roots = a; used = used }) t k level low high page
     ≡ lookupFrom (record { table = table; roots = b; used = used }) t k level low high page
 unfolding lookupFrom

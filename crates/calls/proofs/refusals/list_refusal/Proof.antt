@@ -14,4 +14,3 @@ returns-2 c = search (needs, tests)
 
 pub list-refusal-spec : {M : Type 1} → statement M
 list-refusal-spec = tie.close (tie.spec returns returns-2)
--- x
