@@ -1,3 +1,6 @@
 -- Laws of the commands' code.
 pub mod ByteLaws
 pub mod AnswerLaws
+pub mod KindLaws
+pub mod RunLaws
+pub mod OutputLength
