@@ -1,9 +1,9 @@
 //! How fast the library is, beside the port and a plain list of passes.
 //!
-//! Every contender makes the same calls several times over. Of a call the best of its times counts, so that what else the machine does stays
-//! out of the figures; the mean and the slowest are over these. The time of reading the clock is subtracted.
+//! The contenders make the same calls several times over, in turn. Of a call the best of its times counts, so that what else the machine does
+//! stays out of the figures; the mean and the slowest are over these. The time of reading the clock is subtracted.
 //!
-//! bench [LARGEST]: stores of up to so many passes
+//! bench [LARGEST [RUNS]]: stores of up to so many passes; how often each contender makes the calls, 3 times where not said
 
 #[path = "../tests/library.rs"]
 mod library;
@@ -97,12 +97,13 @@ impl Time {
     }
 }
 
-/// What one contender took: start, end, question on today's ticks, question on past ticks.
+/// What one contender took and answered.
 struct Figures {
-    times: [Time; 4],
+    /// The best time of each start, each end, each question on today's ticks and each on past ticks
+    best: [Vec<u32>; 4],
     answers: Vec<(u64, u64)>,
-    /// Pages opened by a question, on the mean
-    pages: [f64; 2],
+    /// Pages opened by all questions on today's ticks and on past ticks
+    pages: [u64; 2],
 }
 
 const OPERATIONS: [&str; 4] = ["start", "end", "question today", "question past"];
@@ -124,11 +125,21 @@ fn clock_time() -> f64 {
     times[times.len() / 2] as f64
 }
 
-fn measure(contender: &mut impl Contender, calls: &[Call], questions: [&[Question]; 2], runs: u32, clock: f64) -> Figures {
-    let (mut start_times, mut end_times) = (vec![u32::MAX; calls.len()], vec![u32::MAX; calls.len()]);
-    for _ in 0..runs {
+impl Figures {
+    fn new(starts: usize, ends: usize, questions: usize) -> Figures {
+        let best = [starts, ends, questions, questions].map(|count| vec![u32::MAX; count]);
+        Figures { best, answers: Vec::new(), pages: [0; 2] }
+    }
+
+    fn times(&self, clock: f64) -> [Time; 4] {
+        [0, 1, 2, 3].map(|at| Time::of(&self.best[at], clock))
+    }
+
+    /// Makes all calls once.
+    fn run(&mut self, contender: &mut impl Contender, calls: &[Call], questions: [&[Question]; 2]) {
+        let [starts, ends, today, past] = &mut self.best;
+        let (mut starts, mut ends) = (starts.iter_mut(), ends.iter_mut());
         contender.open();
-        let (mut starts, mut ends) = (start_times.iter_mut(), end_times.iter_mut());
         for &call in calls {
             match call {
                 Call::Start { tick, key, weight } => take_time(starts.next().unwrap(), || {
@@ -138,27 +149,17 @@ fn measure(contender: &mut impl Contender, calls: &[Call], questions: [&[Questio
                 _ => (),
             }
         }
-    }
-    start_times.retain(|&time| time != u32::MAX);
-    end_times.retain(|&time| time != u32::MAX);
-    let mut answers = Vec::new();
-    let mut pages = [0.0; 2];
-    let mut asked = |at: usize| {
-        let mut times = vec![u32::MAX; questions[at].len()];
-        for run in 0..runs {
-            for (&question, time) in questions[at].iter().zip(&mut times) {
+        self.answers.clear();
+        self.pages = [0; 2];
+        for (at, times) in [today, past].into_iter().enumerate() {
+            for (&question, time) in questions[at].iter().zip(times) {
                 let mut answer = (0, 0, 0);
                 take_time(time, || answer = black_box(contender.question(black_box(question))));
-                if run == 0 {
-                    answers.push((answer.0, answer.1));
-                    pages[at] += answer.2 as f64 / questions[at].len() as f64;
-                }
+                self.answers.push((answer.0, answer.1));
+                self.pages[at] += answer.2 as u64;
             }
         }
-        Time::of(&times, clock)
-    };
-    let (today, past) = (asked(0), asked(1));
-    Figures { times: [Time::of(&start_times, clock), Time::of(&end_times, clock), today, past], answers, pages }
+    }
 }
 
 fn shown(nanoseconds: f64) -> String {
@@ -176,24 +177,26 @@ fn roomy_store(passes: u32) -> Store {
 }
 
 /// One shape at one size. Returns the library's times.
-fn compare(shape: workload::Shape, name: &str, passes: u32, clock: f64) -> [Time; 4] {
+fn compare(shape: workload::Shape, name: &str, passes: u32, runs: u32, clock: f64) -> [Time; 4] {
     let calls = season(shape, passes);
     let last = calls.iter().map(|call| if let Call::Start { tick, .. } | Call::End { tick, .. } = *call { tick } else { 0 }).max().unwrap();
     let (today, past) = (questions_today(shape, last, QUESTIONS), questions_past(shape, last, QUESTIONS));
-    let runs = if passes > 200_000 { 2 } else { 3 };
-    let mut library = Library(roomy_store(passes));
-    let by_library = measure(&mut library, &calls, [&today, &past], runs, clock);
-    let head = library.0.head;
-    drop(library);
-    let by_port = measure(&mut Port(roomy_store(passes)), &calls, [&today, &past], runs, clock);
+    let ends = calls.iter().filter(|call| matches!(call, Call::End { .. })).count();
     // A question to the list takes long, so it gets fewer of them.
     let few = (QUESTIONS as u64 * 20_000 / passes as u64).clamp(50, QUESTIONS as u64) as usize;
-    let by_list = measure(&mut List::default(), &calls, [&today[..few], &past[..few]], runs, clock);
+    let (mut library, mut port, mut list) = (Library(roomy_store(passes)), Port(roomy_store(passes)), List::default());
+    let [mut by_library, mut by_port, mut by_list] = [QUESTIONS, QUESTIONS, few].map(|asked| Figures::new(passes as usize, ends, asked));
+    for _ in 0..runs {
+        by_library.run(&mut library, &calls, [&today, &past]);
+        by_port.run(&mut port, &calls, [&today, &past]);
+        by_list.run(&mut list, &calls, [&today[..few], &past[..few]]);
+    }
     let same = by_library.answers == by_port.answers
         && by_library.answers[..few] == by_list.answers[..few]
         && by_library.answers[QUESTIONS..][..few] == by_list.answers[few..];
     assert!(same, "the answers differ");
 
+    let head = library.0.head;
     let pages = head.start_pages + head.end_pages;
     let bytes = (2_080 * pages as u64 + 8 * (head.start_roots + head.end_roots) as u64) as f64 / passes as f64;
     println!("\n{name}, {passes} passes: {bytes:.0} bytes a pass; {} pages and {} roots of starts", head.start_pages, head.start_roots);
@@ -201,25 +204,30 @@ fn compare(shape: workload::Shape, name: &str, passes: u32, clock: f64) -> [Time
         "{:16}{:>10}{:>10}{:>12}{:>10}{:>12}{:>10}{:>10}{:>10}{:>8}",
         "", "lib mean", "slowest", "port mean", "slowest", "list mean", "slowest", "lib/port", "list/lib", "pages"
     );
+    let (lib_times, port_times, list_times) = (by_library.times(clock), by_port.times(clock), by_list.times(clock));
     for (at, operation) in OPERATIONS.iter().enumerate() {
-        let (lib, port, list) = (by_library.times[at], by_port.times[at], by_list.times[at]);
-        let opened = if at < 2 { String::new() } else { format!("{:.1}", by_library.pages[at - 2]) };
+        let (lib, port, list) = (lib_times[at], port_times[at], list_times[at]);
+        let opened = if at < 2 { String::new() } else { format!("{:.1}", by_library.pages[at - 2] as f64 / QUESTIONS as f64) };
         println!(
             "{operation:16}{:>10}{:>10}{:>12}{:>10}{:>12}{:>10}{:>10.2}{:>10.2}{opened:>8}",
             shown(lib.mean), shown(lib.slowest), shown(port.mean), shown(port.slowest), shown(list.mean), shown(list.slowest),
             lib.mean / port.mean, list.mean / lib.mean
         );
     }
-    by_library.times
+    lib_times
 }
 
 fn main() {
-    let largest: u32 = std::env::args().nth(1).map_or(u32::MAX, |largest| largest.parse().expect("LARGEST is a number"));
+    let argument = |place, default| std::env::args().nth(place).map_or(default, |text| text.parse().expect("LARGEST and RUNS are numbers"));
+    let (largest, runs): (u32, u32) = (argument(1, u32::MAX), argument(2, 3));
     let sizes: Vec<u32> = SIZES.into_iter().filter(|&size| size <= largest).collect();
     let clock = clock_time();
-    println!("Reading the clock takes {clock:.0} ns, which is subtracted. Of each call the best of 3 runs counts, of 2 at 1000000 passes.");
+    println!("Reading the clock takes {clock:.0} ns, which is subtracted. Of each call the best of {runs} runs counts.");
     for (shape, name) in SHAPES {
-        let times: Vec<[Time; 4]> = sizes.iter().map(|&size| compare(shape, name, size, clock)).collect();
+        let times: Vec<[Time; 4]> = sizes.iter().map(|&size| compare(shape, name, size, runs, clock)).collect();
+        if sizes.len() < 2 {
+            continue;
+        }
         println!("\n{name}, growth of the library's mean time from size to size:");
         for (at, operation) in OPERATIONS.iter().enumerate() {
             let steps: Vec<String> = sizes

@@ -1,6 +1,6 @@
 //! Entering a planned point into one tree: document 01, "Entering a point", steps 2 to 8.
 
-use crate::page::{row_start, value_at, Order};
+use crate::page::{row_start, value_at, Entry, Order};
 use crate::plan::{Plan, Step};
 use crate::words::{
     birth_of, high_key, key_range, low_key, page_of, page_of_mut, pair, row_keys, upper_half, Value, APPENDED, COPIED, HEADER_WORDS, KEYS,
@@ -117,16 +117,16 @@ fn split(table: &mut [u64], pages: &mut u32, copy: &[u64; COPY_WORDS], t: u32) -
     let count = order.count();
     if count <= COPIED {
         let child = Child { page: *pages, low, high };
-        put_page(table, pages, copy, order.places(), child, Value::default(), t);
+        put_page(table, pages, copy, order.rows(), child, Value::default(), t);
         return Became::Copied(child);
     }
     let half = count - count / 2;
-    let middle = order.places().nth(half).map_or(high, |place| low_key(copy[row_start(place)]));
+    let middle = order.rows().nth(half).map_or(high, |row| row.low);
     let lower = Child { page: *pages, low, high: middle };
     let upper = Child { page: *pages + 1, low: middle, high };
-    let total = order.places().take(half).fold(Value::default(), |sum, place| sum.plus(value_at(copy, place)));
-    put_page(table, pages, copy, order.places().take(half), lower, Value::default(), t);
-    put_page(table, pages, copy, order.places().skip(half), upper, total, t);
+    let total = order.rows().take(half).fold(Value::default(), |sum, row| sum.plus(value_at(copy, row.place)));
+    put_page(table, pages, copy, order.rows().take(half), lower, Value::default(), t);
+    put_page(table, pages, copy, order.rows().skip(half), upper, total, t);
     Became::Halved(lower, upper)
 }
 
@@ -135,19 +135,19 @@ fn put_page(
     table: &mut [u64],
     pages: &mut u32,
     copy: &[u64; COPY_WORDS],
-    places: impl ExactSizeIterator<Item = usize>,
+    rows: impl ExactSizeIterator<Item = Entry>,
     child: Child,
     gain: Value,
     t: u32,
 ) {
     let page = page_of_mut(table, *pages);
-    let rows = places.len();
-    page[..HEADER_WORDS].copy_from_slice(&[copy[0], rows as u64, key_range(child.low, child.high), t as u64]);
-    for (row, place) in page[HEADER_WORDS..].chunks_exact_mut(ROW_WORDS).zip(places) {
-        let from = row_start(place);
-        row.copy_from_slice(&[copy[from], pair(t, OPEN), copy[from + 2], copy[from + 3]]);
+    let count = rows.len();
+    page[..HEADER_WORDS].copy_from_slice(&[copy[0], count as u64, key_range(child.low, child.high), t as u64]);
+    for (words, row) in page[HEADER_WORDS..].chunks_exact_mut(ROW_WORDS).zip(rows) {
+        let from = row_start(row.place);
+        words.copy_from_slice(&[copy[from], pair(t, OPEN), copy[from + 2], copy[from + 3]]);
     }
-    page[row_start(rows)..].fill(0);
+    page[row_start(count)..].fill(0);
     let first = value_at(page, 0).plus(gain);
     page[row_start(0) + 2] = first.count;
     page[row_start(0) + 3] = first.sum;

@@ -1,7 +1,7 @@
 //! The lookup of one tree.
 
 use crate::page::{row_start, tested, value_at};
-use crate::words::{birth_of, high_key, low_key, page_of, upper_half, Value, KEYS, TOP_LEVEL};
+use crate::words::{birth_of, page_of, upper_half, Value, KEYS, TOP_LEVEL};
 
 /// A tree as it is read: its page table, the root entries in use, and the pages in use.
 #[derive(Clone, Copy)]
@@ -55,23 +55,16 @@ pub fn lookup(tree: Tree, root: Root, t: u32, k: u32) -> Option<Found> {
         let page = page_of(tree.table, number);
         let order = tested(page, level, low, high, t)?;
         // A tested page holds each key of its range once, and k is in the range.
-        let held = order.places().find(|&place| {
-            let keys = page[row_start(place)];
-            (low_key(keys) <= k) & (k < high_key(keys))
-        })?;
-        let keys = page[row_start(held)];
+        let held = order.rows().find(|row| (row.low <= k) & (k < row.high))?;
         // The true value: the row's own, and those of the live rows with a lower low key.
-        found.value = found.value.plus(value_at(page, held));
-        for place in order.places() {
-            if low_key(page[row_start(place)]) >= low_key(keys) {
-                break;
-            }
-            found.value = found.value.plus(value_at(page, place));
+        found.value = found.value.plus(value_at(page, held.place));
+        for row in order.rows().take_while(|row| row.low < held.low) {
+            found.value = found.value.plus(value_at(page, row.place));
         }
         found.pages += 1;
         if level == 0 {
             return Some(found);
         }
-        (number, level, low, high) = (upper_half(keys), level - 1, low_key(keys), high_key(keys));
+        (number, level, low, high) = (upper_half(page[row_start(held.place)]), level - 1, held.low, held.high);
     }
 }

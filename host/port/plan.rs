@@ -76,9 +76,8 @@ fn meet(tree: Tree, number: u32, level: u64, low: u32, high: u32, t: u32, k: u32
     }
     let page = page_of(tree.table, number);
     let order = tested(page, level, low, high, t)?;
-    let keys = |place: &usize| page[row_start(*place)];
-    let inner = order.places().find(|place| (low_key(keys(place)) < k) & (k < high_key(keys(place))));
-    let gain = order.places().find(|place| k <= low_key(keys(place)));
+    let inner = order.rows().find(|row| (row.low < k) & (k < row.high)).map(|row| row.place);
+    let gain = order.rows().find(|row| k <= row.low).map(|row| row.place);
     let appends = |place: Option<usize>| place.map_or(0, |place| usize::from(birth_of(page[row_start(place) + 1]) != t));
     Some(Step {
         page: number,
