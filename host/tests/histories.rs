@@ -193,7 +193,7 @@ impl Counts {
 }
 
 /// A history of so many calls on a store that is opened first. Where `whole`, the store is compared word for word after a refusal and after a
-/// call that only reads; now and then it is opened anew.
+/// call that only reads, and it is opened anew now and then.
 fn history(seed: u64, mut shape: Shape, mut store: Store, calls: u32, whole: bool, counts: &mut Counts) {
     let mut random = Random(!seed);
     let mut book = Book::default();
@@ -213,7 +213,9 @@ fn history(seed: u64, mut shape: Shape, mut store: Store, calls: u32, whole: boo
         }
         let written = wanted.refusal == 0 && matches!(call, Call::Open | Call::Start { .. } | Call::End { .. });
         let kept = if written { head_is_of(&store, &book) } else { before.is_none_or(|before| before == store) };
-        let exact = !matches!(found.refusal, 27 | 28) || lacks_room(&store, call, found.refusal);
+        // A copy of a large store takes long, so that not every one is made.
+        let tried = matches!(found.refusal, 27 | 28) && (whole || random.one_in(8));
+        let exact = !tried || lacks_room(&store, call, found.refusal);
         counts.judge(found == wanted && kept && exact, seed, call, found, wanted);
     }
     let started: Vec<u32> = book.passes.iter().map(|pass| pass.key).collect();
