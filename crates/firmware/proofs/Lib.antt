@@ -1,3 +1,3 @@
 -- Laws of the head as numbers.
 pub mod HeadNumbers
-pub mod DoorLaws
+pub mod ExportedLaws

@@ -1,3 +1,3 @@
 -- The store as firmware in C calls it.
 pub mod Heads
-pub mod Doors
+pub mod Exported

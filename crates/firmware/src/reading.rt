@@ -6,7 +6,7 @@ ghost use mathlib.Core.Path.{_≡_};
 ghost use lib.ListN.{length};
 ghost use Rattle.store.specs.Reading.{askQuestion, lookUpStarts, lookUpEnds};
 ghost use Rattle.firmware.specs.Heads.{passNumbers};
-ghost use Rattle.firmware.specs.Doors.{storeIn, Tells, Shut};
+ghost use Rattle.firmware.specs.Exported.{storeIn, Tells, Shut};
 
 // Writes an answer's totals, and returns its refusal, 0 for none.
 fn tell(answer: Answer, count: &mut u64, sum: &mut u64, pages: &mut u32) -> u8

@@ -8,7 +8,7 @@ ghost use lib.ListN.{length};
 ghost use Rattle.store.specs.Answers.{refusalOf};
 ghost use Rattle.store.specs.Writing.{openStore, startPass, endPass};
 ghost use Rattle.firmware.specs.Heads.{passNumbers};
-ghost use Rattle.firmware.specs.Doors.{storeIn, numberSaid, Leaves, Kept};
+ghost use Rattle.firmware.specs.Exported.{storeIn, numberSaid, Leaves, Kept};
 
 // An answer's refusal, 0 for none.
 fn refusal_of(answer: Answer) -> u8

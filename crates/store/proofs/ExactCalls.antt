@@ -30,7 +30,7 @@ use Rattle.store.specs.Demand.{pagesMade, ListFull, Exact, ExactCall}
 use Rattle.store.proofs.RefusalLaws.{Numbered}
 use Rattle.store.proofs.OpenPasses.{openOf, openPass, find-ended, find-open}
 use Rattle.store.proofs.Agreement.{Agrees, opens-anew}
-use Rattle.store.proofs.LookupTotals.{starts-light, ends-light, starts-length, ends-length, exact-lookup}
+use Rattle.store.proofs.LookupTotals.{starts-lookup, ends-lookup}
 use Rattle.store.proofs.Turns.{opensAs, startsAs, endsAs, asksAs, looksAs}
 use Rattle.store.proofs.LookupTurns.{InBounds, in-bounds, lookup-refusal, none-spoiled}
 use Rattle.store.proofs.QuestionTurns.{asked, question-refusal, never-spoiled}
@@ -136,8 +136,7 @@ lookup-starts-exact s b t k wide a =
     lookup-exact s b t k (lookup (startsTree s) t k) (startsTree s) a
     (λ e.
     let i = in-bounds t k wide e in
-    ap isSpoiled (exact-lookup (startPoints (b .passes)) (starts-light (b .last) (b .passes) (a .kept))
-    (omega (arith, starts-length (b .passes), a .few)) (startsTree s) (b .last) (a .starts) t k (i .tick) (i .key)))
+    ap isSpoiled (starts-lookup s b a t k (i .tick) (i .key)))
 
 pub lookup-ends-exact : (s : Store) (b : Book) (t k : ℕ) → t ≤ openEnd → Agrees s b
     → ExactCall s b (lookupEnds t k)
@@ -146,8 +145,7 @@ lookup-ends-exact s b t k wide a =
     lookup-exact s b t k (lookup (endsTree s) t k) (endsTree s) a
     (λ e.
     let i = in-bounds t k wide e in
-    ap isSpoiled (exact-lookup (endPoints (b .passes)) (ends-light (b .last) (b .passes) (a .kept))
-    (omega (arith, ends-length (b .passes), a .few)) (endsTree s) (b .last) (a .ends) t k (i .tick) (i .key)))
+    ap isSpoiled (ends-lookup s b a t k (i .tick) (i .key)))
 
 pub question-exact : (s : Store) (b : Book) (k1 k2 t1 t2 : ℕ) → t2 ≤ openEnd → Agrees s b
     → ExactCall s b (question k1 k2 t1 t2)

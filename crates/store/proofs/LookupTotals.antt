@@ -18,12 +18,13 @@ use Rattle.tree.specs.Lookup.{lookup}
 use Rattle.tree.specs.Path.{path}
 use Rattle.tree.specs.Grown.{grow}
 use Rattle.tree.proofs.Main.{lookup-adds}
-use Rattle.store.specs.Head.{passLimit, weightLimit}
+use Rattle.store.specs.Head.{Store, startsTree, endsTree, passLimit, weightLimit}
 use Rattle.store.specs.Passes.{End, stillOpen, endedAt, Pass, sumWhere}
 use Rattle.store.specs.Points.{startPoint, endPointsOf, startPoints, endPoints, lookupCount, lookupSum}
+use Rattle.store.specs.Book.{Book}
 use Rattle.store.proofs.SumLaws.{sum-where-most, total-is-sum}
 use Rattle.store.proofs.OpenPasses.{PassKept}
-use Rattle.store.proofs.Agreement.{TreeTook}
+use Rattle.store.proofs.Agreement.{TreeTook, Agrees}
 
 -- A point counts 1 and weighs at most 10,000
 pub record Light (p : Point) : Type 0 where
@@ -96,3 +97,21 @@ module _ (points : List Point) (light : All Light points) (few : length points �
           let c = number countOf count-measure passLimit (omega arith) (count-most (dominated t k)) in
           let s = number sumOf sum-measure 10000000000 (omega arith) (sum-most (dominated t k)) in
           λ i. record { count = c i; sum = s i }
+
+-- In a store that agrees with a book, the lookup of each tree gives the totals of the points that the book says the tree took
+module _ (s : Store) (b : Book) (a : Agrees s b) where
+  pub starts-lookup : (t k : ℕ) → t < openEnd → k < keyLimit
+      → lookup (startsTree s) t k
+      ≡ Found (record { count = lookupCount t k (startPoints (b .passes)); sum = lookupSum t k (startPoints (b .passes)) })
+      (length (path (startsTree s) t k))
+  starts-lookup =
+      exact-lookup (startPoints (b .passes)) (starts-light (b .last) (b .passes) (a .kept)) (omega (arith, starts-length (b .passes), a .few))
+      (startsTree s) (b .last) (a .starts)
+
+  pub ends-lookup : (t k : ℕ) → t < openEnd → k < keyLimit
+      → lookup (endsTree s) t k
+      ≡ Found (record { count = lookupCount t k (endPoints (b .passes)); sum = lookupSum t k (endPoints (b .passes)) })
+      (length (path (endsTree s) t k))
+  ends-lookup =
+      exact-lookup (endPoints (b .passes)) (ends-light (b .last) (b .passes) (a .kept)) (omega (arith, ends-length (b .passes), a .few))
+      (endsTree s) (b .last) (a .ends)

@@ -24,7 +24,7 @@ use Rattle.store.specs.Book as book
 use Rattle.store.specs.Book.{Book, BookTurn, lookupGrounds, bookPart, bookRefusal, bookTurn}
 use Rattle.store.proofs.RefusalLaws.{first-refuses, first-passes, none-met}
 use Rattle.store.proofs.Agreement.{Agrees, head-fits}
-use Rattle.store.proofs.LookupTotals.{starts-light, ends-light, starts-length, ends-length, exact-lookup}
+use Rattle.store.proofs.LookupTotals.{starts-lookup, ends-lookup}
 use Rattle.store.proofs.Turns.{looksAs, AlikeAt, TurnAlike, both-refuse, both-do, alike-at}
 
 -- A tick and a key that a lookup is not refused for
@@ -79,12 +79,10 @@ pub lookup-starts-alike : (s : Store) (b : Book) (t k : ℕ) → t ≤ openEnd �
 unfolding lookUpStarts bookTurn bookRefusal
 lookup-starts-alike s b t k wide a =
     lookup-alike s b t k wide a (startPoints (b .passes)) (lookup (startsTree s) t k) (length (path (startsTree s) t k))
-    (λ i. exact-lookup (startPoints (b .passes)) (starts-light (b .last) (b .passes) (a .kept))
-    (omega (arith, starts-length (b .passes), a .few)) (startsTree s) (b .last) (a .starts) t k (i .tick) (i .key))
+    (λ i. starts-lookup s b a t k (i .tick) (i .key))
 
 pub lookup-ends-alike : (s : Store) (b : Book) (t k : ℕ) → t ≤ openEnd → Agrees s b → TurnAlike s b (lookupEnds t k)
 unfolding lookUpEnds bookTurn bookRefusal
 lookup-ends-alike s b t k wide a =
     lookup-alike s b t k wide a (endPoints (b .passes)) (lookup (endsTree s) t k) (length (path (endsTree s) t k))
-    (λ i. exact-lookup (endPoints (b .passes)) (ends-light (b .last) (b .passes) (a .kept))
-    (omega (arith, ends-length (b .passes), a .few)) (endsTree s) (b .last) (a .ends) t k (i .tick) (i .key))
+    (λ i. ends-lookup s b a t k (i .tick) (i .key))

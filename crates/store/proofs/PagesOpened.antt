@@ -11,11 +11,10 @@ use Rattle.words.specs.declared.value.Value.{Value}
 use Rattle.tree.specs.declared.types.Lookup.{Lookup}
 use Rattle.tree.specs.declared.types.Lookup.the-variants.{Found}
 use Rattle.tree.specs.Tree.{Tree}
-use Rattle.tree.specs.RowSteps.{Point}
 use Rattle.tree.specs.Lookup.{lookup}
 use Rattle.tree.specs.Path.{path}
 use Rattle.store.specs.declared.types.Answer.{Answer}
-use Rattle.store.specs.Head.{Store, startsTree, endsTree, passLimit}
+use Rattle.store.specs.Head.{Store, startsTree, endsTree}
 use Rattle.store.specs.Refusals.{_gives_, firstMet}
 use Rattle.store.specs.Answers.{refusalOf, Answered, unlessRefused}
 use Rattle.store.specs.Writing.{openingRefusal, openStore, startRefusal, startPass, endRefusal, endPass}
@@ -25,8 +24,8 @@ use Rattle.store.specs.Points.{startPoints, endPoints}
 use Rattle.store.specs.Book.{Book, lookupGrounds, questionGrounds}
 use Rattle.store.specs.Demand.{pathsOf, pagesOn, pagesSaid, Opens}
 use Rattle.store.proofs.RefusalLaws.{first-refuses, first-passes}
-use Rattle.store.proofs.Agreement.{TreeTook, Agrees}
-use Rattle.store.proofs.LookupTotals.{Light, starts-light, ends-light, starts-length, ends-length, exact-lookup}
+use Rattle.store.proofs.Agreement.{Agrees}
+use Rattle.store.proofs.LookupTotals.{starts-lookup, ends-lookup}
 use Rattle.store.proofs.LookupTurns.{InBounds, in-bounds, lookup-refusal, none-spoiled}
 use Rattle.store.proofs.QuestionTurns.{Asked, asked, question-refusal, never-spoiled, high-starts, high-ends, low-starts, low-ends}
 use Rattle.store.proofs.Turns.{opensAs, startsAs, endsAs, asksAs, looksAs}
@@ -92,11 +91,7 @@ unfolding lookUpStarts
 lookup-starts-opens s b t k wide a =
     let h =
     lookup-says s b t k wide a (lookup (startsTree s) t k) (length (path (startsTree s) t k))
-    (λ i. (
-      _,
-      exact-lookup (startPoints (b .passes)) (starts-light (b .last) (b .passes) (a .kept))
-          (omega (arith, starts-length (b .passes), a .few)) (startsTree s) (b .last) (a .starts) t k (i .tick) (i .key),
-    ))
+    (λ i. (_, starts-lookup s b a t k (i .tick) (i .key)))
     (λ i. took-short (startsTree s) (b .last) (startPoints (b .passes)) (a .starts) t k (i .tick) (i .key)) in
     record { said = h .0; most = h .1 }
 
@@ -105,11 +100,7 @@ unfolding lookUpEnds
 lookup-ends-opens s b t k wide a =
     let h =
     lookup-says s b t k wide a (lookup (endsTree s) t k) (length (path (endsTree s) t k))
-    (λ i. (
-      _,
-      exact-lookup (endPoints (b .passes)) (ends-light (b .last) (b .passes) (a .kept))
-          (omega (arith, ends-length (b .passes), a .few)) (endsTree s) (b .last) (a .ends) t k (i .tick) (i .key),
-    ))
+    (λ i. (_, ends-lookup s b a t k (i .tick) (i .key)))
     (λ i. took-short (endsTree s) (b .last) (endPoints (b .passes)) (a .ends) t k (i .tick) (i .key)) in
     record { said = h .0; most = h .1 }
 

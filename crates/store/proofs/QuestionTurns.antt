@@ -34,7 +34,7 @@ use Rattle.store.proofs.QuestionSums.{StartedBefore, passAmount, addedB
 use Rattle.store.proofs.OpenPasses.{PassKept}
 use Rattle.store.proofs.RefusalLaws.{first-refuses, first-passes, none-met}
 use Rattle.store.proofs.Agreement.{Agrees, head-fits}
-use Rattle.store.proofs.LookupTotals.{Light, starts-light, ends-light, starts-length, ends-length, count-most, sum-most, exact-lookup}
+use Rattle.store.proofs.LookupTotals.{Light, starts-light, ends-light, starts-length, ends-length, count-most, sum-most, starts-lookup, ends-lookup}
 use Rattle.store.proofs.Turns.{asksAs, TurnAlike, both-refuse, both-do, alike-at}
 use Rattle.store.proofs.LookupTurns.{none-spoiled}
 
@@ -143,25 +143,25 @@ module _ (s : Store) (b : Book) (a : Agrees s b) (k1 k2 t1 t2 : ℕ) (ask : Aske
 
   pub high-starts : q .startsBelowHigh ≡ Found (at (t2 - 1) (k2 - 1) sp) (length (path (startsTree s) (t2 - 1) (k2 - 1)))
   high-starts =
-      exact-lookup sp s-light s-few (startsTree s) (b .last) (a .starts) (t2 - 1) (k2 - 1)
+      starts-lookup s b a (t2 - 1) (k2 - 1)
       (omega (arith, ask .wide, ask .ticks)) (omega (arith, ask .high, ask .band))
 
   pub high-ends : q .endsBelowHigh ≡ Found (at t1 (k2 - 1) ep) (length (path (endsTree s) t1 (k2 - 1)))
   high-ends =
-      exact-lookup ep e-light e-few (endsTree s) (b .last) (a .ends) t1 (k2 - 1)
+      ends-lookup s b a t1 (k2 - 1)
       (omega (arith, ask .wide, ask .ticks)) (omega (arith, ask .high, ask .band))
 
   pub low-starts : q .startsBelowLow
       ≡ Found (unlessZero k1 (at (t2 - 1) (k1 - 1) sp)) (cond (eqb k1 0) 0 (length (path (startsTree s) (t2 - 1) (k1 - 1))))
   low-starts =
       below-found k1 (lookup (startsTree s) (t2 - 1) (k1 - 1)) _ _
-      (exact-lookup sp s-light s-few (startsTree s) (b .last) (a .starts) (t2 - 1) (k1 - 1)
+      (starts-lookup s b a (t2 - 1) (k1 - 1)
       (omega (arith, ask .wide, ask .ticks)) (omega (arith, ask .low)))
 
   pub low-ends : q .endsBelowLow ≡ Found (unlessZero k1 (at t1 (k1 - 1) ep)) (cond (eqb k1 0) 0 (length (path (endsTree s) t1 (k1 - 1))))
   low-ends =
       below-found k1 (lookup (endsTree s) t1 (k1 - 1)) _ _
-      (exact-lookup ep e-light e-few (endsTree s) (b .last) (a .ends) t1 (k1 - 1)
+      (ends-lookup s b a t1 (k1 - 1)
       (omega (arith, ask .wide, ask .ticks)) (omega (arith, ask .low)))
 
   pub never-spoiled : fourSpoiled q ≡ false

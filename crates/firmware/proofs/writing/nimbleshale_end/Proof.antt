@@ -2,8 +2,8 @@ use Prim.Native.Nat.{ℕ}
 use mathlib.Core.Path.{refl, ap, _∙_}
 use Rattle.store.specs.Head.{Store}
 use Rattle.store.specs.Writing.{endPass}
-use Rattle.firmware.specs.Doors.{storeIn}
-use Rattle.firmware.proofs.DoorLaws.{end-unchanged, handed, leaves-refused, leaves-done}
+use Rattle.firmware.specs.Exported.{storeIn}
+use Rattle.firmware.proofs.ExportedLaws.{end-unchanged, handed, leaves-refused, leaves-done}
 use borrow.Author.Needs.{needs}
 use Rattle.firmware.proofs.writing.nimbleshale_end.Statement.{statement}
 use Rattle.firmware.proofs.writing.nimbleshale_end.Tie as tie

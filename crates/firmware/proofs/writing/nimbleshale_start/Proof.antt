@@ -2,8 +2,8 @@ use Prim.Native.Nat.{ℕ}
 use mathlib.Core.Path.{refl, ap, _∙_}
 use Rattle.store.specs.Head.{Store}
 use Rattle.store.specs.Writing.{startPass}
-use Rattle.firmware.specs.Doors.{storeIn, numberSaid}
-use Rattle.firmware.proofs.DoorLaws.{start-unchanged, handed, leaves-refused, leaves-done, start-number-kept}
+use Rattle.firmware.specs.Exported.{storeIn, numberSaid}
+use Rattle.firmware.proofs.ExportedLaws.{start-unchanged, handed, leaves-refused, leaves-done, start-number-kept}
 use borrow.Author.Needs.{needs}
 use Rattle.firmware.proofs.writing.nimbleshale_start.Statement.{statement}
 use Rattle.firmware.proofs.writing.nimbleshale_start.Tie as tie

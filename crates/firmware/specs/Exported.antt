@@ -20,28 +20,7 @@ pub record Slices : Type 0 where
 abbrev pub storeIn : Fields → List ℕ → Slices → Store
 storeIn f passes m = storeOf (headOf f passes) (m .startTable) (m .startList) (m .endTable) (m .endList)
 
--- The fields of an answer; where it has none, what stood in the lent number before
-abbrev pub countSaid : ℕ → Answer → ℕ
-countSaid old (Refused n) = old
-countSaid old Opened = old
-countSaid old (Started n) = old
-countSaid old Ended = old
-countSaid old (Totals count sum pages) = count
-
-abbrev pub sumSaid : ℕ → Answer → ℕ
-sumSaid old (Refused n) = old
-sumSaid old Opened = old
-sumSaid old (Started n) = old
-sumSaid old Ended = old
-sumSaid old (Totals count sum pages) = sum
-
-abbrev pub pagesSaid : ℕ → Answer → ℕ
-pagesSaid old (Refused n) = old
-pagesSaid old Opened = old
-pagesSaid old (Started n) = old
-pagesSaid old Ended = old
-pagesSaid old (Totals count sum pages) = pages
-
+-- The pass number of an answer; where it has none, what stood in the lent number before
 abbrev pub numberSaid : ℕ → Answer → ℕ
 numberSaid old (Refused n) = old
 numberSaid old Opened = old
@@ -55,12 +34,20 @@ pub record Told : Type 0 where
   pub sum : ℕ
   pub pages : ℕ
 
+-- An answer's totals; where it has none, what stood in the lent numbers before
+abbrev pub totalsTold : Told → Answer → Told
+totalsTold old (Refused n) = old
+totalsTold old Opened = old
+totalsTold old (Started n) = old
+totalsTold old Ended = old
+totalsTold old (Totals count sum pages) = record { count = count; sum = sum; pages = pages }
+
 -- A reading call that answers a: the refusal, and the totals
 pub record Tells (a : Answer) (r : ℕ) (before after : Told) : Type 0 where
   pub refusal : r ≡ refusalOf a
-  pub count : after .count ≡ countSaid (before .count) a
-  pub sum : after .sum ≡ sumSaid (before .sum) a
-  pub pages : after .pages ≡ pagesSaid (before .pages) a
+  pub count : after .count ≡ totalsTold before a .count
+  pub sum : after .sum ≡ totalsTold before a .sum
+  pub pages : after .pages ≡ totalsTold before a .pages
 
 -- A list of open passes of another length than 256 numbers is no head: 20, and nothing changes
 pub record Shut (r : ℕ) (before after : Told) : Type 0 where

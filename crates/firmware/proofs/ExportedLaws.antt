@@ -14,7 +14,7 @@ use Rattle.store.proofs.Turns.{opensAs, startsAs, endsAs}
 use Rattle.calls.specs.declared.types.Reply.{Reply}
 use Rattle.calls.specs.Replies.{storeOf, RepliedAs}
 use Rattle.firmware.specs.Heads.{Fields, passNumbers, headOf, fieldsOf, numbersOf}
-use Rattle.firmware.specs.Doors.{Slices, storeIn, numberSaid, Told, Tells, Leaves}
+use Rattle.firmware.specs.Exported.{Slices, storeIn, numberSaid, Told, Tells, Leaves}
 use Rattle.firmware.proofs.HeadNumbers.{numbers-back}
 
 pub told : {a b : Answer} {r : ℕ} {before after : Told} → a ≡ b → Tells a r before after → Tells b r before after
