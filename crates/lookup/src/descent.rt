@@ -8,7 +8,7 @@ use words::Value;
 ghost use mathlib.Core.Path.{_≡_};
 ghost use mathlib.Core.List.{[]};
 ghost use mathlib.Core.Bool.{cond};
-ghost use Prim.Native.Nat.{_*_, _≤_};
+ghost use Prim.Native.Nat.{_*_, _≤_, _<_};
 ghost use lib.ListN.{length};
 ghost use lib.Dec.{ltb};
 ghost use Rattle.words.specs.Words.{keyLimit};
@@ -30,6 +30,7 @@ fn open_page(
     k: u16,
 ) -> Held
     requires { ⌜ pages * pageWords ≤ length (now table) ⌝ }
+    requires { ⌜ low < high ⌝ }
     ensures { λ r. ⌜ r ≡ cond (ltb page pages) (heldIn t k level low high (pageAt (now (table .entry)) page)) held.Spoiled ⌝ }
 {
     if page < pages {

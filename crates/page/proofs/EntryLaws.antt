@@ -1,4 +1,4 @@
--- The key order as numbers: an entry gives back the low key, the high key and the place that it was made of, and sorting entries is sorting rows.
+-- The key order as numbers: an entry gives back the low key and the place that it was made of, and sorting entries is sorting rows.
 use Prim.Native.Nat.{ℕ, zero, suc, _≤_, _<_, _+_}
 use native.Mathlib.Omega.{arith}
 use mathlib.Core.Path.{_≡_, refl, ap}
@@ -6,8 +6,8 @@ use mathlib.Core.Bool.{Bool, true, false, cond}
 use mathlib.Core.List.{List, [], _∷_, map}
 use lib.Dec.{leb}
 use Rattle.tree.specs.Row.{rowAt, rowStart, rowWords, rowsFrom, live}
-use Rattle.tree.specs.KeyOrder.{Placed, placedLow, placedHigh, keepIf, livePlaced, insertBy, sortBy}
-use Rattle.page.specs.Entries.{orderSize, entryOf, entryLow, entryHigh, entryPlace, placedAt}
+use Rattle.tree.specs.KeyOrder.{Placed, placedLow, keepIf, livePlaced, insertBy, sortBy}
+use Rattle.page.specs.Entries.{orderSize, entryOf, entryLow, entryPlace, placedAt}
 use Rattle.tree.proofs.Lists.{All}
 use Rattle.tree.proofs.Sorted.{sort-all}
 
@@ -17,17 +17,14 @@ pub record Seated (page : List ℕ) (n : ℕ) (x : Placed) : Type 0 where
   pub same : x .row ≡ rowAt page (rowStart (x .place))
 
 module _ (page : List ℕ) (n : ℕ) (small : n ≤ orderSize) (x : Placed) (s : Seated page n x) where
-  low-fits : x .row .low < 65536
+  pub low-fits : x .row .low < 65536
   low-fits = rw (s .same) (omega arith)
 
-  high-fits : x .row .high < 65536
+  pub high-fits : x .row .high < 65536
   high-fits = rw (s .same) (omega arith)
 
   pub seated-low : entryLow (entryOf x) ≡ placedLow x
   seated-low = omega (arith, high-fits, s .within)
-
-  pub seated-high : entryHigh (entryOf x) ≡ placedHigh x
-  seated-high = omega (arith, high-fits, s .within)
 
   pub seated-place : entryPlace (entryOf x) ≡ x .place
   seated-place = omega (arith, s .within)

@@ -1,10 +1,16 @@
--- Laws of one page's code: the key order in an array, what is read from it, edits, and pages written whole.
+-- Laws of one page's code: its live rows in arrays, what is read from them, their key order, edits, and pages written whole.
 pub mod Tests
 pub mod OrderLaws
+pub mod SumLaws
+pub mod TileLaws
 pub mod InsertLaws
 pub mod EntryLaws
 pub mod OrderRowLaws
 pub mod EntryWalks
+pub mod NearestLaws
+pub mod LiveLaws
+pub mod RangeTiles
+pub mod LiveReadings
 pub mod PageReadings
 pub mod EditLaws
 pub mod FreshLaws

@@ -1,4 +1,9 @@
--- One page as the code has it: the key order in an array, what an entry has to know of a page, a page as a value.
-pub mod Entries
+-- One page as the code has it: its live rows in arrays, what is read from them, their key order, a page as a value.
+pub mod LiveRows
+pub mod TileTest
+pub mod Nearest
+pub mod LiveHeld
+pub mod Tested
 pub mod Survey
+pub mod Entries
 pub mod PageValue

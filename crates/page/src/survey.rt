@@ -1,17 +1,17 @@
 // What entering a point has to know of a page's rows before any row is changed.
+use crate::live::list_live;
 use crate::order::Place;
-use crate::order::find_around;
-use crate::order::find_from;
-use crate::order::key_order;
-use crate::test::order_tested;
+use crate::search::find_place;
+use crate::test::Tested;
+use crate::test::list_tested;
 ghost use mathlib.Core.Path.{_≡_};
 ghost use mathlib.Core.Bool.{cond};
-ghost use Prim.Native.Nat.{_≤_};
-ghost use lib.ListN.{length, drop};
+ghost use Prim.Native.Nat.{_≤_, _<_};
+ghost use lib.ListN.{length};
 ghost use Rattle.page.specs.declared.survey.Surveyed.the-variants.{Spoiled, Sound};
 ghost use Rattle.tree.specs.Row.{word, pageWords, rowLimit};
 ghost use Rattle.tree.specs.PageTest.{soundAt};
-ghost use Rattle.page.specs.Entries.{orderSize, surveyFrom};
+ghost use Rattle.page.specs.LiveHeld.{surveyAmong};
 ghost use Rattle.page.specs.Survey.{surveyOf};
 
 // How many rows a page has, how many of them are live, the row around a key, and the first row that starts at the key or above.
@@ -28,17 +28,18 @@ pub enum Surveyed {
     Sound(Survey),
 }
 
-// The survey of a page of so many rows, from the order of its live rows.
-fn survey_order(order: &[u64], start: usize, rows: usize, k: u16) -> Survey
-    requires { ⌜ length (now order) ≡ orderSize ⌝ }
-    requires { ⌜ start ≤ orderSize ⌝ }
-    ensures { λ r. ⌜ r ≡ surveyFrom rows start k (drop start (now (order .entry))) ⌝ }
+// The survey of a page of so many rows, from its live rows.
+fn survey_live(ranges: &[u32], places: &[u8], rows: usize, k: u16) -> Survey
+    requires { ⌜ length (now ranges) ≤ rowLimit ⌝ }
+    requires { ⌜ length (now places) ≡ length (now ranges) ⌝ }
+    ensures { λ r. ⌜ r ≡ surveyAmong rows k (now (ranges .entry)) (now (places .entry)) ⌝ }
 {
-    let inner = find_around(order, start, k);
-    let gain = find_from(order, start, k);
+    let key = k as u32;
+    let inner = find_place(ranges, places, 0, key, key + 1);
+    let gain = find_place(ranges, places, key, 65536, 0);
     Survey {
         rows,
-        live: 67 - start,
+        live: ranges.len(),
         inner,
         gain,
     }
@@ -51,23 +52,26 @@ pub fn survey_page(page: &[u64], t: u32, k: u16) -> Survey
     ensures { λ r. ⌜ r ≡ surveyOf t k (now (page .entry)) ⌝ }
 {
     let rows = page[1] as usize;
-    let mut order = [0u64; 67];
-    let start = key_order(page, rows, t, &mut order);
-    survey_order(&order, start, rows, k)
+    let mut ranges = [0u32; 64];
+    let mut places = [0u8; 64];
+    let count = list_live(page, rows, t, &mut ranges, &mut places);
+    survey_live(&ranges[..count], &places[..count], rows, k)
 }
 
 // The survey of a page of the expected level and key range. The page is tested in the same pass.
 pub fn survey_sound(page: &[u64], level: u64, low: u16, high: u16, t: u32, k: u16) -> Surveyed
     requires { ⌜ length (now page) ≡ pageWords ⌝ }
+    requires { ⌜ low < high ⌝ }
     ensures { λ r. ⌜ r ≡ cond (soundAt t level low high (now (page .entry))) (Sound (surveyOf t k (now (page .entry)))) Spoiled ⌝ }
 {
-    let mut order = [0u64; 67];
-    let tested = order_tested(page, level, low, high, t, &mut order);
+    let mut ranges = [0u32; 64];
+    let mut places = [0u8; 64];
+    let tested = list_tested(page, level, low, high, t, &mut ranges, &mut places);
     match tested {
-        Place::Missing => Surveyed::Spoiled,
-        Place::At(start) => {
+        Tested::Spoiled => Surveyed::Spoiled,
+        Tested::Sound(count) => {
             let rows = page[1] as usize;
-            Surveyed::Sound(survey_order(&order, start, rows, k))
+            Surveyed::Sound(survey_live(&ranges[..count], &places[..count], rows, k))
         }
     }
 }

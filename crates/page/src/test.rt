@@ -1,15 +1,21 @@
 // Refusal 26, as far as one page's own words go.
+use crate::live::list_live;
+use crate::tile::tiles;
 ghost use mathlib.Core.Path.{_≡_};
+ghost use Prim.Native.Nat.{_<_};
 ghost use lib.ListN.{length};
-ghost use Rattle.tree.specs.Row.{pageWords};
-ghost use Rattle.tree.specs.PageTest.{headerFits, soundAt};
-ghost use Rattle.page.specs.Entries.{orderSize, TestedAs};
-use crate::order::Place;
-use crate::order::holds_each_key_once;
-use crate::order::key_order;
+ghost use Rattle.tree.specs.Row.{pageWords, rowLimit};
+ghost use Rattle.tree.specs.PageTest.{headerFits};
+ghost use Rattle.page.specs.Tested.{TestedAs};
+
+// What the test of a page finds: a spoiled page, or a sound one with so many live rows.
+pub enum Tested {
+    Spoiled,
+    Sound(usize),
+}
 
 // Whether the page has the expected level and key range and from 1 to 64 rows.
-pub fn header_fits(page: &[u64], level: u64, low: u16, high: u16) -> bool
+fn header_fits(page: &[u64], level: u64, low: u16, high: u16) -> bool
     requires { ⌜ length (now page) ≡ pageWords ⌝ }
     ensures { λ r. ⌜ r ≡ headerFits level low high (now (page .entry)) ⌝ }
 {
@@ -26,38 +32,28 @@ pub fn header_fits(page: &[u64], level: u64, low: u16, high: u16) -> bool
 }
 
 // Tests the page for 26 at t, its header and that its live rows hold each key of its range once, none of them empty.
-// Leaves the order of its live rows at the end of `order`, and returns where it starts; a spoiled page gets no start.
-pub fn order_tested(
+// Leaves the live rows of a sound page at the front of `ranges` and `places`.
+pub fn list_tested(
     page: &[u64],
     level: u64,
     low: u16,
     high: u16,
     t: u32,
-    order: &mut [u64],
-) -> Place
+    ranges: &mut [u32],
+    places: &mut [u8],
+) -> Tested
     requires { ⌜ length (now page) ≡ pageWords ⌝ }
-    requires { ⌜ length (now order) ≡ orderSize ⌝ }
-    ensures { λ r. ⌜ TestedAs t level low high (now (page .entry)) (now (order .exit)) r ⌝ }
+    requires { ⌜ low < high ⌝ }
+    requires { ⌜ length (now ranges) ≡ rowLimit ⌝ }
+    requires { ⌜ length (now places) ≡ rowLimit ⌝ }
+    ensures { λ r. ⌜ TestedAs t level low high (now (page .entry)) (now (ranges .exit)) (now (places .exit)) r ⌝ }
 {
     if header_fits(page, level, low, high) {
         let rows = page[1] as usize;
-        let start = key_order(page, rows, t, order);
-        if holds_each_key_once(order, start, low, high) {
-            return Place::At(start);
+        let count = list_live(page, rows, t, ranges, places);
+        if tiles(&ranges[..count], low, high) {
+            return Tested::Sound(count);
         }
     }
-    Place::Missing
-}
-
-// Whether the page is no ground for 26 at t.
-pub fn page_is_sound(page: &[u64], level: u64, low: u16, high: u16, t: u32) -> bool
-    requires { ⌜ length (now page) ≡ pageWords ⌝ }
-    ensures { λ r. ⌜ r ≡ soundAt t level low high (now (page .entry)) ⌝ }
-{
-    let mut order = [0u64; 67];
-    let tested = order_tested(page, level, low, high, t, &mut order);
-    match tested {
-        Place::Missing => false,
-        Place::At(_) => true,
-    }
+    Tested::Spoiled
 }

@@ -1,18 +1,23 @@
 -- The numbers of a plan are small: a page has at most 64 rows, and each page on the way makes two pages at most.
-use Prim.Native.Nat.{ℕ, zero, suc, _+_, _-_, _*_, _≤_}
+use Prim.Native.Nat.{ℕ, zero, suc, _+_, _-_, _*_, _≤_, _<_}
 use native.Mathlib.Omega.{arith}
 use mathlib.Core.Path.{_≡_, refl, sym, subst}
-use mathlib.Core.Bool.{Bool, true, false, cond}
+use mathlib.Core.Bool.{Bool, true, false, cond, and-eq-true-iff}
 use mathlib.Core.List.{List}
 use lib.Dec.{leb, ltb, eqb}
 use lib.ListN.{length}
+use borrow.Author.Tests.{ltb-true}
 use Rattle.tree.specs.declared.types.Row.{Row}
 use Rattle.page.specs.declared.order.Place.{Place}
 use Rattle.page.specs.declared.order.Place.the-variants as place
 use Rattle.tree.specs.Row.{word, rowAt, rowStart, rowsOf, headerWords, live, rowLimit, copyLimit}
-use Rattle.tree.specs.KeyOrder.{keyOrder}
+use Rattle.tree.specs.KeyOrder.{Placed, keyOrder}
+use Rattle.tree.specs.TrueValue.{Search, none, one, first}
+use Rattle.tree.proofs.RowViews.{first-passes}
 use Rattle.tree.specs.PageTest.{soundAt}
-use Rattle.page.specs.Survey.{surveyOf}
+use Rattle.page.specs.Survey.{surveyOf, isAround, placeFound}
+use Rattle.page.proofs.EntryLaws.{Seated, order-seated}
+use Rattle.page.proofs.EntryWalks.{first-has}
 use Rattle.page.proofs.PageReadings.{sound-few}
 use Rattle.plan.specs.declared.planning.Counts.{Counts}
 use Rattle.plan.specs.declared.planning.Met.{Met}
@@ -139,3 +144,36 @@ module _ (table : List ℕ) (pages t k : ℕ) where
   plan-within limit level low high page h e =
       subst (λ (q : Planned). FewParts limit q) (sym e)
       (few-more (2 * level + 2) limit (planFrom table pages t k level low high page) h (plan-few level low high page))
+
+-- The row that a plan goes on from has its key inside, so its key range has one
+abbrev Wide : Met → Type 0
+Wide met.Spoiled = Unit {0}
+Wide (met.Lowest counts) = Unit {0}
+Wide (met.Around counts row) = row .low < row .high
+
+words-wide : (t k level low high : ℕ) (words : List ℕ) → Wide (metWords t k level low high words)
+unfolding metWords
+words-wide t k level low high words = go (soundAt t level low high words)
+  where
+    found : (s : Search Placed) → first (isAround k) (keyOrder t (rowsOf words)) ≡ s → Wide (metAround words (countsOf t words (surveyOf t k words)) (placeFound s))
+    found none e = tt
+    found (one x) e =
+        let h = and-eq-true-iff (ltb (x .row .low) k) (ltb k (x .row .high)) .0 (first-passes (isAround k) (keyOrder t (rowsOf words)) e) in
+        let seat = first-has (Seated words (word words 1)) (isAround k) (keyOrder t (rowsOf words))
+        (order-seated words (word words 1) t 0 (word words 1) (omega arith)) e in
+        subst (λ (r : Row). r .low < r .high) (seat .same) (omega (arith, ltb-true (x .row .low) k (h .0), ltb-true k (x .row .high) (h .1)))
+
+    go : (b : Bool) → Wide (cond b (metSurvey t words (surveyOf t k words)) met.Spoiled)
+    go true = found (first (isAround k) (keyOrder t (rowsOf words))) refl
+    go false = tt
+
+pub met-wide : (table : List ℕ) (pages t k level low high page : ℕ) → Wide (metPage table pages t k level low high page)
+unfolding metPage
+met-wide table pages t k level low high page = go (ltb page pages)
+  where
+    go : (b : Bool) → Wide (cond b (metWords t k level low high (pageAt table page)) met.Spoiled)
+    go true = words-wide t k level low high (pageAt table page)
+    go false = tt
+
+pub wide-around : {m : Met} {counts : Counts} {row : Row} → m ≡ met.Around counts row → Wide m → row .low < row .high
+wide-around e h = subst Wide e h

@@ -64,6 +64,7 @@ fn appended_for(words: &[u64], place: Place, t: u32) -> usize
 // One page of the descent, as one of this level and key range.
 fn meet_words(words: &[u64], level: u64, low: u16, high: u16, t: u32, k: u16) -> Met
     requires { ⌜ length (now words) ≡ pageWords ⌝ }
+    requires { ⌜ low < high ⌝ }
     ensures { λ r. ⌜ r ≡ metWords t k level low high (now (words .entry)) ⌝ }
 {
     let surveyed = page::survey_sound(words, level, low, high, t, k);
@@ -99,6 +100,7 @@ fn meet_page(
     k: u16,
 ) -> Met
     requires { ⌜ pages * pageWords ≤ length (now table) ⌝ }
+    requires { ⌜ low < high ⌝ }
     ensures { λ r. ⌜ r ≡ metPage (now (table .entry)) pages t k level low high page ⌝ }
 {
     if page < pages {
@@ -164,6 +166,7 @@ fn plan_from(
 ) -> Planned
     requires { ⌜ pages * pageWords ≤ length (now table) ⌝ }
     requires { ⌜ level ≤ topLevel ⌝ }
+    requires { ⌜ low < high ⌝ }
     ensures { λ r. ⌜ r ≡ planFrom (now (table .entry)) pages t k level low high page ⌝ }
 {
     let met = meet_page(table, pages, page, level, low, high, t, k);

@@ -1,7 +1,8 @@
 -- The laws of adding values: the order and the grouping do not matter, and the zero adds nothing to a value of two 64-bit words.
 use Prim.Native.Nat.{ℕ, _+_, _-_, _%_, _<_, _^_}
 use native.Mathlib.Omega.{arith}
-use mathlib.Core.Path.{_≡_, sym, ap, _∙_}
+use mathlib.Core.Path.{_≡_, refl, sym, ap, _∙_}
+use mathlib.Core.Bool.{Bool, true, false, cond}
 use Rattle.words.specs.declared.value.Value.{Value}
 use Rattle.words.specs.Value.{zero, plus}
 
@@ -42,3 +43,8 @@ zero-plus-plus a b = zero-plus (plus a b) (plus-stored a b)
 -- What added to b wraps to a is the difference
 pub taken-away : (a b r : ℕ) → b < 2 ^ 64 → r < 2 ^ 64 → (r + b) % 2 ^ 64 ≡ a → r ≡ (a + (2 ^ 64 - b % 2 ^ 64)) % 2 ^ 64
 taken-away a b r hb hr e = omega arith
+
+-- A value of which each word counts or not
+pub only-if : (b : Bool) (v : Value) → _≡_ {A = Value} (record { count = cond b (v .count) 0; sum = cond b (v .sum) 0 }) (cond b v zero)
+only-if true v = refl
+only-if false v = refl

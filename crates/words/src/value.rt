@@ -1,5 +1,6 @@
 // What a row and a point carry, added modulo 2^64.
 ghost use mathlib.Core.Path.{_≡_};
+ghost use mathlib.Core.Bool.{cond};
 ghost use Prim.Native.Nat.{_+_, _≤_};
 ghost use lib.ListN.{length};
 ghost use Rattle.words.specs.Value.{zero, plus, minus, valueAt, encodeValue, valueWords};
@@ -9,6 +10,16 @@ ghost use Rattle.words.specs.Overwrite.{overwrite};
 pub struct Value {
     pub count: u64,
     pub sum: u64,
+}
+
+// The word where it counts, else 0. A loop that adds values takes this for each of their words, so that the processor has no branch to guess.
+fn word_if(counts: bool, word: u64) -> u64
+    ensures { λ r. ⌜ r ≡ cond counts word 0 ⌝ }
+{
+    if counts {
+        return word;
+    }
+    0
 }
 
 impl Value {
@@ -36,6 +47,16 @@ impl Value {
         Value {
             count: std::num::wrapping_sub_u64(self.count, other.count),
             sum: std::num::wrapping_sub_u64(self.sum, other.sum),
+        }
+    }
+
+    // This value where it counts, else the value of nothing.
+    pub fn only_if(self, counts: bool) -> Value
+        ensures { λ r. ⌜ r ≡ cond counts self zero ⌝ }
+    {
+        Value {
+            count: word_if(counts, self.count),
+            sum: word_if(counts, self.sum),
         }
     }
 

@@ -6,7 +6,9 @@ use borrow.Author.Needs.{needs}
 use Rattle.words.specs.Words.{keyLimit}
 use Rattle.words.specs.declared.value.Value.{Value}
 use Rattle.tree.specs.declared.types.Lookup.the-variants.{Found}
-use Rattle.tree.specs.Tree.{Tree}
+use lib.Dec.{ltb}
+use Rattle.tree.specs.Tree.{Tree, pageAt}
+use Rattle.lookup.proofs.HeldRanges.{row-wide}
 use Rattle.tree.specs.Lookup.{lookupFrom}
 use Rattle.lookup.proofs.LookupLaws.{onward, way-start, way-spoiled, way-leaf, way-down}
 use Rattle.lookup.proofs.descent.descend.Statement.{statement}
@@ -16,6 +18,7 @@ use Rattle.lookup.proofs.descent.descend.Tie as tie
 abbrev Inv-loop : tie.InvT-loop
 Inv-loop table used root top t k level₀ low₀ high₀ page₀ total₀ pages₀ level low high page total pages =
     (pages + level < 4)
+    × (low < high)
     × (onward total pages (lookupFrom (record { table = table; roots = []; used = used }) t k level low high page)
     ≡ lookupFrom (record { table = table; roots = []; used = used }) t k top 0 keyLimit root)
 
@@ -29,6 +32,7 @@ loop-holds : tie.Need-loop-holds Inv-loop μ-loop
 loop-holds c =
     let a = c .before .before .args in
     let tree : Tree = record { table = a .table .now; roots = []; used = a .used } in (
+      omega arith,
       omega arith,
       ap (λ (v : Value). onward v 0 (lookupFrom tree (a .t) (a .k) (a .top) 0 keyLimit (a .root))) (c .zero .ensures)
           ∙ way-start tree (a .t) (a .k) 0 keyLimit (a .root) (a .top),
@@ -62,8 +66,9 @@ loop-again c =
     let l = c .before .before .before .before .before .before .loop in
     let went = sym (c .before .before .before .before .before .open-page .ensures) ∙ c .before .before .before .held .given .1 in (
       omega arith,
+      row-wide (ltb (l .page) (a .used .pages)) (a .t) (a .k) (l .level) (l .low) (l .high) (pageAt (a .table .now) (l .page)) went,
       rw (c .before .plus .ensures)
-          (sym (way-down tree (a .t) (a .k) (l .low) (l .high) (l .page) (l .total) (l .pages) (l .level) (c .if1 .left) went) ∙ l .inv .1),
+          (sym (way-down tree (a .t) (a .k) (l .low) (l .high) (l .page) (l .total) (l .pages) (l .level) (c .if1 .left) went) ∙ l .inv .2),
     )
 
 returns : tie.Need-returns Inv-loop μ-loop
@@ -72,7 +77,7 @@ returns c =
     let tree : Tree = record { table = a .table .now; roots = []; used = a .used } in
     let l = c .before .before .before .loop in
     let stuck = sym (c .before .before .open-page .ensures) ∙ c .enum-told .given .1 in
-    sym (way-spoiled tree (a .t) (a .k) (l .low) (l .high) (l .page) (l .total) (l .pages) (l .level) stuck) ∙ l .inv .1
+    sym (way-spoiled tree (a .t) (a .k) (l .low) (l .high) (l .page) (l .total) (l .pages) (l .level) stuck) ∙ l .inv .2
 
 returns-2 : tie.Need-returns-2 Inv-loop μ-loop
 returns-2 c =
@@ -82,7 +87,7 @@ returns-2 c =
     let went = sym (c .before .before .before .before .before .open-page .ensures) ∙ c .before .before .before .held .given .1 in
     ap (λ (v : Value). Found v (l .pages + 1)) (c .before .plus .ensures)
     ∙ sym (way-leaf tree (a .t) (a .k) (l .low) (l .high) (l .page) (l .total) (l .pages) (l .level) (c .if1 .taken) went)
-    ∙ l .inv .1
+    ∙ l .inv .2
 
 pub descend-spec : {M : Type 1} → statement M
 descend-spec =

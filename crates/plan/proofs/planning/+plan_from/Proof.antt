@@ -1,4 +1,4 @@
-use Rattle.plan.proofs.PlanBounds.{few-lowest, few-around, met-few, plan-within}
+use Rattle.plan.proofs.PlanBounds.{few-lowest, few-around, met-few, plan-within, met-wide, wide-around}
 use native.Mathlib.Omega.{arith}
 use mathlib.Core.Path.{ap, sym, _∙_}
 use Rattle.plan.specs.PlanSteps.{planAbove}
@@ -203,7 +203,11 @@ plan-from-plan-from-requires : (t : ℕ) → plan-from-lts.Need-plan-from-requir
   plan-above-reads.Asked,
   plan-above-reads.Learnt,
 ) (plan-from-at t) plan-from.Post
-plan-from-plan-from-requires t c κs = search needs
+plan-from-plan-from-requires t c κs =
+    let a = c .before .before .before .before .before .before .args in
+    let wide = wide-around (sym (c .before .before .before .before .meet-page .ensures) ∙ c .before .before .met2 .given .1)
+    (met-wide (a .table .now) (a .pages) (a .t) (a .k) (a .level) (a .low) (a .high) (a .page)) in
+    search needs
 
 plan-from-plan-above-requires : (t : ℕ) → plan-from-lts.Need-plan-above-requires (
   meet-page-reads.Asked,

@@ -1,0 +1,45 @@
+-- The live rows of a page as the code lists them: their key ranges and their places, in two arrays, in the order of the places.
+use mathlib.Core.Path.{_≡_}
+use Prim.Native.Nat.{ℕ, _+_, _/_, _%_, _≤_}
+use mathlib.Core.List.{List, map, foldr}
+use mathlib.Core.Bool.{Bool, cond}
+use lib.ListN.{length, take}
+use Rattle.words.specs.Lists.{All}
+use Rattle.words.specs.Words.{keyRange}
+use Rattle.tree.specs.Row.{rowStart, rowWords, rowsFrom, rowLimit, headerWords}
+use Rattle.tree.specs.KeyOrder.{Placed, livePlaced}
+
+-- The key range of a row, as page word 2 has that of a page: "low key + 65,536 × high key"
+abbrev pub rangeOf : Placed → ℕ
+rangeOf x = keyRange (x .row .low) (x .row .high)
+
+abbrev pub rangeLow : ℕ → ℕ
+rangeLow e = e % 65536
+
+abbrev pub rangeHigh : ℕ → ℕ
+rangeHigh e = e / 65536
+
+abbrev pub placeIn : Placed → ℕ
+placeIn x = x .place
+
+-- The rows live at t among the first n of a page
+abbrev pub liveRows : ℕ → List ℕ → ℕ → List Placed
+liveRows t page n = livePlaced t 0 (rowsFrom page headerWords n)
+
+-- The arrays have them at their front
+pub record Listed (t : ℕ) (page : List ℕ) (n : ℕ) (ranges places : List ℕ) (count : ℕ) : Type 0 where
+  pub counted : count ≡ length (liveRows t page n)
+  pub bounded : count ≤ rowLimit
+  pub ranges-are : take count ranges ≡ map rangeOf (liveRows t page n)
+  pub places-are : take count places ≡ map placeIn (liveRows t page n)
+
+-- The rows at the places lie in the page
+abbrev pub AllIn : List ℕ → List ℕ → Type 0
+AllIn page places = All (λ (p : ℕ). rowStart p + rowWords ≤ length page) places
+
+-- A number added up over a list, and how many of its items pass a test
+abbrev pub sumBy : (ℕ → ℕ) → List ℕ → ℕ
+sumBy f xs = foldr (λ (x n : ℕ). f x + n) 0 xs
+
+abbrev pub count : (ℕ → Bool) → List ℕ → ℕ
+count test xs = sumBy (λ (x : ℕ). cond (test x) 1 0) xs

@@ -1,0 +1,31 @@
+-- The first row in key order that fits, among rows in the order of their places: the least number made of low key and position.
+use Prim.Native.Nat.{ℕ, suc, _+_, _*_, _%_}
+use mathlib.Core.List.{List, [], _∷_}
+use mathlib.Core.Bool.{Bool, cond, _&&_}
+use lib.Dec.{leb, ltb}
+use lib.ListN.{getD}
+use Rattle.page.specs.declared.order.Place.{Place}
+use Rattle.page.specs.declared.order.Place.the-variants.{At, Missing}
+use Rattle.page.specs.LiveRows.{rangeLow, rangeHigh}
+use Rattle.page.specs.TileTest.{lesser}
+
+-- The number of no range: above those of all that fit
+abbrev pub noRange : ℕ
+noRange = 16777216
+
+module _ (from below above : ℕ) where
+  -- It starts from `from` on but below `below`, and does not stop below `above`
+  abbrev pub fits : ℕ → Bool
+  fits e = leb from (rangeLow e) && (ltb (rangeLow e) below && leb above (rangeHigh e))
+
+  abbrev pub candidate : ℕ → ℕ → ℕ
+  candidate at e = cond (fits e) (256 * rangeLow e + at) noRange
+
+  -- The least number of the ranges, the first of which is at position `at`
+  unfoldable pub least : ℕ → List ℕ → ℕ
+  least at [] = noRange
+  least at (e ∷ es) = lesser (candidate at e) (least (suc at) es)
+
+-- The place at the position that a number has
+abbrev pub placeAt : List ℕ → ℕ → Place
+placeAt places best = cond (leb noRange best) Missing (At (getD places (best % 256) 0))

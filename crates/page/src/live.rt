@@ -1,0 +1,61 @@
+// The rows of a page that are live at a tick, as two arrays in the order of the rows' places: their key ranges, and their places.
+// They are not put in key order. Whether they hold each key once, which of them holds a key, and what the lower ones add up to is found
+// without, by loops over small numbers that a processor takes several at a time.
+use crate::row::is_live;
+ghost use mathlib.Core.Path.{_≡_};
+ghost use mathlib.Core.Bool.{cond};
+ghost use Prim.Native.Nat.{_+_, _≤_};
+ghost use lib.ListN.{length};
+ghost use Rattle.words.specs.Words.{lowKey, highKey, keyRange, birthOf, endOf};
+ghost use Rattle.tree.specs.Row.{rowStart, rowLimit, liveFor};
+ghost use Rattle.page.specs.LiveRows.{rangeLow, rangeHigh, Listed};
+
+// The key range in word 0 of a row.
+fn range_of(keys: u64) -> u32
+    ensures { λ r. ⌜ r ≡ keyRange (lowKey keys) (highKey keys) ⌝ }
+{
+    (keys % 4294967296) as u32
+}
+
+pub fn range_low(range: u32) -> u32
+    ensures { λ r. ⌜ r ≡ rangeLow range ⌝ }
+{
+    range % 65536
+}
+
+pub fn range_high(range: u32) -> u32
+    ensures { λ r. ⌜ r ≡ rangeHigh range ⌝ }
+{
+    range / 65536
+}
+
+// 1 for a row with this word 1 that is live at t, else 0.
+fn count_live(life: u64, t: u32) -> usize
+    ensures { λ r. ⌜ r ≡ cond (liveFor (birthOf life) (endOf life) t) 1 0 ⌝ }
+{
+    if is_live(life, t) {
+        return 1;
+    }
+    0
+}
+
+// Leaves the page's live rows at the front of both arrays and returns how many there are. Every row is written behind the live ones so far,
+// and the next is written over it unless it is live: no branch depends on a row.
+pub fn list_live(page: &[u64], rows: usize, t: u32, ranges: &mut [u32], places: &mut [u8]) -> usize
+    requires { ⌜ rows ≤ rowLimit ⌝ }
+    requires { ⌜ rowStart rows ≤ length (now page) ⌝ }
+    requires { ⌜ length (now ranges) ≡ rowLimit ⌝ }
+    requires { ⌜ length (now places) ≡ rowLimit ⌝ }
+    ensures { λ r. ⌜ Listed t (now (page .entry)) rows (now (ranges .exit)) (now (places .exit)) r ⌝ }
+{
+    let mut count: usize = 0;
+    let mut place: usize = 0;
+    while place < rows {
+        let at = 4 + 4 * place;
+        ranges[count] = range_of(page[at]);
+        places[count] = place as u8;
+        count += count_live(page[at + 1], t);
+        place += 1;
+    }
+    count
+}

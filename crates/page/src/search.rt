@@ -1,0 +1,62 @@
+// Which live row of a page a lookup or an entry is after: the first one in key order, by low key and then by place, that fits.
+use crate::live::range_high;
+use crate::live::range_low;
+use crate::order::Place;
+use crate::tile::lesser;
+ghost use mathlib.Core.Path.{_≡_};
+ghost use mathlib.Core.Bool.{_&&_};
+ghost use Prim.Native.Nat.{_≤_, _<_};
+ghost use lib.ListN.{length};
+ghost use Rattle.tree.specs.Row.{rowLimit};
+ghost use Rattle.page.specs.Nearest.{fits, candidate, least, noRange, placeAt};
+
+// Whether the range starts from `from` on but below `below`, and does not stop below `above`.
+fn range_fits(range: u32, from: u32, below: u32, above: u32) -> bool
+    ensures { λ r. ⌜ r ≡ fits from below above range ⌝ }
+{
+    if range_low(range) < from {
+        return false;
+    }
+    if below <= range_low(range) {
+        return false;
+    }
+    above <= range_high(range)
+}
+
+// A number that is lower for a range that is earlier in key order: low key × 256 + where it is. One that does not fit gets the highest number.
+fn candidate(range: u32, at: usize, from: u32, below: u32, above: u32) -> u32
+    requires { ⌜ at < rowLimit ⌝ }
+    ensures { λ r. ⌜ r ≡ candidate from below above at range ⌝ }
+{
+    if range_fits(range, from, below, above) {
+        return 256 * range_low(range) + at as u32;
+    }
+    16777216
+}
+
+// The least of these numbers.
+fn least_candidate(ranges: &[u32], from: u32, below: u32, above: u32) -> u32
+    requires { ⌜ length (now ranges) ≤ rowLimit ⌝ }
+    ensures { λ r. ⌜ r ≡ least from below above 0 (now (ranges .entry)) ⌝ }
+{
+    let mut best: u32 = 16777216;
+    let mut at: usize = 0;
+    while at < ranges.len() {
+        best = lesser(best, candidate(ranges[at], at, from, below, above));
+        at += 1;
+    }
+    best
+}
+
+// The place of the first row in key order whose range starts from `from` on but below `below`, and does not stop below `above`.
+pub fn find_place(ranges: &[u32], places: &[u8], from: u32, below: u32, above: u32) -> Place
+    requires { ⌜ length (now ranges) ≤ rowLimit ⌝ }
+    requires { ⌜ length (now places) ≡ length (now ranges) ⌝ }
+    ensures { λ r. ⌜ r ≡ placeAt (now (places .entry)) (least from below above 0 (now (ranges .entry))) ⌝ }
+{
+    let best = least_candidate(ranges, from, below, above);
+    if 16777216 <= best {
+        return Place::Missing;
+    }
+    Place::At(places[best as usize % 256] as usize)
+}
