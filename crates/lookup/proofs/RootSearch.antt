@@ -71,14 +71,14 @@ module _ (ws : List ℕ) (t : ℕ) where
       ∙ ap (λ (k : ℕ). rootFor t (take k ws)) last
       ∙ root-skip from n (omega arith) (λ i h. later i (omega arith))
 
--- One entry more, and a bound that is not above the one before nor above its birth
-pub least-more : (ws : List ℕ) (from at least next : ℕ) → ((i : ℕ) → i < at → least ≤ birthOf (getD ws (from + i) 0)) → next ≤ least
-    → next ≤ birthOf (getD ws (from + at) 0) → (i : ℕ) → i < at + 1 → next ≤ birthOf (getD ws (from + i) 0)
-least-more ws from at least next before a b i h = go (ℕ-discrete i at)
+-- One entry more: as many later ones as entries, and all of them are later
+pub later-more : (ws : List ℕ) (t from at later one : ℕ) → later ≤ at → (at ≤ later → (i : ℕ) → i < at → t < birthOf (getD ws (from + i) 0)) → one ≤ 1
+    → (1 ≤ one → t < birthOf (getD ws (from + at) 0)) → at + 1 ≤ later + one → (i : ℕ) → i < at + 1 → t < birthOf (getD ws (from + i) 0)
+later-more ws t from at later one few before small last all i h = go (ℕ-discrete i at)
   where
-    go : Dec (i ≡ at) → next ≤ birthOf (getD ws (from + i) 0)
-    go (yes e) = rw e b
-    go (no n) = omega (arith, before i (below n))
+    go : Dec (i ≡ at) → t < birthOf (getD ws (from + i) 0)
+    go (yes e) = rw e (last (omega arith))
+    go (no n) = before (omega arith) i (below n)
       where
         below : (i ≡ at → ⊥) → i < at
         below f = omega (arith, f)

@@ -2,6 +2,7 @@ use Prim.Native.Nat.{ℕ, _+_, _-_, _≤_, _<_}
 use native.Mathlib.Omega.{arith}
 use mathlib.Core.Path.{_≡_, ap, sym, _∙_}
 use lib.ListN.{length, take}
+use borrow.Author.Tests.{not-false}
 use Rattle.tree.specs.Tree.{rootFor}
 use Rattle.lookup.proofs.RootSearch.{root-skip}
 use borrow.Author.Needs.{needs}
@@ -17,8 +18,8 @@ abbrev μ-loop : tie.MeasureT-loop
 loop-holds : tie.Need-loop-holds Inv-loop μ-loop
 loop-holds c = search needs
 
-least-birth-requires : tie.Need-least-birth-requires Inv-loop μ-loop
-least-birth-requires c κs = search needs
+all-later-requires : tie.Need-all-later-requires Inv-loop μ-loop
+all-later-requires c κs = search needs
 
 returns : tie.Need-returns Inv-loop μ-loop
 returns c = search needs
@@ -32,7 +33,7 @@ loop-again c =
     let l = c .before .before .before .loop in
     let whole : l .left - 32 + 32 ≡ l .left = omega arith in
     let later = root-skip (a .roots .now) (a .t) (l .left - 32) 32 (omega (arith, l .inv .0))
-    (λ i h. omega (arith, c .before .least-birth .ensures i h, c .if1 .left)) in
+    (c .before .all-later .ensures (not-false (c .before .all-later .result) (c .if1 .left))) in
     (omega (arith, l .inv .0), sym later ∙ ap (λ (k : ℕ). rootFor (a .t) (take k (a .roots .now))) whole ∙ l .inv .1)
 
 returns-2 : tie.Need-returns-2 Inv-loop μ-loop
@@ -45,7 +46,7 @@ skip-later-spec =
     Inv-loop
     μ-loop
     loop-holds
-    least-birth-requires
+    all-later-requires
     returns
     loop-less
     loop-again
