@@ -2,13 +2,14 @@
 use Prim.Native.Nat.{ℕ, _+_, _*_, _-_, _≤_, _<_}
 use native.Mathlib.Numerals.{add-one}
 use native.Mathlib.Omega.{arith}
-use mathlib.Core.Path.{_≡_, sym, ap, _∙_}
-use mathlib.Core.List.{List, [], _∷_, _++_, append-assoc}
-use lib.ListN.{length, getD, set, take, drop, replicate, length-drop}
-use lib.Seq.{take-suc, take-length, length-take-le}
+use mathlib.Core.Path.{_≡_, sym, ap, ap₂, _∙_}
+use mathlib.Core.List.{List, [], _∷_, _++_, append-assoc, append-nil}
+use lib.ListN.{length, getD, set, take, drop, length-drop, drop-of-length-le}
+use lib.Seq.{take-suc, take-length, length-take-le, take-at, getD-take, getD-drop}
 use borrow.Rule.Slice.PartMut.{putMid, post-is}
 use Rattle.words.specs.Overwrite.{overwrite}
 use Rattle.tree.specs.Fresh.{zeros}
+use Rattle.tree.specs.Row.{word}
 use Rattle.tree.specs.Tree.{pageAt, putPage}
 use Rattle.words.proofs.OverwriteLaws.{overwrite-none, overwrite-one, overwrite-more, overwrite-length}
 
@@ -44,7 +45,18 @@ part-back table page words h l =
     ap (λ (b : List ℕ). take at table ++ (words ++ b)) (post-is at (at + 260) table (omega arith) ∙ ap (λ (n : ℕ). drop (at + n) table) (sym l))
     ∙ sym (append-assoc (take at table) words (drop (at + length words) table))
 
--- A page copied over zeros
-pub load-is : (words : List ℕ) → length words ≡ 260 → overwrite (zeros 272) 0 words ≡ words ++ zeros 12
-unfolding overwrite zeros
-load-is words l = ap (λ (n : ℕ). words ++ drop (0 + n) (replicate 272 0)) l
+-- How many rows a page has, read from the table
+pub page-count : (table : List ℕ) (page : ℕ) → word (pageAt table page) 1 ≡ word table (page * 260 + 1)
+page-count table page = getD-take 260 (drop (page * 260) table) 1 0 (omega arith) ∙ getD-drop (page * 260) table 1 0
+
+-- A page copied into other words, and zeros behind it
+copied-front : (copy words : List ℕ) → length words ≡ 260 → take 260 (overwrite copy 0 words) ≡ words
+unfolding overwrite
+copied-front copy words l = take-at words (drop (0 + length words) copy) 260 l
+
+pub load-is : (copy words : List ℕ) → length copy ≡ 272 → length words ≡ 260 → putMid 260 12 (overwrite copy 0 words) (zeros 12) ≡ words ++ zeros 12
+load-is copy words long l =
+    let size : length (overwrite copy 0 words) ≡ 272 = overwrite-length copy 0 words (omega arith) ∙ long in
+    ap₂ (λ (a b : List ℕ). a ++ (zeros 12 ++ b)) (copied-front copy words l)
+    (post-is 260 272 (overwrite copy 0 words) (omega arith) ∙ drop-of-length-le (overwrite copy 0 words) {i = 272} (omega arith))
+    ∙ ap (λ (w : List ℕ). words ++ w) (append-nil (zeros 12))

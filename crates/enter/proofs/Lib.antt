@@ -4,6 +4,7 @@ pub mod EditedRows
 pub mod StepRows
 pub mod CopyLaws
 pub mod SettleLaws
+pub mod InPlace
 pub mod FinishFacts
 pub mod EnterFacts
 pub mod EnterLaws

@@ -32,17 +32,18 @@ module _ (used : TreeUse) (t : ℕ) (so : Written) (page : ℕ) (words : List �
   settled-splits h = rw (lt-leb _ _ h)
 
 -- The copy of a page has the page's words at its front
-word-front : (page extra : List ℕ) (i : ℕ) → i < length page → word (page ++ extra) i ≡ word page i
+pub word-front : (page extra : List ℕ) (i : ℕ) → i < length page → word (page ++ extra) i ≡ word page i
 word-front page extra i h = List·getD-append page extra 0 i h
+
+pub row-front : (page extra : List ℕ) (at : ℕ) → at + rowWords ≤ length page → rowAt (page ++ extra) at ≡ rowAt page at
+row-front page extra at h =
+    rw
+    (word-front page extra at (omega arith), word-front page extra (at + 1) (omega arith), word-front page extra (at + 2) (omega arith), word-front page extra (at + 2 + 1) (omega arith))
 
 rows-front : (page extra : List ℕ) (at n : ℕ) → at + rowWords * n ≤ length page → rowsFrom (page ++ extra) at n ≡ rowsFrom page at n
 unfolding rowsFrom
 rows-front page extra at zero h = refl
-rows-front page extra at (suc n) h =
-    ap₂ _∷_
-    (rw
-    (word-front page extra at (omega arith), word-front page extra (at + 1) (omega arith), word-front page extra (at + 2) (omega arith), word-front page extra (at + 2 + 1) (omega arith)))
-    (rows-front page extra (at + rowWords) n (omega arith))
+rows-front page extra at (suc n) h = ap₂ _∷_ (row-front page extra at (omega arith)) (rows-front page extra (at + rowWords) n (omega arith))
 
 pub rows-of-front : (page extra : List ℕ) → rowStart (word page 1) ≤ length page → rowsOf (page ++ extra) ≡ rowsOf page
 rows-of-front page extra h =

@@ -1,4 +1,4 @@
--- Entering a point as the code does it: each page is edited in a copy with room for more rows, then written back or split.
+-- Entering a point as the code does it: each page is changed as if in a copy with room for more rows, then written back or split.
 use Prim.Native.Nat.{ℕ, _+_, _*_, _≤_}
 use mathlib.Core.Path.{_≡_}
 use mathlib.Core.List.{List, [], _++_}
@@ -7,7 +7,7 @@ use lib.ListN.{length, take}
 use lib.Dec.{leb}
 use Rattle.words.specs.declared.value.Value.{Value}
 use Rattle.page.specs.declared.order.Place.{Place}
-use Rattle.tree.specs.Row.{word, rowsOf, rowLimit, pageWords, rowIn}
+use Rattle.tree.specs.Row.{word, rowsOf, rowLimit, pageWords}
 use Rattle.page.specs.Survey.{surveyOf}
 use Rattle.page.specs.Entries.{orderSize}
 use Rattle.tree.specs.Fresh.{zeros}
@@ -20,7 +20,9 @@ use Rattle.tree.specs.declared.types.Became.the-variants.{Stays}
 use Rattle.tree.specs.Enter.{enterFrom}
 use Rattle.tree.specs.Plan.{descentSound}
 use Rattle.tree.specs.Overflow.{Written, splitPage, copiedRows}
-use Rattle.enter.specs.PageEdits.{leafWords, gainWords, linkWords}
+use Rattle.enter.specs.declared.edits.Change.{Change}
+use Rattle.enter.specs.declared.edits.Change.the-variants.{Leaf, Lowest, Above}
+use Rattle.enter.specs.PageEdits.{changeWords}
 
 -- The copy of a page has room for the 3 rows that one entry may append
 abbrev pub copyWords : ℕ
@@ -69,14 +71,17 @@ pub record CanEnter (tree : Tree) (p : Point) (level page : ℕ) : Type 0 where
 abbrev pub pointAt : ℕ → ℕ → Value → Point
 pointAt t k v = record { tick = t; key = k; value = v }
 
--- The edits of a leaf, of a lowest page above it, and of a page above the lowest
+-- The copy of a page after a change, and the three changes that a survey of the page leads to
+abbrev pub changed : ℕ → Value → List ℕ → ℕ → Change → List ℕ
+changed t v table page change = changeWords t v (loaded table page) change
+
 abbrev pub leafEdited : ℕ → ℕ → Value → List ℕ → ℕ → List ℕ
 leafEdited t k v table page =
     let s = surveyOf t k (pageAt table page) in
-    leafWords t k v (loaded table page) (s .inner) (s .gain)
+    changed t v table page (Leaf (s .inner) (s .gain) k)
 
 abbrev pub gainEdited : ℕ → Value → List ℕ → ℕ → Place → List ℕ
-gainEdited t v table page gain = gainWords t v (loaded table page) gain
+gainEdited t v table page gain = changed t v table page (Lowest gain)
 
 abbrev pub linkEdited : ℕ → Value → List ℕ → ℕ → Place → ℕ → Became → List ℕ
-linkEdited t v table page gain place became = linkWords t (gainWords t v (loaded table page) gain) place (rowIn (loaded table page) place) became
+linkEdited t v table page gain place became = changed t v table page (Above place gain became)

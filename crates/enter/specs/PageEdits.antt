@@ -15,6 +15,8 @@ use Rattle.tree.specs.RowSteps.{gained, cutAt, linkedTo}
 use Rattle.tree.specs.declared.types.Child.{Child}
 use Rattle.tree.specs.declared.types.Became.{Became}
 use Rattle.tree.specs.declared.types.Became.the-variants.{Stays, Copied, Halved}
+use Rattle.enter.specs.declared.edits.Change.{Change}
+use Rattle.enter.specs.declared.edits.Change.the-variants.{Leaf, Lowest, Above}
 
 -- A place that was found is one of the page's n rows
 abbrev pub Within : ℕ → Place → Type 0
@@ -47,3 +49,15 @@ linkWords t page place old Stays = page
 linkWords t page place old (Copied c) = replaceWords t page place old (linkedTo c old)
 linkWords t page place old (Halved c d) =
     appendRow (replaceWords t page place old (linkedTo c old)) (newRow t (d .low) (d .high) (d .page) zero)
+
+-- What an entry does to one page: above the lowest page step 3, then step 7
+abbrev pub changeWords : ℕ → Value → List ℕ → Change → List ℕ
+changeWords t v page (Leaf inner gain k) = leafWords t k v page inner gain
+changeWords t v page (Lowest gain) = gainWords t v page gain
+changeWords t v page (Above place gain became) = linkWords t (gainWords t v page gain) place (rowIn page place) became
+
+-- The places that it names are those of rows
+abbrev pub ChangeWithin : ℕ → Change → Type 0
+ChangeWithin n (Leaf inner gain k) = Within n inner × Within n gain
+ChangeWithin n (Lowest gain) = Within n gain
+ChangeWithin n (Above place gain became) = (place < n) × Within n gain

@@ -11,7 +11,23 @@ ghost use Prim.Native.Nat.{_+_, _≤_, _<_};
 ghost use lib.ListN.{length};
 ghost use Rattle.tree.specs.Row.{rowStart, rowWords, word};
 ghost use Rattle.tree.specs.RowSteps.{cutAt, linkedTo};
-ghost use Rattle.enter.specs.PageEdits.{replaceWords, gainWords, cutWords, leafWords, linkWords, Within};
+ghost use Rattle.enter.specs.PageEdits.{replaceWords, gainWords, cutWords, leafWords, linkWords, changeWords, Within, ChangeWithin};
+
+// What an entry does to one page, by the places of rows that the survey of the page found: to a leaf, to a lowest page above the leaves, or
+// to a page above the lowest, whose row at `place` follows what the page below became.
+pub enum Change {
+    Leaf {
+        inner: Place,
+        gain: Place,
+        key: u16,
+    },
+    Lowest(Place),
+    Above {
+        place: usize,
+        gain: Place,
+        became: Became,
+    },
+}
 
 // The row up to key k.
 fn cut_row(row: Row, k: u16) -> Row
@@ -68,7 +84,7 @@ fn gain_at(page: &mut [u64], place: usize, value: Value, t: u32)
 }
 
 // The first row from the key on gains the point, if there is one.
-pub fn gain_row(page: &mut [u64], gain: Place, value: Value, t: u32)
+fn gain_row(page: &mut [u64], gain: Place, value: Value, t: u32)
     requires { ⌜ Within (word (now page) 1) gain ⌝ }
     requires { ⌜ rowStart (word (now page) 1 + 1) ≤ length (now page) ⌝ }
     ensures { λ _. ⌜ now (page .exit) ≡ gainWords t value (now (page .entry)) gain ⌝ }
@@ -90,7 +106,7 @@ fn cut_at(page: &mut [u64], place: usize, k: u16, value: Value, t: u32)
 }
 
 // A leaf takes the point.
-pub fn edit_leaf(page: &mut [u64], inner: Place, gain: Place, k: u16, value: Value, t: u32)
+fn edit_leaf(page: &mut [u64], inner: Place, gain: Place, k: u16, value: Value, t: u32)
     requires { ⌜ Within (word (now page) 1) inner ⌝ }
     requires { ⌜ Within (word (now page) 1) gain ⌝ }
     requires { ⌜ rowStart (word (now page) 1 + 2) ≤ length (now page) ⌝ }
@@ -116,7 +132,7 @@ fn link_halves(page: &mut [u64], place: usize, old: Row, lower: Child, upper: Ch
     );
 }
 
-pub fn link_row(page: &mut [u64], place: usize, old: Row, became: Became, t: u32)
+fn link_row(page: &mut [u64], place: usize, old: Row, became: Became, t: u32)
     requires { ⌜ place < word (now page) 1 ⌝ }
     requires { ⌜ rowStart (word (now page) 1 + 2) ≤ length (now page) ⌝ }
     ensures { λ _. ⌜ now (page .exit) ≡ linkWords t (now (page .entry)) place old became ⌝ }
@@ -125,5 +141,33 @@ pub fn link_row(page: &mut [u64], place: usize, old: Row, became: Became, t: u32
         Became::Stays => {}
         Became::Copied(child) => replace_row(page, place, old, linked_row(old, child), t),
         Became::Halved(lower, upper) => link_halves(page, place, old, lower, upper, t),
+    }
+}
+
+// A page above the lowest one: the row is read before it may gain, since the definition links the row that stood there.
+fn gain_and_link(page: &mut [u64], place: usize, gain: Place, became: Became, value: Value, t: u32)
+    requires { ⌜ ChangeWithin (word (now page) 1) (Change.Above place gain became) ⌝ }
+    requires { ⌜ rowStart (word (now page) 1 + 3) ≤ length (now page) ⌝ }
+    ensures { λ _. ⌜ now (page .exit) ≡ changeWords t value (now (page .entry)) (Change.Above place gain became) ⌝ }
+{
+    let row = page::row_at(page, place);
+    gain_row(page, gain, value, t);
+    link_row(page, place, row, became, t);
+}
+
+// Changes a page that has room for the 3 rows that an entry may append.
+pub fn change_words(page: &mut [u64], change: Change, value: Value, t: u32)
+    requires { ⌜ ChangeWithin (word (now page) 1) change ⌝ }
+    requires { ⌜ rowStart (word (now page) 1 + 3) ≤ length (now page) ⌝ }
+    ensures { λ _. ⌜ now (page .exit) ≡ changeWords t value (now (page .entry)) change ⌝ }
+{
+    match change {
+        Change::Leaf { inner, gain, key } => edit_leaf(page, inner, gain, key, value, t),
+        Change::Lowest(gain) => gain_row(page, gain, value, t),
+        Change::Above {
+            place,
+            gain,
+            became,
+        } => gain_and_link(page, place, gain, became, value, t),
     }
 }

@@ -1,7 +1,7 @@
 // Entering a point: the descent calls itself on the child page, and each page is edited on the way back up.
-use crate::edits::edit_leaf;
-use crate::edits::gain_row;
-use crate::edits::link_row;
+use crate::edits::Change;
+use crate::edits::change_words;
+use page::Page;
 use page::Place;
 use split::Done;
 use split::split_page;
@@ -15,9 +15,23 @@ ghost use lib.ListN.{length, take};
 ghost use Rattle.words.specs.Overwrite.{overwrite};
 ghost use Rattle.tree.specs.Row.{pageWords, rowLimit, rowStart, word};
 ghost use Rattle.tree.specs.Tree.{pageAt, putPage};
-ghost use Rattle.enter.specs.PageEdits.{Within};
-ghost use Rattle.enter.specs.EnterWords.{loaded, copyWords, useOf, pointAt, settled, madeSo, DoneAs, CanSettle, CanEnter, leafEdited, gainEdited, linkEdited};
+ghost use Rattle.enter.specs.PageEdits.{ChangeWithin};
+ghost use Rattle.enter.specs.EnterWords.{loaded, copyWords, useOf, pointAt, settled, madeSo, changed, leafEdited, DoneAs, CanSettle, CanEnter};
 ghost use Rattle.tree.specs.Enter.{enterFrom};
+
+// The words of a page.
+pub const PAGE_WORDS: usize = 260;
+
+// The rows that one entry may append to a page, and their words.
+const ADDED_ROWS: usize = 3;
+
+const ADDED_WORDS: usize = 4 * ADDED_ROWS;
+
+// The words of a page's copy, which has room for those rows.
+pub const COPY_WORDS: usize = PAGE_WORDS + ADDED_WORDS;
+
+// A page of at most so many rows has room for them in its own words.
+const ROOMY_ROWS: usize = Page::ROWS - ADDED_ROWS;
 
 // Copies words over the front of others.
 fn copy_words(to: &mut [u64], from: &[u64])
@@ -31,16 +45,19 @@ fn copy_words(to: &mut [u64], from: &[u64])
     }
 }
 
-// A copy of a page, with room for the rows that an entry may append.
-fn load_page(table: &[u64], page: usize) -> [u64; 272]
+// Makes the lent words a copy of a page, with zeros in the room for the rows that an entry may append.
+fn load_page(copy: &mut [u64], table: &[u64], page: usize)
+    requires { ⌜ length (now copy) ≡ copyWords ⌝ }
     requires { ⌜ page * pageWords + pageWords ≤ length (now table) ⌝ }
-    ensures { λ r. ⌜ r ≡ loaded (now (table .entry)) page ⌝ }
+    ensures { λ _. ⌜ now (copy .exit) ≡ loaded (now (table .entry)) page ⌝ }
 {
-    let from = page * 260;
-    let to = from + 260;
-    let mut words = [0u64; 272];
-    copy_words(&mut words, &table[from..to]);
-    words
+    let from = page * PAGE_WORDS;
+    let to = from + PAGE_WORDS;
+    copy_words(copy, &table[from..to]);
+    let first = PAGE_WORDS;
+    let last = COPY_WORDS;
+    let zeros = [0u64; ADDED_WORDS];
+    copy_words(&mut copy[first..last], &zeros);
 }
 
 // Writes the copy back into the page's own words.
@@ -49,10 +66,10 @@ fn store_page(table: &mut [u64], page: usize, words: &[u64])
     requires { ⌜ page * pageWords + pageWords ≤ length (now table) ⌝ }
     ensures { λ _. ⌜ now (table .exit) ≡ putPage (now (table .entry)) page (take pageWords (now (words .entry))) ⌝ }
 {
-    let from = page * 260;
-    let to = from + 260;
+    let from = page * PAGE_WORDS;
+    let to = from + PAGE_WORDS;
     let first: usize = 0;
-    let last: usize = 260;
+    let last = PAGE_WORDS;
     copy_words(&mut table[from..to], &words[first..last]);
 }
 
@@ -68,7 +85,7 @@ fn settle_page(
     requires { ⌜ CanSettle used t (madeSo (now table) made) page (now words) ⌝ }
     ensures { λ r. ⌜ DoneAs (settled used t (madeSo (now (table .entry)) made) page (now (words .entry))) (now (table .exit)) r ⌝ }
 {
-    if words[1] <= 64 {
+    if words[1] as usize <= Page::ROWS {
         store_page(table, page, words);
         return Done {
             became: Became::Stays,
@@ -78,69 +95,70 @@ fn settle_page(
     split_page(table, used, made, words, t)
 }
 
+// Changes one page: in its own words where it cannot overflow, else in the scratch words, which then go back into it or into new pages.
+fn change_page(
+    table: &mut [u64],
+    scratch: &mut [u64],
+    used: TreeUse,
+    made: u32,
+    page: usize,
+    change: Change,
+    value: Value,
+    t: u32,
+) -> Done
+    requires { ⌜ length (now scratch) ≡ copyWords ⌝ }
+    requires { ⌜ word (pageAt (now table) page) 1 ≤ rowLimit ⌝ }
+    requires { ⌜ ChangeWithin (word (pageAt (now table) page) 1) change ⌝ }
+    requires { ⌜ CanSettle used t (madeSo (now table) made) page (changed t value (now table) page change) ⌝ }
+    ensures { λ r. ⌜ DoneAs (settled used t (madeSo (now (table .entry)) made) page (changed t value (now (table .entry)) page change)) (now (table .exit)) r ⌝ }
+{
+    let from = page * PAGE_WORDS;
+    let to = from + PAGE_WORDS;
+    if table[from + 1] as usize <= ROOMY_ROWS {
+        change_words(&mut table[from..to], change, value, t);
+        return Done {
+            became: Became::Stays,
+            made,
+        };
+    }
+    load_page(scratch, table, page);
+    change_words(scratch, change, value, t);
+    settle_page(table, used, made, page, scratch, t)
+}
+
 // The lowest page of a descent that reaches a leaf.
-fn enter_leaf(table: &mut [u64], used: TreeUse, page: usize, k: u16, value: Value, t: u32) -> Done
+fn enter_leaf(
+    table: &mut [u64],
+    scratch: &mut [u64],
+    used: TreeUse,
+    page: usize,
+    k: u16,
+    value: Value,
+    t: u32,
+) -> Done
+    requires { ⌜ length (now scratch) ≡ copyWords ⌝ }
     requires { ⌜ word (pageAt (now table) page) 1 ≤ rowLimit ⌝ }
     requires { ⌜ CanSettle used t (madeSo (now table) 0) page (leafEdited t k value (now table) page) ⌝ }
     ensures { λ r. ⌜ DoneAs (settled used t (madeSo (now (table .entry)) 0) page (leafEdited t k value (now (table .entry)) page)) (now (table .exit)) r ⌝ }
 {
-    let from = page * 260;
-    let to = from + 260;
+    let from = page * PAGE_WORDS;
+    let to = from + PAGE_WORDS;
     let survey = page::survey_page(&table[from..to], t, k);
     let inner = survey.inner;
     let gain = survey.gain;
-    let mut words = load_page(table, page);
-    edit_leaf(&mut words, inner, gain, k, value, t);
-    settle_page(table, used, 0, page, &words, t)
+    let leaf = Change::Leaf {
+        inner,
+        gain,
+        key: k,
+    };
+    change_page(table, scratch, used, 0, page, leaf, value, t)
 }
 
-// The lowest page of a descent that ends above the leaves.
-fn enter_lowest(
-    table: &mut [u64],
-    used: TreeUse,
-    page: usize,
-    gain: Place,
-    value: Value,
-    t: u32,
-) -> Done
-    requires { ⌜ word (pageAt (now table) page) 1 ≤ rowLimit ⌝ }
-    requires { ⌜ Within (word (pageAt (now table) page) 1) gain ⌝ }
-    requires { ⌜ CanSettle used t (madeSo (now table) 0) page (gainEdited t value (now table) page gain) ⌝ }
-    ensures { λ r. ⌜ DoneAs (settled used t (madeSo (now (table .entry)) 0) page (gainEdited t value (now (table .entry)) page gain)) (now (table .exit)) r ⌝ }
-{
-    let mut words = load_page(table, page);
-    gain_row(&mut words, gain, value, t);
-    settle_page(table, used, 0, page, &words, t)
-}
-
-// A page above the lowest one, after the call came back from the child of the row at `place`.
-fn enter_above(
-    table: &mut [u64],
-    used: TreeUse,
-    page: usize,
-    place: usize,
-    gain: Place,
-    below: Done,
-    value: Value,
-    t: u32,
-) -> Done
-    requires { ⌜ word (pageAt (now table) page) 1 ≤ rowLimit ⌝ }
-    requires { ⌜ Within (word (pageAt (now table) page) 1) gain ⌝ }
-    requires { ⌜ place < word (pageAt (now table) page) 1 ⌝ }
-    requires { ⌜ CanSettle used t (madeSo (now table) (below .made)) page (linkEdited t value (now table) page gain place (below .became)) ⌝ }
-    ensures { λ r. ⌜ DoneAs (settled used t (madeSo (now (table .entry)) (below .made)) page (linkEdited t value (now (table .entry)) page gain place (below .became))) (now (table .exit)) r ⌝ }
-{
-    let became = below.became;
-    let mut words = load_page(table, page);
-    let row = page::row_at(&words, place);
-    gain_row(&mut words, gain, value, t);
-    link_row(&mut words, place, row, became, t);
-    settle_page(table, used, below.made, page, &words, t)
-}
-
-// Enters the point from a page down: the call goes to the child page first, the level falling, and edits this page when it comes back.
+// Enters the point from a page down: the call goes to the child page first, the level falling, and changes this page when it comes back.
+// The scratch words serve every page of the descent, one after the other, so that a level of the recursion needs few words of stack.
 pub fn enter_from(
     table: &mut [u64],
+    scratch: &mut [u64],
     used: TreeUse,
     level: u64,
     page: u32,
@@ -148,24 +166,29 @@ pub fn enter_from(
     value: Value,
     t: u32,
 ) -> Done
+    requires { ⌜ length (now scratch) ≡ copyWords ⌝ }
     requires { ⌜ CanEnter (useOf (now table) used) (pointAt t k value) level page ⌝ }
     ensures { λ r. ⌜ DoneAs (enterFrom (useOf (now (table .entry)) used) (pointAt t k value) level page) (now (table .exit)) r ⌝ }
 {
     let at = page as usize;
     if level == 0 {
-        return enter_leaf(table, used, at, k, value, t);
+        return enter_leaf(table, scratch, used, at, k, value, t);
     }
-    let from = at * 260;
-    let to = from + 260;
+    let from = at * PAGE_WORDS;
+    let to = from + PAGE_WORDS;
     let survey = page::survey_page(&table[from..to], t, k);
     let inner = survey.inner;
     let gain = survey.gain;
-    match inner {
-        Place::Missing => enter_lowest(table, used, at, gain, value, t),
-        Place::At(place) => {
-            let row = page::row_at(&table[from..to], place);
-            let below = enter_from(table, used, level - 1, row.child, k, value, t);
-            enter_above(table, used, at, place, gain, below, value, t)
-        }
-    }
+    let Place::At(place) = inner else {
+        return change_page(table, scratch, used, 0, at, Change::Lowest(gain), value, t);
+    };
+    let row = page::row_at(&table[from..to], place);
+    let below = enter_from(table, scratch, used, level - 1, row.child, k, value, t);
+    let became = below.became;
+    let above = Change::Above {
+        place,
+        gain,
+        became,
+    };
+    change_page(table, scratch, used, below.made, at, above, value, t)
 }

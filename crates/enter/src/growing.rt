@@ -1,4 +1,6 @@
 // Entering a point into a tree: from the root for its tick down, and what a root overflow does to the root list.
+use crate::entering::COPY_WORDS;
+use crate::entering::PAGE_WORDS;
 use crate::entering::enter_from;
 use lookup::find_root;
 use page::Page;
@@ -53,8 +55,9 @@ pub fn enter(
     let Root::At(root) = found else {
         return used;
     };
-    let level = table[root as usize * 260];
-    let done = enter_from(table, used, level, root, k, value, t);
+    let level = table[root as usize * PAGE_WORDS];
+    let mut scratch = [0u64; COPY_WORDS];
+    let done = enter_from(table, &mut scratch, used, level, root, k, value, t);
     let became = done.became;
     match became {
         Became::Stays => TreeUse {

@@ -1,650 +1,272 @@
-use Prim.Native.Nat.{_-_}
+use Prim.Native.Nat.{ℕ, _+_, _*_, _-_, _≤_, _<_}
 use native.Mathlib.Omega.{arith}
 use mathlib.Core.Path.{_≡_, ap, sym, _∙_}
 use mathlib.Core.List.{List}
-use Rattle.tree.specs.Row.{rowIn}
+use lib.ListN.{length}
+use Rattle.tree.specs.Row.{word, rowIn, rowLimit}
 use Rattle.tree.specs.declared.types.Row.{Row}
-use Rattle.page.specs.declared.survey.Survey.{Survey}
-use Rattle.page.specs.declared.order.Place.the-variants.{At, Missing}
-use Rattle.page.specs.Survey.{surveyOf}
 use Rattle.tree.specs.Tree.{Tree, pageAt}
 use Rattle.tree.specs.RowSteps.{Point}
 use Rattle.tree.specs.Enter.{enterFrom}
-use Rattle.enter.specs.EnterWords.{useOf, pointAt, CanEnter, DoneAs}
+use Rattle.page.specs.declared.survey.Survey.{Survey}
+use Rattle.page.specs.declared.order.Place.the-variants.{At}
+use Rattle.page.specs.Survey.{surveyOf}
+use Rattle.enter.specs.EnterWords.{useOf, pointAt, CanEnter, DoneAs, leafEdited, gainEdited, linkEdited}
+use Rattle.enter.specs.PageEdits.{Within}
 use Rattle.enter.proofs.CopyLaws.{part-is, part-length}
 use Rattle.enter.proofs.EnterLaws.{few-rows, inside}
-use Rattle.enter.proofs.EnterSteps.{gain-within, leaf-step, lowest-step, place-inside, child-step, above-step}
+use Rattle.enter.proofs.EnterSteps.{Settles, gain-within, leaf-step, lowest-step, place-inside, child-step, above-step}
 use borrow.Author.Needs.{needs}
-use Prim.Native.Nat.{ℕ, _<_}
 use borrow.Fn.Kinds.{In}
 use borrow.Fn.PlainCycle.{Measures, is, falls, and}
 use Rattle.enter.proofs.entering.enter_from.Reads as enter-from
 use Rattle.enter.proofs.entering.enter_from.Kinds as enter-from-kinds
 use Rattle.enter.proofs.entering.+enter_from.Lts-enter_from as enter-from-lts
+use Rattle.enter.proofs.entering.enter_leaf.Reads as enter-leaf-reads
+use Rattle.enter.proofs.entering.change_page.Reads as change-page-reads
 use Rattle.page.proofs.row_at.Reads as row-at-reads
 use Rattle.page.proofs.survey_page.Reads as survey-page-reads
-use Rattle.enter.proofs.entering.enter_above.Reads as enter-above-reads
-use Rattle.enter.proofs.entering.enter_leaf.Reads as enter-leaf-reads
-use Rattle.enter.proofs.entering.enter_lowest.Reads as enter-lowest-reads
 use Rattle.enter.proofs.entering.+enter_from.{statement}
 use Rattle.enter.proofs.entering.+enter_from.Tie.{close}
 
-abbrev μ-enter-from : Measures 1 enter-from-kinds.ps ℕ
-μ-enter-from κs a = a .1 .1 .0
+-- The measure is the level
+abbrev μ-enter-from : Measures 2 enter-from-kinds.ps ℕ
+μ-enter-from κs a = a .1 .1 .1 .0
 
-abbrev enter-from-at : ℕ → In 1 enter-from-kinds.ps
+abbrev enter-from-at : ℕ → In 2 enter-from-kinds.ps
 enter-from-at t =
-    and 1 enter-from-kinds.ps (is 1 enter-from-kinds.ps μ-enter-from t) enter-from.Pre
+    and 2 enter-from-kinds.ps (is 2 enter-from-kinds.ps μ-enter-from t) enter-from.Pre
 
-abbrev enter-from-below : ℕ → In 1 enter-from-kinds.ps
+abbrev enter-from-below : ℕ → In 2 enter-from-kinds.ps
 enter-from-below t =
-    and 1 enter-from-kinds.ps (falls 1 enter-from-kinds.ps _<_ μ-enter-from t) enter-from.Pre
+    and 2 enter-from-kinds.ps (falls 2 enter-from-kinds.ps _<_ μ-enter-from t) enter-from.Pre
 
-enter-from-enter-leaf-requires : (t : ℕ) → enter-from-lts.Need-enter-leaf-requires (
+-- What the functions that are called ask and tell
+abbrev calls : ℕ → enter-from-lts.Claims
+calls t = (
   enter-leaf-reads.Asked,
   enter-leaf-reads.Learnt,
   survey-page-reads.Asked,
   survey-page-reads.Learnt,
-  enter-lowest-reads.Asked,
-  enter-lowest-reads.Learnt,
+  change-page-reads.Asked,
+  change-page-reads.Learnt,
   row-at-reads.Asked,
   row-at-reads.Learnt,
   enter-from-below t,
   enter-from.Post,
-  enter-above-reads.Asked,
-  enter-above-reads.Learnt,
-) (enter-from-at t) enter-from.Post
-enter-from-enter-leaf-requires t c κs = let a = c .before .before .before .args in
-    let table = a .table .now in
-    let tree : Tree = useOf table (a .used) in
-    let p : Point = pointAt (a .t) (a .k) (a .value) in
-    let small : p .tick < 4294967296 = omega (arith, c .before .before .before .fits .t .fits) in
-    let narrow : p .key < 65536 = omega (arith, c .before .before .before .fits .k .fits) in
-    let can : CanEnter tree p (a .level) (a .page) = c .before .before .before .pre .1 in
-    let within = inside tree p small narrow (a .level) (a .page) can in
-    let few = few-rows tree p small narrow (a .level) (a .page) can in
-    (few, leaf-step tree p small narrow (a .page) (a .level) (c .before .if1 .taken) can .can)
+)
 
-enter-from-same-length : (t : ℕ) → enter-from-lts.Need-same-length (
-  enter-leaf-reads.Asked,
-  enter-leaf-reads.Learnt,
-  survey-page-reads.Asked,
-  survey-page-reads.Learnt,
-  enter-lowest-reads.Asked,
-  enter-lowest-reads.Learnt,
-  row-at-reads.Asked,
-  row-at-reads.Learnt,
-  enter-from-below t,
-  enter-from.Post,
-  enter-above-reads.Asked,
-  enter-above-reads.Learnt,
-) (enter-from-at t) enter-from.Post
+-- At the start
+module _ (t : ℕ) (s : enter-from-lts.Start (calls t) (enter-from-at t) enter-from.Post) where
+  abbrev table : List ℕ
+  table = s .args .table .now
+
+  abbrev tree : Tree
+  tree = useOf table (s .args .used)
+
+  abbrev point : Point
+  point = pointAt (s .args .t) (s .args .k) (s .args .value)
+
+  abbrev page : List ℕ
+  page = pageAt table (s .args .page)
+
+  small : s .args .t < 4294967296
+  small = omega (arith, s .fits .t .fits)
+
+  narrow : s .args .k < 65536
+  narrow = omega (arith, s .fits .k .fits)
+
+  can : CanEnter tree point (s .args .level) (s .args .page)
+  can = s .pre .1 .1
+
+  within : s .args .page * 260 + 260 ≤ length table
+  within = inside tree point small narrow (s .args .level) (s .args .page) can
+
+  few : word page 1 ≤ rowLimit
+  few = few-rows tree point small narrow (s .args .level) (s .args .page) can
+
+  leaf : s .args .level ≡ 0
+      → Settles tree point (s .args .level) (s .args .page) table 0 (leafEdited (s .args .t) (s .args .k) (s .args .value) table (s .args .page))
+  leaf e = leaf-step tree point small narrow (s .args .page) (s .args .level) e can
+
+  gain-inside : Within (word page 1) (surveyOf (s .args .t) (s .args .k) page .gain)
+  gain-inside = gain-within tree point small narrow (s .args .page)
+
+-- When the page is surveyed
+module _ (t : ℕ) (u : enter-from-lts.After-survey-page (calls t) (enter-from-at t) enter-from.Post) where
+  abbrev start : enter-from-lts.Start (calls t) (enter-from-at t) enter-from.Post
+  start = u .before .before .before .before .before .before
+
+  survey-is : u .survey-page .result ≡ surveyOf (start .args .t) (start .args .k) (page t start)
+  survey-is = u .survey-page .ensures ∙ ap (surveyOf (start .args .t) (start .args .k)) (part-is (table t start) (start .args .page))
+
+  gain-is : u .survey-page .result .gain ≡ surveyOf (start .args .t) (start .args .k) (page t start) .gain
+  gain-is = ap (λ (s : Survey). s .gain) survey-is
+
+-- When no row was found around the key
+module _ (t : ℕ) (n : enter-from-lts.After-enum-told (calls t) (enter-from-at t) enter-from.Post) where
+  abbrev start-lowest : enter-from-lts.Start (calls t) (enter-from-at t) enter-from.Post
+  start-lowest = n .before .before .before .before .before .before .before .before
+
+  lowest : Settles (tree t start-lowest) (point t start-lowest) (start-lowest .args .level) (start-lowest .args .page) (table t start-lowest) 0
+      (gainEdited (start-lowest .args .t) (start-lowest .args .value) (table t start-lowest) (start-lowest .args .page)
+      (surveyOf (start-lowest .args .t) (start-lowest .args .k) (page t start-lowest) .gain))
+  lowest =
+      lowest-step (tree t start-lowest) (point t start-lowest) (small t start-lowest) (narrow t start-lowest) (start-lowest .args .page) (start-lowest .args .level)
+      (n .before .before .before .before .before .if1 .left) (can t start-lowest)
+      (sym (ap (λ (s : Survey). s .inner) (survey-is t (n .before .before))) ∙ n .enum-told .given .1)
+
+-- When one was found
+module _ (t : ℕ) (k : enter-from-lts.After-known-told (calls t) (enter-from-at t) enter-from.Post) where
+  abbrev start-above : enter-from-lts.Start (calls t) (enter-from-at t) enter-from.Post
+  start-above = k .before .before .before .before .before .before .before .before .before
+
+  abbrev place : ℕ
+  place = k .before .inner .given .0 .0
+
+  place-is : surveyOf (start-above .args .t) (start-above .args .k) (page t start-above) .inner ≡ At place
+  place-is = sym (ap (λ (s : Survey). s .inner) (survey-is t (k .before .before .before))) ∙ k .before .inner .given .1
+
+  place-low : place < word (page t start-above) 1
+  place-low = place-inside (tree t start-above) (point t start-above) (small t start-above) (narrow t start-above) (start-above .args .page) place place-is
+
+-- When its row is read
+module _ (t : ℕ) (r : enter-from-lts.After-row-at (calls t) (enter-from-at t) enter-from.Post) where
+  abbrev found : enter-from-lts.After-known-told (calls t) (enter-from-at t) enter-from.Post
+  found = r .before .before .before
+
+  child-is : r .row-at .result .child ≡ rowIn (page t (start-above t found)) (place t found) .child
+  child-is =
+      ap (λ (x : Row). x .child)
+      (r .row-at .ensures ∙ ap (λ (w : List ℕ). rowIn w (place t found)) (part-is (table t (start-above t found)) (start-above t found .args .page)))
+
+-- When the call came back from its child
+module _ (t : ℕ) (e : enter-from-lts.After-enter-from (calls t) (enter-from-at t) enter-from.Post) where
+  abbrev row : enter-from-lts.After-row-at (calls t) (enter-from-at t) enter-from.Post
+  row = e .before .before .before
+
+  abbrev first : enter-from-lts.Start (calls t) (enter-from-at t) enter-from.Post
+  first = start-above t (found t row)
+
+  below-is : DoneAs (enterFrom (tree t first) (point t first) (first .args .level - 1) (rowIn (page t first) (place t (found t row)) .child)) (e .enter-from .last .0) (e .enter-from .result)
+  below-is = rw (child-is t row) at (e .enter-from .ensures)
+
+  above : (word (pageAt (e .enter-from .last .0) (first .args .page)) 1 ≡ word (page t first) 1)
+      × Settles (tree t first) (point t first) (first .args .level) (first .args .page) (e .enter-from .last .0) (e .enter-from .result .made)
+      (linkEdited (first .args .t) (first .args .value) (e .enter-from .last .0) (first .args .page)
+      (surveyOf (first .args .t) (first .args .k) (page t first) .gain) (place t (found t row)) (e .enter-from .result .became))
+  above =
+      above-step (tree t first) (point t first) (small t first) (narrow t first) (first .args .page) (place t (found t row)) (place-is t (found t row))
+      (first .args .level) (found t row .before .before .before .before .before .before .if1 .left) (can t first) (e .enter-from .result) (e .enter-from .last .0) below-is
+
+enter-from-enter-leaf-requires : (t : ℕ) → enter-from-lts.Need-enter-leaf-requires (calls t) (enter-from-at t) enter-from.Post
+enter-from-enter-leaf-requires t c κs =
+    let s = c .before .before .before .before .before in
+    (search needs, (few t s, leaf t s (c .before .before .if1 .taken) .can))
+
+enter-from-same-length : (t : ℕ) → enter-from-lts.Need-same-length (calls t) (enter-from-at t) enter-from.Post
 enter-from-same-length t c = search needs
 
-enter-from-returns : (t : ℕ) → enter-from-lts.Need-returns (
-  enter-leaf-reads.Asked,
-  enter-leaf-reads.Learnt,
-  survey-page-reads.Asked,
-  survey-page-reads.Learnt,
-  enter-lowest-reads.Asked,
-  enter-lowest-reads.Learnt,
-  row-at-reads.Asked,
-  row-at-reads.Learnt,
-  enter-from-below t,
-  enter-from.Post,
-  enter-above-reads.Asked,
-  enter-above-reads.Learnt,
-) (enter-from-at t) enter-from.Post
-enter-from-returns t c = let a = c .before .before .before .before .before .before .args in
-    let table = a .table .now in
-    let tree : Tree = useOf table (a .used) in
-    let p : Point = pointAt (a .t) (a .k) (a .value) in
-    let small : p .tick < 4294967296 = omega (arith, c .before .before .before .before .before .before .fits .t .fits) in
-    let narrow : p .key < 65536 = omega (arith, c .before .before .before .before .before .before .fits .k .fits) in
-    let can : CanEnter tree p (a .level) (a .page) = c .before .before .before .before .before .before .pre .1 in
-    let within = inside tree p small narrow (a .level) (a .page) can in
-    let few = few-rows tree p small narrow (a .level) (a .page) can in
-    rw (leaf-step tree p small narrow (a .page) (a .level) (c .before .before .before .before .if1 .taken) can .is) at (c .before .before .enter-leaf .ensures)
-
-enter-from-mul-from : (t : ℕ) → enter-from-lts.Need-mul-from (
-  enter-leaf-reads.Asked,
-  enter-leaf-reads.Learnt,
-  survey-page-reads.Asked,
-  survey-page-reads.Learnt,
-  enter-lowest-reads.Asked,
-  enter-lowest-reads.Learnt,
-  row-at-reads.Asked,
-  row-at-reads.Learnt,
-  enter-from-below t,
-  enter-from.Post,
-  enter-above-reads.Asked,
-  enter-above-reads.Learnt,
-) (enter-from-at t) enter-from.Post
-enter-from-mul-from t c = let a = c .before .before .args in
-    let table = a .table .now in
-    let tree : Tree = useOf table (a .used) in
-    let p : Point = pointAt (a .t) (a .k) (a .value) in
-    let small : p .tick < 4294967296 = omega (arith, c .before .before .fits .t .fits) in
-    let narrow : p .key < 65536 = omega (arith, c .before .before .fits .k .fits) in
-    let can : CanEnter tree p (a .level) (a .page) = c .before .before .pre .1 in
-    let within = inside tree p small narrow (a .level) (a .page) can in
-    let few = few-rows tree p small narrow (a .level) (a .page) can in
-    omega (arith, within)
-
-enter-from-add-to : (t : ℕ) → enter-from-lts.Need-add-to (
-  enter-leaf-reads.Asked,
-  enter-leaf-reads.Learnt,
-  survey-page-reads.Asked,
-  survey-page-reads.Learnt,
-  enter-lowest-reads.Asked,
-  enter-lowest-reads.Learnt,
-  row-at-reads.Asked,
-  row-at-reads.Learnt,
-  enter-from-below t,
-  enter-from.Post,
-  enter-above-reads.Asked,
-  enter-above-reads.Learnt,
-) (enter-from-at t) enter-from.Post
-enter-from-add-to t c = let a = c .before .before .args in
-    let table = a .table .now in
-    let tree : Tree = useOf table (a .used) in
-    let p : Point = pointAt (a .t) (a .k) (a .value) in
-    let small : p .tick < 4294967296 = omega (arith, c .before .before .fits .t .fits) in
-    let narrow : p .key < 65536 = omega (arith, c .before .before .fits .k .fits) in
-    let can : CanEnter tree p (a .level) (a .page) = c .before .before .pre .1 in
-    let within = inside tree p small narrow (a .level) (a .page) can in
-    let few = few-rows tree p small narrow (a .level) (a .page) can in
-    omega (arith, within)
-
-enter-from-mul-survey-page : (t : ℕ) → enter-from-lts.Need-mul-survey-page (
-  enter-leaf-reads.Asked,
-  enter-leaf-reads.Learnt,
-  survey-page-reads.Asked,
-  survey-page-reads.Learnt,
-  enter-lowest-reads.Asked,
-  enter-lowest-reads.Learnt,
-  row-at-reads.Asked,
-  row-at-reads.Learnt,
-  enter-from-below t,
-  enter-from.Post,
-  enter-above-reads.Asked,
-  enter-above-reads.Learnt,
-) (enter-from-at t) enter-from.Post
-enter-from-mul-survey-page t c = let a = c .before .before .args in
-    let table = a .table .now in
-    let tree : Tree = useOf table (a .used) in
-    let p : Point = pointAt (a .t) (a .k) (a .value) in
-    let small : p .tick < 4294967296 = omega (arith, c .before .before .fits .t .fits) in
-    let narrow : p .key < 65536 = omega (arith, c .before .before .fits .k .fits) in
-    let can : CanEnter tree p (a .level) (a .page) = c .before .before .pre .1 in
-    let within = inside tree p small narrow (a .level) (a .page) can in
-    let few = few-rows tree p small narrow (a .level) (a .page) can in
-    omega (arith, within)
-
-enter-from-sub-survey-page : (t : ℕ) → enter-from-lts.Need-sub-survey-page (
-  enter-leaf-reads.Asked,
-  enter-leaf-reads.Learnt,
-  survey-page-reads.Asked,
-  survey-page-reads.Learnt,
-  enter-lowest-reads.Asked,
-  enter-lowest-reads.Learnt,
-  row-at-reads.Asked,
-  row-at-reads.Learnt,
-  enter-from-below t,
-  enter-from.Post,
-  enter-above-reads.Asked,
-  enter-above-reads.Learnt,
-) (enter-from-at t) enter-from.Post
-enter-from-sub-survey-page t c = search needs
-
-enter-from-part-survey-page-start : (t : ℕ) → enter-from-lts.Need-part-survey-page-start (
-  enter-leaf-reads.Asked,
-  enter-leaf-reads.Learnt,
-  survey-page-reads.Asked,
-  survey-page-reads.Learnt,
-  enter-lowest-reads.Asked,
-  enter-lowest-reads.Learnt,
-  row-at-reads.Asked,
-  row-at-reads.Learnt,
-  enter-from-below t,
-  enter-from.Post,
-  enter-above-reads.Asked,
-  enter-above-reads.Learnt,
-) (enter-from-at t) enter-from.Post
-enter-from-part-survey-page-start t c = search needs
-
-enter-from-part-survey-page-end : (t : ℕ) → enter-from-lts.Need-part-survey-page-end (
-  enter-leaf-reads.Asked,
-  enter-leaf-reads.Learnt,
-  survey-page-reads.Asked,
-  survey-page-reads.Learnt,
-  enter-lowest-reads.Asked,
-  enter-lowest-reads.Learnt,
-  row-at-reads.Asked,
-  row-at-reads.Learnt,
-  enter-from-below t,
-  enter-from.Post,
-  enter-above-reads.Asked,
-  enter-above-reads.Learnt,
-) (enter-from-at t) enter-from.Post
-enter-from-part-survey-page-end t c = let a = c .before .before .before .args in
-    let table = a .table .now in
-    let tree : Tree = useOf table (a .used) in
-    let p : Point = pointAt (a .t) (a .k) (a .value) in
-    let small : p .tick < 4294967296 = omega (arith, c .before .before .before .fits .t .fits) in
-    let narrow : p .key < 65536 = omega (arith, c .before .before .before .fits .k .fits) in
-    let can : CanEnter tree p (a .level) (a .page) = c .before .before .before .pre .1 in
-    let within = inside tree p small narrow (a .level) (a .page) can in
-    let few = few-rows tree p small narrow (a .level) (a .page) can in
-    omega (arith, within)
-
-enter-from-survey-page-requires : (t : ℕ) → enter-from-lts.Need-survey-page-requires (
-  enter-leaf-reads.Asked,
-  enter-leaf-reads.Learnt,
-  survey-page-reads.Asked,
-  survey-page-reads.Learnt,
-  enter-lowest-reads.Asked,
-  enter-lowest-reads.Learnt,
-  row-at-reads.Asked,
-  row-at-reads.Learnt,
-  enter-from-below t,
-  enter-from.Post,
-  enter-above-reads.Asked,
-  enter-above-reads.Learnt,
-) (enter-from-at t) enter-from.Post
-enter-from-survey-page-requires t c κs = let a = c .before .before .before .before .args in
-    let table = a .table .now in
-    let tree : Tree = useOf table (a .used) in
-    let p : Point = pointAt (a .t) (a .k) (a .value) in
-    let small : p .tick < 4294967296 = omega (arith, c .before .before .before .before .fits .t .fits) in
-    let narrow : p .key < 65536 = omega (arith, c .before .before .before .before .fits .k .fits) in
-    let can : CanEnter tree p (a .level) (a .page) = c .before .before .before .before .pre .1 in
-    let within = inside tree p small narrow (a .level) (a .page) can in
-    let few = few-rows tree p small narrow (a .level) (a .page) can in
-    (part-length table (a .page) within, rw (part-is table (a .page)) few)
-
-enter-from-enum-told : (t : ℕ) → enter-from-lts.Need-enum-told (
-  enter-leaf-reads.Asked,
-  enter-leaf-reads.Learnt,
-  survey-page-reads.Asked,
-  survey-page-reads.Learnt,
-  enter-lowest-reads.Asked,
-  enter-lowest-reads.Learnt,
-  row-at-reads.Asked,
-  row-at-reads.Learnt,
-  enter-from-below t,
-  enter-from.Post,
-  enter-above-reads.Asked,
-  enter-above-reads.Learnt,
-) (enter-from-at t) enter-from.Post
-enter-from-enum-told t c = search needs
-
-enter-from-enter-lowest-requires : (t : ℕ) → enter-from-lts.Need-enter-lowest-requires (
-  enter-leaf-reads.Asked,
-  enter-leaf-reads.Learnt,
-  survey-page-reads.Asked,
-  survey-page-reads.Learnt,
-  enter-lowest-reads.Asked,
-  enter-lowest-reads.Learnt,
-  row-at-reads.Asked,
-  row-at-reads.Learnt,
-  enter-from-below t,
-  enter-from.Post,
-  enter-above-reads.Asked,
-  enter-above-reads.Learnt,
-) (enter-from-at t) enter-from.Post
-enter-from-enter-lowest-requires t c κs = let a = c .before .before .before .before .before .before .before .before .args in
-    let table = a .table .now in
-    let tree : Tree = useOf table (a .used) in
-    let p : Point = pointAt (a .t) (a .k) (a .value) in
-    let small : p .tick < 4294967296 = omega (arith, c .before .before .before .before .before .before .before .before .fits .t .fits) in
-    let narrow : p .key < 65536 = omega (arith, c .before .before .before .before .before .before .before .before .fits .k .fits) in
-    let can : CanEnter tree p (a .level) (a .page) = c .before .before .before .before .before .before .before .before .pre .1 in
-    let within = inside tree p small narrow (a .level) (a .page) can in
-    let few = few-rows tree p small narrow (a .level) (a .page) can in
-    let survey : c .before .before .before .survey-page .result ≡ surveyOf (a .t) (a .k) (pageAt table (a .page)) =
-    c .before .before .before .survey-page .ensures ∙ ap (surveyOf (a .t) (a .k)) (part-is table (a .page)) in
-    let missing : surveyOf (a .t) (a .k) (pageAt table (a .page)) .inner ≡ Missing =
-    sym (ap (λ (s : Survey). s .inner) survey) ∙ c .before .enum-told .given .1 in
-    let step = lowest-step tree p small narrow (a .page) (a .level) (c .before .before .before .before .before .before .if1 .left) can missing in
-    let gain : c .before .before .before .survey-page .result .gain ≡ surveyOf (a .t) (a .k) (pageAt table (a .page)) .gain = ap (λ (s : Survey). s .gain) survey in
-    (few, (rw gain (gain-within tree p small narrow (a .page)), rw gain (step .can)))
-
-enter-from-enum-known-inner : (t : ℕ) → enter-from-lts.Need-enum-known-inner (
-  enter-leaf-reads.Asked,
-  enter-leaf-reads.Learnt,
-  survey-page-reads.Asked,
-  survey-page-reads.Learnt,
-  enter-lowest-reads.Asked,
-  enter-lowest-reads.Learnt,
-  row-at-reads.Asked,
-  row-at-reads.Learnt,
-  enter-from-below t,
-  enter-from.Post,
-  enter-above-reads.Asked,
-  enter-above-reads.Learnt,
-) (enter-from-at t) enter-from.Post
-enter-from-enum-known-inner t c = search needs
-
-enter-from-mul-row-at : (t : ℕ) → enter-from-lts.Need-mul-row-at (
-  enter-leaf-reads.Asked,
-  enter-leaf-reads.Learnt,
-  survey-page-reads.Asked,
-  survey-page-reads.Learnt,
-  enter-lowest-reads.Asked,
-  enter-lowest-reads.Learnt,
-  row-at-reads.Asked,
-  row-at-reads.Learnt,
-  enter-from-below t,
-  enter-from.Post,
-  enter-above-reads.Asked,
-  enter-above-reads.Learnt,
-) (enter-from-at t) enter-from.Post
-enter-from-mul-row-at t c = let a = c .before .before .before .before .before .before .before .before .args in
-    let table = a .table .now in
-    let tree : Tree = useOf table (a .used) in
-    let p : Point = pointAt (a .t) (a .k) (a .value) in
-    let small : p .tick < 4294967296 = omega (arith, c .before .before .before .before .before .before .before .before .fits .t .fits) in
-    let narrow : p .key < 65536 = omega (arith, c .before .before .before .before .before .before .before .before .fits .k .fits) in
-    let can : CanEnter tree p (a .level) (a .page) = c .before .before .before .before .before .before .before .before .pre .1 in
-    let within = inside tree p small narrow (a .level) (a .page) can in
-    let few = few-rows tree p small narrow (a .level) (a .page) can in
-    omega (arith, within)
-
-enter-from-sub-row-at : (t : ℕ) → enter-from-lts.Need-sub-row-at (
-  enter-leaf-reads.Asked,
-  enter-leaf-reads.Learnt,
-  survey-page-reads.Asked,
-  survey-page-reads.Learnt,
-  enter-lowest-reads.Asked,
-  enter-lowest-reads.Learnt,
-  row-at-reads.Asked,
-  row-at-reads.Learnt,
-  enter-from-below t,
-  enter-from.Post,
-  enter-above-reads.Asked,
-  enter-above-reads.Learnt,
-) (enter-from-at t) enter-from.Post
-enter-from-sub-row-at t c = search needs
-
-enter-from-part-row-at-start : (t : ℕ) → enter-from-lts.Need-part-row-at-start (
-  enter-leaf-reads.Asked,
-  enter-leaf-reads.Learnt,
-  survey-page-reads.Asked,
-  survey-page-reads.Learnt,
-  enter-lowest-reads.Asked,
-  enter-lowest-reads.Learnt,
-  row-at-reads.Asked,
-  row-at-reads.Learnt,
-  enter-from-below t,
-  enter-from.Post,
-  enter-above-reads.Asked,
-  enter-above-reads.Learnt,
-) (enter-from-at t) enter-from.Post
-enter-from-part-row-at-start t c = search needs
-
-enter-from-part-row-at-end : (t : ℕ) → enter-from-lts.Need-part-row-at-end (
-  enter-leaf-reads.Asked,
-  enter-leaf-reads.Learnt,
-  survey-page-reads.Asked,
-  survey-page-reads.Learnt,
-  enter-lowest-reads.Asked,
-  enter-lowest-reads.Learnt,
-  row-at-reads.Asked,
-  row-at-reads.Learnt,
-  enter-from-below t,
-  enter-from.Post,
-  enter-above-reads.Asked,
-  enter-above-reads.Learnt,
-) (enter-from-at t) enter-from.Post
-enter-from-part-row-at-end t c = let a = c .before .before .before .before .before .before .before .before .before .args in
-    let table = a .table .now in
-    let tree : Tree = useOf table (a .used) in
-    let p : Point = pointAt (a .t) (a .k) (a .value) in
-    let small : p .tick < 4294967296 = omega (arith, c .before .before .before .before .before .before .before .before .before .fits .t .fits) in
-    let narrow : p .key < 65536 = omega (arith, c .before .before .before .before .before .before .before .before .before .fits .k .fits) in
-    let can : CanEnter tree p (a .level) (a .page) = c .before .before .before .before .before .before .before .before .before .pre .1 in
-    let within = inside tree p small narrow (a .level) (a .page) can in
-    let few = few-rows tree p small narrow (a .level) (a .page) can in
-    omega (arith, within)
-
-enter-from-row-at-requires : (t : ℕ) → enter-from-lts.Need-row-at-requires (
-  enter-leaf-reads.Asked,
-  enter-leaf-reads.Learnt,
-  survey-page-reads.Asked,
-  survey-page-reads.Learnt,
-  enter-lowest-reads.Asked,
-  enter-lowest-reads.Learnt,
-  row-at-reads.Asked,
-  row-at-reads.Learnt,
-  enter-from-below t,
-  enter-from.Post,
-  enter-above-reads.Asked,
-  enter-above-reads.Learnt,
-) (enter-from-at t) enter-from.Post
-enter-from-row-at-requires t c κs = let a = c .before .before .before .before .before .before .before .before .before .before .args in
-    let table = a .table .now in
-    let tree : Tree = useOf table (a .used) in
-    let p : Point = pointAt (a .t) (a .k) (a .value) in
-    let small : p .tick < 4294967296 = omega (arith, c .before .before .before .before .before .before .before .before .before .before .fits .t .fits) in
-    let narrow : p .key < 65536 = omega (arith, c .before .before .before .before .before .before .before .before .before .before .fits .k .fits) in
-    let can : CanEnter tree p (a .level) (a .page) = c .before .before .before .before .before .before .before .before .before .before .pre .1 in
-    let within = inside tree p small narrow (a .level) (a .page) can in
-    let few = few-rows tree p small narrow (a .level) (a .page) can in
-    let survey : c .before .before .before .before .before .survey-page .result ≡ surveyOf (a .t) (a .k) (pageAt table (a .page)) =
-    c .before .before .before .before .before .survey-page .ensures ∙ ap (surveyOf (a .t) (a .k)) (part-is table (a .page)) in
-    let q = c .before .before .before .inner .given .0 .0 in
-    let at : surveyOf (a .t) (a .k) (pageAt table (a .page)) .inner ≡ At q =
-    sym (ap (λ (s : Survey). s .inner) survey) ∙ c .before .before .before .inner .given .1 in
-    let low = place-inside tree p small narrow (a .page) q at in
-    omega (arith, low, few, part-length table (a .page) within)
-
-enter-from-sub-enter-from : (t : ℕ) → enter-from-lts.Need-sub-enter-from (
-  enter-leaf-reads.Asked,
-  enter-leaf-reads.Learnt,
-  survey-page-reads.Asked,
-  survey-page-reads.Learnt,
-  enter-lowest-reads.Asked,
-  enter-lowest-reads.Learnt,
-  row-at-reads.Asked,
-  row-at-reads.Learnt,
-  enter-from-below t,
-  enter-from.Post,
-  enter-above-reads.Asked,
-  enter-above-reads.Learnt,
-) (enter-from-at t) enter-from.Post
-enter-from-sub-enter-from t c = search needs
-
-enter-from-enter-from-requires : (t : ℕ) → enter-from-lts.Need-enter-from-requires (
-  enter-leaf-reads.Asked,
-  enter-leaf-reads.Learnt,
-  survey-page-reads.Asked,
-  survey-page-reads.Learnt,
-  enter-lowest-reads.Asked,
-  enter-lowest-reads.Learnt,
-  row-at-reads.Asked,
-  row-at-reads.Learnt,
-  enter-from-below t,
-  enter-from.Post,
-  enter-above-reads.Asked,
-  enter-above-reads.Learnt,
-) (enter-from-at t) enter-from.Post
-enter-from-enter-from-requires t c κs = let a = c .before .before .before .before .before .before .before .before .before .before .before .before .args in
-    let table = a .table .now in
-    let tree : Tree = useOf table (a .used) in
-    let p : Point = pointAt (a .t) (a .k) (a .value) in
-    let small : p .tick < 4294967296 = omega (arith, c .before .before .before .before .before .before .before .before .before .before .before .before .fits .t .fits) in
-    let narrow : p .key < 65536 = omega (arith, c .before .before .before .before .before .before .before .before .before .before .before .before .fits .k .fits) in
-    let can : CanEnter tree p (a .level) (a .page) = c .before .before .before .before .before .before .before .before .before .before .before .before .pre .1 in
-    let within = inside tree p small narrow (a .level) (a .page) can in
-    let few = few-rows tree p small narrow (a .level) (a .page) can in
-    let survey : c .before .before .before .before .before .before .before .survey-page .result ≡ surveyOf (a .t) (a .k) (pageAt table (a .page)) =
-    c .before .before .before .before .before .before .before .survey-page .ensures ∙ ap (surveyOf (a .t) (a .k)) (part-is table (a .page)) in
-    let q = c .before .before .before .before .before .inner .given .0 .0 in
-    let at : surveyOf (a .t) (a .k) (pageAt table (a .page)) .inner ≡ At q =
-    sym (ap (λ (s : Survey). s .inner) survey) ∙ c .before .before .before .before .before .inner .given .1 in
-    let row : c .before .row-at .result ≡ rowIn (pageAt table (a .page)) q =
-    c .before .row-at .ensures ∙ ap (λ (w : List ℕ). rowIn w q) (part-is table (a .page)) in
-    let child : c .before .row-at .result .child ≡ rowIn (pageAt table (a .page)) q .child = ap (λ (r : Row). r .child) row in
-    (omega (arith, c .before .before .before .before .before .before .before .before .before .before .before .before .pre .0), rw child (child-step tree p small narrow (a .page) q at (a .level) (c .before .before .before .before .before .before .before .before .before .before .if1 .left) can))
-
-enter-from-enter-above-requires : (t : ℕ) → enter-from-lts.Need-enter-above-requires (
-  enter-leaf-reads.Asked,
-  enter-leaf-reads.Learnt,
-  survey-page-reads.Asked,
-  survey-page-reads.Learnt,
-  enter-lowest-reads.Asked,
-  enter-lowest-reads.Learnt,
-  row-at-reads.Asked,
-  row-at-reads.Learnt,
-  enter-from-below t,
-  enter-from.Post,
-  enter-above-reads.Asked,
-  enter-above-reads.Learnt,
-) (enter-from-at t) enter-from.Post
-enter-from-enter-above-requires t c κs = let a = c .before .before .before .before .before .before .before .before .before .before .before .before .before .before .before .before .args in
-    let table = a .table .now in
-    let tree : Tree = useOf table (a .used) in
-    let p : Point = pointAt (a .t) (a .k) (a .value) in
-    let small : p .tick < 4294967296 = omega (arith, c .before .before .before .before .before .before .before .before .before .before .before .before .before .before .before .before .fits .t .fits) in
-    let narrow : p .key < 65536 = omega (arith, c .before .before .before .before .before .before .before .before .before .before .before .before .before .before .before .before .fits .k .fits) in
-    let can : CanEnter tree p (a .level) (a .page) = c .before .before .before .before .before .before .before .before .before .before .before .before .before .before .before .before .pre .1 in
-    let within = inside tree p small narrow (a .level) (a .page) can in
-    let few = few-rows tree p small narrow (a .level) (a .page) can in
-    let survey : c .before .before .before .before .before .before .before .before .before .before .before .survey-page .result ≡ surveyOf (a .t) (a .k) (pageAt table (a .page)) =
-    c .before .before .before .before .before .before .before .before .before .before .before .survey-page .ensures ∙ ap (surveyOf (a .t) (a .k)) (part-is table (a .page)) in
-    let q = c .before .before .before .before .before .before .before .before .before .inner .given .0 .0 in
-    let at : surveyOf (a .t) (a .k) (pageAt table (a .page)) .inner ≡ At q =
-    sym (ap (λ (s : Survey). s .inner) survey) ∙ c .before .before .before .before .before .before .before .before .before .inner .given .1 in
-    let row : c .before .before .before .before .before .row-at .result ≡ rowIn (pageAt table (a .page)) q =
-    c .before .before .before .before .before .row-at .ensures ∙ ap (λ (w : List ℕ). rowIn w q) (part-is table (a .page)) in
-    let child : c .before .before .before .before .before .row-at .result .child ≡ rowIn (pageAt table (a .page)) q .child = ap (λ (r : Row). r .child) row in
-    let is : DoneAs (enterFrom tree p (a .level - 1) (rowIn (pageAt table (a .page)) q .child)) (c .before .before .before .enter-from .last .0) (c .before .before .before .enter-from .result) =
-    rw child at (c .before .before .before .enter-from .ensures) in
-    let step = above-step tree p small narrow (a .page) q at (a .level) (c .before .before .before .before .before .before .before .before .before .before .before .before .before .before .if1 .left) can (c .before .before .before .enter-from .result) (c .before .before .before .enter-from .last .0) is in
-    let gain : c .before .before .before .before .before .before .before .before .before .before .before .survey-page .result .gain ≡ surveyOf (a .t) (a .k) (pageAt table (a .page)) .gain = ap (λ (s : Survey). s .gain) survey in
-    let low = place-inside tree p small narrow (a .page) q at in
-    (omega (arith, step .0, few), (rw (gain, step .0) (gain-within tree p small narrow (a .page)), (omega (arith, step .0, low), rw gain (step .1 .can))))
-
-enter-from-same-length-2 : (t : ℕ) → enter-from-lts.Need-same-length-2 (
-  enter-leaf-reads.Asked,
-  enter-leaf-reads.Learnt,
-  survey-page-reads.Asked,
-  survey-page-reads.Learnt,
-  enter-lowest-reads.Asked,
-  enter-lowest-reads.Learnt,
-  row-at-reads.Asked,
-  row-at-reads.Learnt,
-  enter-from-below t,
-  enter-from.Post,
-  enter-above-reads.Asked,
-  enter-above-reads.Learnt,
-) (enter-from-at t) enter-from.Post
+enter-from-same-length-2 : (t : ℕ) → enter-from-lts.Need-same-length-2 (calls t) (enter-from-at t) enter-from.Post
 enter-from-same-length-2 t c = search needs
 
-enter-from-returns-2 : (t : ℕ) → enter-from-lts.Need-returns-2 (
-  enter-leaf-reads.Asked,
-  enter-leaf-reads.Learnt,
-  survey-page-reads.Asked,
-  survey-page-reads.Learnt,
-  enter-lowest-reads.Asked,
-  enter-lowest-reads.Learnt,
-  row-at-reads.Asked,
-  row-at-reads.Learnt,
-  enter-from-below t,
-  enter-from.Post,
-  enter-above-reads.Asked,
-  enter-above-reads.Learnt,
-) (enter-from-at t) enter-from.Post
-enter-from-returns-2 t c = let a = c .before .before .before .before .before .before .before .before .before .before .before .args in
-    let table = a .table .now in
-    let tree : Tree = useOf table (a .used) in
-    let p : Point = pointAt (a .t) (a .k) (a .value) in
-    let small : p .tick < 4294967296 = omega (arith, c .before .before .before .before .before .before .before .before .before .before .before .fits .t .fits) in
-    let narrow : p .key < 65536 = omega (arith, c .before .before .before .before .before .before .before .before .before .before .before .fits .k .fits) in
-    let can : CanEnter tree p (a .level) (a .page) = c .before .before .before .before .before .before .before .before .before .before .before .pre .1 in
-    let within = inside tree p small narrow (a .level) (a .page) can in
-    let few = few-rows tree p small narrow (a .level) (a .page) can in
-    let survey : c .before .before .before .before .before .before .survey-page .result ≡ surveyOf (a .t) (a .k) (pageAt table (a .page)) =
-    c .before .before .before .before .before .before .survey-page .ensures ∙ ap (surveyOf (a .t) (a .k)) (part-is table (a .page)) in
-    let missing : surveyOf (a .t) (a .k) (pageAt table (a .page)) .inner ≡ Missing =
-    sym (ap (λ (s : Survey). s .inner) survey) ∙ c .before .before .before .before .enum-told .given .1 in
-    let step = lowest-step tree p small narrow (a .page) (a .level) (c .before .before .before .before .before .before .before .before .before .if1 .left) can missing in
-    let gain : c .before .before .before .before .before .before .survey-page .result .gain ≡ surveyOf (a .t) (a .k) (pageAt table (a .page)) .gain = ap (λ (s : Survey). s .gain) survey in
-    rw (gain, step .is) at (c .before .before .enter-lowest .ensures)
+enter-from-returns : (t : ℕ) → enter-from-lts.Need-returns (calls t) (enter-from-at t) enter-from.Post
+enter-from-returns t c = rw (leaf t (c .before .before .before .before .before .before .before .before .before .before) (c .before .before .before .before .before .before .before .if1 .taken) .is) at (c .before .before .before .before .enter-leaf .ensures)
 
-enter-from-same-length-3 : (t : ℕ) → enter-from-lts.Need-same-length-3 (
-  enter-leaf-reads.Asked,
-  enter-leaf-reads.Learnt,
-  survey-page-reads.Asked,
-  survey-page-reads.Learnt,
-  enter-lowest-reads.Asked,
-  enter-lowest-reads.Learnt,
-  row-at-reads.Asked,
-  row-at-reads.Learnt,
-  enter-from-below t,
-  enter-from.Post,
-  enter-above-reads.Asked,
-  enter-above-reads.Learnt,
-) (enter-from-at t) enter-from.Post
+enter-from-mul-from : (t : ℕ) → enter-from-lts.Need-mul-from (calls t) (enter-from-at t) enter-from.Post
+enter-from-mul-from t c = omega (arith, within t (c .before .before .before))
+
+enter-from-add-to : (t : ℕ) → enter-from-lts.Need-add-to (calls t) (enter-from-at t) enter-from.Post
+enter-from-add-to t c = omega (arith, within t (c .before .before .before))
+
+enter-from-mul-survey-page : (t : ℕ) → enter-from-lts.Need-mul-survey-page (calls t) (enter-from-at t) enter-from.Post
+enter-from-mul-survey-page t c = omega (arith, within t (c .before .before .before))
+
+enter-from-sub-survey-page : (t : ℕ) → enter-from-lts.Need-sub-survey-page (calls t) (enter-from-at t) enter-from.Post
+enter-from-sub-survey-page t c = search needs
+
+enter-from-part-survey-page-start : (t : ℕ) → enter-from-lts.Need-part-survey-page-start (calls t) (enter-from-at t) enter-from.Post
+enter-from-part-survey-page-start t c = search needs
+
+enter-from-part-survey-page-end : (t : ℕ) → enter-from-lts.Need-part-survey-page-end (calls t) (enter-from-at t) enter-from.Post
+enter-from-part-survey-page-end t c = omega (arith, within t (c .before .before .before .before))
+
+enter-from-survey-page-requires : (t : ℕ) → enter-from-lts.Need-survey-page-requires (calls t) (enter-from-at t) enter-from.Post
+enter-from-survey-page-requires t c κs =
+    let s = c .before .before .before .before .before in
+    (part-length (table t s) (s .args .page) (within t s), rw (part-is (table t s) (s .args .page)) (few t s))
+
+enter-from-enum-known-inner : (t : ℕ) → enter-from-lts.Need-enum-known-inner (calls t) (enter-from-at t) enter-from.Post
+enter-from-enum-known-inner t c = search needs
+
+enter-from-enum-told : (t : ℕ) → enter-from-lts.Need-enum-told (calls t) (enter-from-at t) enter-from.Post
+enter-from-enum-told t c = search needs
+
+enter-from-change-page-requires : (t : ℕ) → enter-from-lts.Need-change-page-requires (calls t) (enter-from-at t) enter-from.Post
+enter-from-change-page-requires t c κs =
+    let s = c .before .before .before .before .before .before .before .before .before .before in
+    let gain = gain-is t (c .before .before .before .before) in
+    (search needs, (few t s, (rw gain (gain-inside t s), rw gain (lowest t (c .before .before) .can))))
+
+enter-from-same-length-3 : (t : ℕ) → enter-from-lts.Need-same-length-3 (calls t) (enter-from-at t) enter-from.Post
 enter-from-same-length-3 t c = search needs
 
-enter-from-returns-3 : (t : ℕ) → enter-from-lts.Need-returns-3 (
-  enter-leaf-reads.Asked,
-  enter-leaf-reads.Learnt,
-  survey-page-reads.Asked,
-  survey-page-reads.Learnt,
-  enter-lowest-reads.Asked,
-  enter-lowest-reads.Learnt,
-  row-at-reads.Asked,
-  row-at-reads.Learnt,
-  enter-from-below t,
-  enter-from.Post,
-  enter-above-reads.Asked,
-  enter-above-reads.Learnt,
-) (enter-from-at t) enter-from.Post
-enter-from-returns-3 t c = let a = c .before .before .before .before .before .before .before .before .before .before .before .before .before .before .before .before .before .before .before .args in
-    let table = a .table .now in
-    let tree : Tree = useOf table (a .used) in
-    let p : Point = pointAt (a .t) (a .k) (a .value) in
-    let small : p .tick < 4294967296 = omega (arith, c .before .before .before .before .before .before .before .before .before .before .before .before .before .before .before .before .before .before .before .fits .t .fits) in
-    let narrow : p .key < 65536 = omega (arith, c .before .before .before .before .before .before .before .before .before .before .before .before .before .before .before .before .before .before .before .fits .k .fits) in
-    let can : CanEnter tree p (a .level) (a .page) = c .before .before .before .before .before .before .before .before .before .before .before .before .before .before .before .before .before .before .before .pre .1 in
-    let within = inside tree p small narrow (a .level) (a .page) can in
-    let few = few-rows tree p small narrow (a .level) (a .page) can in
-    let survey : c .before .before .before .before .before .before .before .before .before .before .before .before .before .before .survey-page .result ≡ surveyOf (a .t) (a .k) (pageAt table (a .page)) =
-    c .before .before .before .before .before .before .before .before .before .before .before .before .before .before .survey-page .ensures ∙ ap (surveyOf (a .t) (a .k)) (part-is table (a .page)) in
-    let q = c .before .before .before .before .before .before .before .before .before .before .before .before .inner .given .0 .0 in
-    let at : surveyOf (a .t) (a .k) (pageAt table (a .page)) .inner ≡ At q =
-    sym (ap (λ (s : Survey). s .inner) survey) ∙ c .before .before .before .before .before .before .before .before .before .before .before .before .inner .given .1 in
-    let row : c .before .before .before .before .before .before .before .before .row-at .result ≡ rowIn (pageAt table (a .page)) q =
-    c .before .before .before .before .before .before .before .before .row-at .ensures ∙ ap (λ (w : List ℕ). rowIn w q) (part-is table (a .page)) in
-    let child : c .before .before .before .before .before .before .before .before .row-at .result .child ≡ rowIn (pageAt table (a .page)) q .child = ap (λ (r : Row). r .child) row in
-    let is : DoneAs (enterFrom tree p (a .level - 1) (rowIn (pageAt table (a .page)) q .child)) (c .before .before .before .before .before .before .enter-from .last .0) (c .before .before .before .before .before .before .enter-from .result) =
-    rw child at (c .before .before .before .before .before .before .enter-from .ensures) in
-    let step = above-step tree p small narrow (a .page) q at (a .level) (c .before .before .before .before .before .before .before .before .before .before .before .before .before .before .before .before .before .if1 .left) can (c .before .before .before .before .before .before .enter-from .result) (c .before .before .before .before .before .before .enter-from .last .0) is in
-    let gain : c .before .before .before .before .before .before .before .before .before .before .before .before .before .before .survey-page .result .gain ≡ surveyOf (a .t) (a .k) (pageAt table (a .page)) .gain = ap (λ (s : Survey). s .gain) survey in
-    rw (gain, step .1 .is) at (c .before .before .enter-above .ensures)
+enter-from-same-length-4 : (t : ℕ) → enter-from-lts.Need-same-length-4 (calls t) (enter-from-at t) enter-from.Post
+enter-from-same-length-4 t c = search needs
+
+enter-from-returns-2 : (t : ℕ) → enter-from-lts.Need-returns-2 (calls t) (enter-from-at t) enter-from.Post
+enter-from-returns-2 t c = rw (gain-is t (c .before .before .before .before .before .before .before .before .before), lowest t (c .before .before .before .before .before .before .before) .is) at (c .before .before .before .before .change-page .ensures)
+
+enter-from-mul-row-at : (t : ℕ) → enter-from-lts.Need-mul-row-at (calls t) (enter-from-at t) enter-from.Post
+enter-from-mul-row-at t c = omega (arith, within t (c .before .before .before .before .before .before .before .before .before))
+
+enter-from-sub-row-at : (t : ℕ) → enter-from-lts.Need-sub-row-at (calls t) (enter-from-at t) enter-from.Post
+enter-from-sub-row-at t c = search needs
+
+enter-from-part-row-at-start : (t : ℕ) → enter-from-lts.Need-part-row-at-start (calls t) (enter-from-at t) enter-from.Post
+enter-from-part-row-at-start t c = search needs
+
+enter-from-part-row-at-end : (t : ℕ) → enter-from-lts.Need-part-row-at-end (calls t) (enter-from-at t) enter-from.Post
+enter-from-part-row-at-end t c = omega (arith, within t (c .before .before .before .before .before .before .before .before .before .before))
+
+enter-from-row-at-requires : (t : ℕ) → enter-from-lts.Need-row-at-requires (calls t) (enter-from-at t) enter-from.Post
+enter-from-row-at-requires t c κs =
+    let s = c .before .before .before .before .before .before .before .before .before .before .before in
+    omega (arith, place-low t (c .before .before), few t s, part-length (table t s) (s .args .page) (within t s))
+
+enter-from-sub-enter-from : (t : ℕ) → enter-from-lts.Need-sub-enter-from (calls t) (enter-from-at t) enter-from.Post
+enter-from-sub-enter-from t c = search needs
+
+enter-from-enter-from-requires : (t : ℕ) → enter-from-lts.Need-enter-from-requires (calls t) (enter-from-at t) enter-from.Post
+enter-from-enter-from-requires t c κs =
+    let k = c .before .before .before .before .before in
+    let s = c .before .before .before .before .before .before .before .before .before .before .before .before .before .before in
+    let step = child-step (tree t s) (point t s) (small t s) (narrow t s) (s .args .page) (place t k) (place-is t k) (s .args .level) (c .before .before .before .before .before .before .before .before .before .before .before .if1 .left) (can t s) in
+    (omega (arith, s .pre .0), (search needs, rw (child-is t (c .before .before)) step))
+
+enter-from-change-page-requires-2 : (t : ℕ) → enter-from-lts.Need-change-page-requires-2 (calls t) (enter-from-at t) enter-from.Post
+enter-from-change-page-requires-2 t c κs =
+    let s = c .before .before .before .before .before .before .before .before .before .before .before .before .before .before .before .before .before .before .before .before .before in
+    let gain = gain-is t (c .before .before .before .before .before .before .before .before .before .before .before .before .before .before .before) in
+    let step = above t (c .before .before .before .before .before .before) in
+    (search needs, (omega (arith, step .0, few t s), ((omega (arith, step .0, place-low t (c .before .before .before .before .before .before .before .before .before .before .before .before)), rw (gain, step .0) (gain-inside t s)), rw gain (step .1 .can))))
+
+enter-from-same-length-5 : (t : ℕ) → enter-from-lts.Need-same-length-5 (calls t) (enter-from-at t) enter-from.Post
+enter-from-same-length-5 t c = search needs
+
+enter-from-same-length-6 : (t : ℕ) → enter-from-lts.Need-same-length-6 (calls t) (enter-from-at t) enter-from.Post
+enter-from-same-length-6 t c = search needs
+
+enter-from-returns-3 : (t : ℕ) → enter-from-lts.Need-returns-3 (calls t) (enter-from-at t) enter-from.Post
+enter-from-returns-3 t c = rw (gain-is t (c .before .before .before .before .before .before .before .before .before .before .before .before .before .before .before .before .before .before .before .before), above t (c .before .before .before .before .before .before .before .before .before .before .before) .1 .is) at (c .before .before .before .before .change-page2 .ensures)
 
 pub +enter-from-spec : {M : Type 1} → statement M
-+enter-from-spec = close μ-enter-from λ t. enter-from-lts.spec (
-  enter-leaf-reads.Asked,
-  enter-leaf-reads.Learnt,
-  survey-page-reads.Asked,
-  survey-page-reads.Learnt,
-  enter-lowest-reads.Asked,
-  enter-lowest-reads.Learnt,
-  row-at-reads.Asked,
-  row-at-reads.Learnt,
-  enter-from-below t,
-  enter-from.Post,
-  enter-above-reads.Asked,
-  enter-above-reads.Learnt,
-)
++enter-from-spec = close μ-enter-from λ t. enter-from-lts.spec (calls t)
     (enter-from-at t)
     enter-from.Post
     (enter-from-enter-leaf-requires t)
     (enter-from-same-length t)
+    (enter-from-same-length-2 t)
     (enter-from-returns t)
     (enter-from-mul-from t)
     (enter-from-add-to t)
@@ -653,9 +275,12 @@ pub +enter-from-spec : {M : Type 1} → statement M
     (enter-from-part-survey-page-start t)
     (enter-from-part-survey-page-end t)
     (enter-from-survey-page-requires t)
-    (enter-from-enum-told t)
-    (enter-from-enter-lowest-requires t)
     (enter-from-enum-known-inner t)
+    (enter-from-enum-told t)
+    (enter-from-change-page-requires t)
+    (enter-from-same-length-3 t)
+    (enter-from-same-length-4 t)
+    (enter-from-returns-2 t)
     (enter-from-mul-row-at t)
     (enter-from-sub-row-at t)
     (enter-from-part-row-at-start t)
@@ -663,8 +288,7 @@ pub +enter-from-spec : {M : Type 1} → statement M
     (enter-from-row-at-requires t)
     (enter-from-sub-enter-from t)
     (enter-from-enter-from-requires t)
-    (enter-from-enter-above-requires t)
-    (enter-from-same-length-2 t)
-    (enter-from-returns-2 t)
-    (enter-from-same-length-3 t)
+    (enter-from-change-page-requires-2 t)
+    (enter-from-same-length-5 t)
+    (enter-from-same-length-6 t)
     (enter-from-returns-3 t)

@@ -1,18 +1,94 @@
-use mathlib.Core.Path.{_≡_, refl, ap, ap₂, sym, _∙_}
-use Prim.Native.Nat.{_<_, _+_}
+use Prim.Native.Nat.{ℕ, _+_, _*_, _≤_, _<_}
 use native.Mathlib.Omega.{arith}
+use mathlib.Core.Path.{_≡_, refl, ap, ap₂, sym, _∙_}
+use lib.ListN.{length}
 use Rattle.page.specs.declared.fresh.Page.{Page}
 use Rattle.page.specs.PageValue.{encodePage, twoRowRoot}
-use Prim.Native.Nat.{ℕ}
-use Rattle.tree.specs.declared.types.Root.the-variants.{At, Missing}
+use Rattle.tree.specs.declared.types.Root.the-variants.{At}
 use Rattle.tree.specs.Tree.{Tree, rootAt, putPage}
 use Rattle.tree.specs.RowSteps.{Point}
-use Rattle.enter.specs.EnterWords.{pointAt}
-use Rattle.enter.specs.EnterRoot.{Planned}
-use Rattle.enter.proofs.EnterRootLaws.{level, root-same, level-same, root-in-use, in-table, low-level, no-missing, can-enter-at, done-at, few-pages, stays-way, copied-can, copied-way, halved-can, halved-room, halved-way}
+use Rattle.tree.specs.Enter.{enterFrom}
+use Rattle.enter.specs.EnterWords.{pointAt, useOf, DoneAs}
+use Rattle.enter.proofs.EnterRootLaws.{level, rootPage, root-same, level-same, root-in-use, in-table, low-level, no-missing, can-enter-at, done-at, few-pages, stays-way, copied-can, copied-way, halved-can, halved-room, halved-way}
 use borrow.Author.Needs.{needs}
 use Rattle.enter.proofs.growing.enter.Statement.{statement}
 use Rattle.enter.proofs.growing.enter.Tie as tie
+use Rattle.enter.proofs.growing.enter.Reads as reads
+use Rattle.enter.proofs.growing.enter.Lts as lts
+use Rattle.enter.proofs.entering.enter_from.Reads as enter-from-reads
+use Rattle.enter.proofs.growing.put_root.Reads as put-root-reads
+use Rattle.lookup.proofs.find_root.Reads as find-root-reads
+use Rattle.page.proofs.fresh.Page.two_row_root.Reads as two-row-root-reads
+use Rattle.split.proofs.put_page.Reads as put-page-reads
+use Rattle.split.proofs.taken_page.Reads as taken-page-reads
+
+-- What the functions that are called ask and tell
+abbrev calls : lts.Claims
+calls = (
+  find-root-reads.Asked,
+  find-root-reads.Learnt,
+  enter-from-reads.Asked,
+  enter-from-reads.Learnt,
+  put-root-reads.Asked,
+  put-root-reads.Learnt,
+  taken-page-reads.Asked,
+  taken-page-reads.Learnt,
+  two-row-root-reads.Asked,
+  two-row-root-reads.Learnt,
+  put-page-reads.Asked,
+  put-page-reads.Learnt,
+)
+
+-- At the start
+module _ (s : lts.Start calls reads.Pre reads.Post) where
+  abbrev tree : Tree
+  tree = record { table = s .args .table .now; roots = s .args .roots .now; used = s .args .used }
+
+  abbrev point : Point
+  point = pointAt (s .args .t) (s .args .k) (s .args .value)
+
+-- When a root was found
+module _ (f : lts.After-known-told calls reads.Pre reads.Post) where
+  abbrev start : lts.Start calls reads.Pre reads.Post
+  start = f .before .before .before .before .before .before .before .before
+
+  abbrev root : ℕ
+  root = f .before .found .given .0 .0
+
+  root-is : rootAt (tree start) (start .args .t) ≡ At root
+  root-is = sym (f .before .before .before .find-root .ensures) ∙ f .before .found .given .1
+
+  root-inside : root * 260 + 260 ≤ length (start .args .table .now)
+  root-inside =
+      omega (
+        arith,
+        root-same (tree start) (point start) (start .pre) root root-is,
+        root-in-use (tree start) (point start) (start .pre),
+        in-table (tree start) (point start) (start .pre),
+      )
+
+-- When the call came back from its page
+module _ (e : lts.After-enter-from calls reads.Pre reads.Post) where
+  abbrev found : lts.After-known-told calls reads.Pre reads.Post
+  found = e .before .before .before .before
+
+  abbrev first : lts.Start calls reads.Pre reads.Post
+  first = start found
+
+  done-is : DoneAs (enterFrom (useOf (first .args .table .now) (first .args .used)) (point first) (level (tree first) (point first) (first .pre)) (rootPage (tree first) (point first) (first .pre)))
+      (e .enter-from .last .0) (e .enter-from .result)
+  done-is = done-at (tree first) (point first) (first .pre) (root found) (root-is found) (e .enter-from .result) (e .enter-from .last .0) (e .enter-from .ensures)
+
+  few-and-same : (e .enter-from .result .made ≤ 8) × (length (e .enter-from .last .0) ≡ length (first .args .table .now))
+  few-and-same =
+      few-pages (tree first) (point first) (first .pre) (omega (arith, first .fits .t .fits)) (omega (arith, first .fits .k .fits))
+      (e .enter-from .result) (e .enter-from .last .0) done-is
+
+  few-made : e .enter-from .result .made ≤ 8
+  few-made = few-and-same .0
+
+  same-size : length (e .enter-from .last .0) ≡ length (first .args .table .now)
+  same-size = few-and-same .1
 
 cast-find-root : tie.Need-cast-find-root
 cast-find-root c = search needs
@@ -30,185 +106,76 @@ same-length : tie.Need-same-length
 same-length c = search needs
 
 returns : tie.Need-returns
-returns c = let a = c .before .before .before .before .before .before .before .args in
-    let tree : Tree = record { table = a .table .now; roots = a .roots .now; used = a .used } in
-    let p : Point = pointAt (a .t) (a .k) (a .value) in
-    let pl : Planned tree p = c .before .before .before .before .before .before .before .pre in
-    let small : p .tick < 4294967296 = omega (arith, c .before .before .before .before .before .before .before .fits .t .fits) in
-    let narrow : p .key < 65536 = omega (arith, c .before .before .before .before .before .before .before .fits .k .fits) in
-    let root : rootAt tree (p .tick) ≡ Missing = sym (c .before .before .find-root .ensures) ∙ c .enum-told .given .1 in
-    absurd (no-missing tree p pl root)
+returns c =
+    let s = c .before .before .before .before .before .before .before in
+    absurd (no-missing (tree s) (point s) (s .pre) (sym (c .before .before .find-root .ensures) ∙ c .enum-told .given .1))
 
 cast-level : tie.Need-cast-level
 cast-level c = search needs
 
 mul-level : tie.Need-mul-level
-mul-level c = let a = c .before .before .before .before .before .before .before .before .args in
-    let tree : Tree = record { table = a .table .now; roots = a .roots .now; used = a .used } in
-    let p : Point = pointAt (a .t) (a .k) (a .value) in
-    let pl : Planned tree p = c .before .before .before .before .before .before .before .before .pre in
-    let small : p .tick < 4294967296 = omega (arith, c .before .before .before .before .before .before .before .before .fits .t .fits) in
-    let narrow : p .key < 65536 = omega (arith, c .before .before .before .before .before .before .before .before .fits .k .fits) in
-    let q = c .before .found .given .0 .0 in
-    let root : rootAt tree (p .tick) ≡ At q = sym (c .before .before .before .find-root .ensures) ∙ c .before .found .given .1 in
-    let same = root-same tree p pl q root in
-    let used = root-in-use tree p pl in
-    omega (arith, in-table tree p pl)
+mul-level c = omega (arith, root-inside c)
 
 mul-level-2 : tie.Need-mul-level-2
-mul-level-2 c = let a = c .before .before .before .before .before .before .before .before .args in
-    let tree : Tree = record { table = a .table .now; roots = a .roots .now; used = a .used } in
-    let p : Point = pointAt (a .t) (a .k) (a .value) in
-    let pl : Planned tree p = c .before .before .before .before .before .before .before .before .pre in
-    let small : p .tick < 4294967296 = omega (arith, c .before .before .before .before .before .before .before .before .fits .t .fits) in
-    let narrow : p .key < 65536 = omega (arith, c .before .before .before .before .before .before .before .before .fits .k .fits) in
-    let q = c .before .found .given .0 .0 in
-    let root : rootAt tree (p .tick) ≡ At q = sym (c .before .before .before .find-root .ensures) ∙ c .before .found .given .1 in
-    let same = root-same tree p pl q root in
-    let used = root-in-use tree p pl in
-    omega (arith, in-table tree p pl)
+mul-level-2 c = omega (arith, root-inside c)
 
 slice-read-level : tie.Need-slice-read-level
-slice-read-level c = let a = c .before .before .before .before .before .before .before .before .before .args in
-    let tree : Tree = record { table = a .table .now; roots = a .roots .now; used = a .used } in
-    let p : Point = pointAt (a .t) (a .k) (a .value) in
-    let pl : Planned tree p = c .before .before .before .before .before .before .before .before .before .pre in
-    let small : p .tick < 4294967296 = omega (arith, c .before .before .before .before .before .before .before .before .before .fits .t .fits) in
-    let narrow : p .key < 65536 = omega (arith, c .before .before .before .before .before .before .before .before .before .fits .k .fits) in
-    let q = c .before .before .found .given .0 .0 in
-    let root : rootAt tree (p .tick) ≡ At q = sym (c .before .before .before .before .find-root .ensures) ∙ c .before .before .found .given .1 in
-    let same = root-same tree p pl q root in
-    let used = root-in-use tree p pl in
-    omega (arith, in-table tree p pl)
+slice-read-level c = omega (arith, root-inside (c .before))
+
+slice-aggregate-enter-from : tie.Need-slice-aggregate-enter-from
+slice-aggregate-enter-from c = search needs
 
 enter-from-requires : tie.Need-enter-from-requires
-enter-from-requires c κs = let a = c .before .before .before .before .before .before .before .before .before .before .args in
-    let tree : Tree = record { table = a .table .now; roots = a .roots .now; used = a .used } in
-    let p : Point = pointAt (a .t) (a .k) (a .value) in
-    let pl : Planned tree p = c .before .before .before .before .before .before .before .before .before .before .pre in
-    let small : p .tick < 4294967296 = omega (arith, c .before .before .before .before .before .before .before .before .before .before .fits .t .fits) in
-    let narrow : p .key < 65536 = omega (arith, c .before .before .before .before .before .before .before .before .before .before .fits .k .fits) in
-    let q = c .before .before .before .found .given .0 .0 in
-    let root : rootAt tree (p .tick) ≡ At q = sym (c .before .before .before .before .before .find-root .ensures) ∙ c .before .before .before .found .given .1 in
-    let same = root-same tree p pl q root in
-    let used = root-in-use tree p pl in
-    can-enter-at tree p pl q root
+enter-from-requires c κs =
+    let f = c .before .before .before in
+    let s = start f in
+    (search needs, can-enter-at (tree s) (point s) (s .pre) (root f) (root-is f))
 
 enum-told-2 : tie.Need-enum-told-2
 enum-told-2 c = search needs
 
-add-t26 : tie.Need-add-t26
-add-t26 c = let a = c .before .before .before .before .before .before .before .before .before .before .before .before .before .before .before .before .before .args in
-    let tree : Tree = record { table = a .table .now; roots = a .roots .now; used = a .used } in
-    let p : Point = pointAt (a .t) (a .k) (a .value) in
-    let pl : Planned tree p = c .before .before .before .before .before .before .before .before .before .before .before .before .before .before .before .before .before .pre in
-    let small : p .tick < 4294967296 = omega (arith, c .before .before .before .before .before .before .before .before .before .before .before .before .before .before .before .before .before .fits .t .fits) in
-    let narrow : p .key < 65536 = omega (arith, c .before .before .before .before .before .before .before .before .before .before .before .before .before .before .before .before .before .fits .k .fits) in
-    let q = c .before .before .before .before .before .before .before .before .before .before .found .given .0 .0 in
-    let root : rootAt tree (p .tick) ≡ At q = sym (c .before .before .before .before .before .before .before .before .before .before .before .before .find-root .ensures) ∙ c .before .before .before .before .before .before .before .before .before .before .found .given .1 in
-    let same = root-same tree p pl q root in
-    let used = root-in-use tree p pl in
-    let is = done-at tree p pl q root (c .before .before .before .before .before .before .enter-from .result) (c .before .before .before .before .before .before .enter-from .last .0) (c .before .before .before .before .before .before .enter-from .ensures) in
-    let few = few-pages tree p pl small narrow (c .before .before .before .before .before .before .enter-from .result) (c .before .before .before .before .before .before .enter-from .last .0) is in
-    omega (arith, few .0, pl .used-few)
+add-t29 : tie.Need-add-t29
+add-t29 c = omega (arith, few-made (c .before .before .before .before .before .before .before), start (c .before .before .before .before .before .before .before .before .before .before .before) .pre .used-few)
 
 enum-known-became : tie.Need-enum-known-became
 enum-known-became c = search needs
 
 put-root-requires : tie.Need-put-root-requires
-put-root-requires c κs = let a = c .before .before .before .before .before .before .before .before .before .before .before .before .before .before .before .before .before .args in
-    let tree : Tree = record { table = a .table .now; roots = a .roots .now; used = a .used } in
-    let p : Point = pointAt (a .t) (a .k) (a .value) in
-    let pl : Planned tree p = c .before .before .before .before .before .before .before .before .before .before .before .before .before .before .before .before .before .pre in
-    let small : p .tick < 4294967296 = omega (arith, c .before .before .before .before .before .before .before .before .before .before .before .before .before .before .before .before .before .fits .t .fits) in
-    let narrow : p .key < 65536 = omega (arith, c .before .before .before .before .before .before .before .before .before .before .before .before .before .before .before .before .before .fits .k .fits) in
-    let q = c .before .before .before .before .before .before .before .before .before .before .found .given .0 .0 in
-    let root : rootAt tree (p .tick) ≡ At q = sym (c .before .before .before .before .before .before .before .before .before .before .before .before .find-root .ensures) ∙ c .before .before .before .before .before .before .before .before .before .before .found .given .1 in
-    let same = root-same tree p pl q root in
-    let used = root-in-use tree p pl in
-    let is = done-at tree p pl q root (c .before .before .before .before .before .before .enter-from .result) (c .before .before .before .before .before .before .enter-from .last .0) (c .before .before .before .before .before .before .enter-from .ensures) in
-    let few = few-pages tree p pl small narrow (c .before .before .before .before .before .before .enter-from .result) (c .before .before .before .before .before .before .enter-from .last .0) is in
-    copied-can tree p pl (c .before .before .before .before .before .before .enter-from .result) (c .before .before .before .before .before .before .enter-from .last .0) is (few .0) (c .before .before .became .given .0 .0) (c .before .before .became .given .1)
+put-root-requires c κs =
+    let e = c .before .before .before .before .before .before .before in
+    let s = start (c .before .before .before .before .before .before .before .before .before .before .before) in
+    copied-can (tree s) (point s) (s .pre) (e .enter-from .result) (e .enter-from .last .0) (done-is e) (few-made e) (c .before .before .became .given .0 .0) (c .before .before .became .given .1)
 
 enum-known-became-2 : tie.Need-enum-known-became-2
 enum-known-became-2 c = search needs
 
 taken-page-requires : tie.Need-taken-page-requires
-taken-page-requires c κs = let a = c .before .before .before .before .before .before .before .before .before .before .before .before .before .before .before .before .args in
-    let tree : Tree = record { table = a .table .now; roots = a .roots .now; used = a .used } in
-    let p : Point = pointAt (a .t) (a .k) (a .value) in
-    let pl : Planned tree p = c .before .before .before .before .before .before .before .before .before .before .before .before .before .before .before .before .pre in
-    let small : p .tick < 4294967296 = omega (arith, c .before .before .before .before .before .before .before .before .before .before .before .before .before .before .before .before .fits .t .fits) in
-    let narrow : p .key < 65536 = omega (arith, c .before .before .before .before .before .before .before .before .before .before .before .before .before .before .before .before .fits .k .fits) in
-    let q = c .before .before .before .before .before .before .before .before .before .found .given .0 .0 in
-    let root : rootAt tree (p .tick) ≡ At q = sym (c .before .before .before .before .before .before .before .before .before .before .before .find-root .ensures) ∙ c .before .before .before .before .before .before .before .before .before .found .given .1 in
-    let same = root-same tree p pl q root in
-    let used = root-in-use tree p pl in
-    let is = done-at tree p pl q root (c .before .before .before .before .before .enter-from .result) (c .before .before .before .before .before .enter-from .last .0) (c .before .before .before .before .before .enter-from .ensures) in
-    let few = few-pages tree p pl small narrow (c .before .before .before .before .before .enter-from .result) (c .before .before .before .before .before .enter-from .last .0) is in
-    (pl .used-few, omega (arith, few .0))
+taken-page-requires c κs = (start (c .before .before .before .before .before .before .before .before .before .before) .pre .used-few, omega (arith, few-made (c .before .before .before .before .before .before)))
 
 add-two-row-root : tie.Need-add-two-row-root
-add-two-row-root c = let a = c .before .before .before .before .before .before .before .before .before .before .before .before .before .before .before .before .before .before .args in
-    let tree : Tree = record { table = a .table .now; roots = a .roots .now; used = a .used } in
-    let p : Point = pointAt (a .t) (a .k) (a .value) in
-    let pl : Planned tree p = c .before .before .before .before .before .before .before .before .before .before .before .before .before .before .before .before .before .before .pre in
-    let small : p .tick < 4294967296 = omega (arith, c .before .before .before .before .before .before .before .before .before .before .before .before .before .before .before .before .before .before .fits .t .fits) in
-    let narrow : p .key < 65536 = omega (arith, c .before .before .before .before .before .before .before .before .before .before .before .before .before .before .before .before .before .before .fits .k .fits) in
-    let q = c .before .before .before .before .before .before .before .before .before .before .before .found .given .0 .0 in
-    let root : rootAt tree (p .tick) ≡ At q = sym (c .before .before .before .before .before .before .before .before .before .before .before .before .before .find-root .ensures) ∙ c .before .before .before .before .before .before .before .before .before .before .before .found .given .1 in
-    let same = root-same tree p pl q root in
-    let used = root-in-use tree p pl in
-    omega (arith, level-same tree p pl q same, low-level tree p pl)
+add-two-row-root c =
+    let f = c .before .before .before .before .before .before .before .before .before .before .before .before in
+    let s = start f in
+    omega (arith, level-same (tree s) (point s) (s .pre) (root f) (root-same (tree s) (point s) (s .pre) (root f) (root-is f)), low-level (tree s) (point s) (s .pre))
 
 two-row-root-requires : tie.Need-two-row-root-requires
 two-row-root-requires c κs = search needs
 
 put-page-requires : tie.Need-put-page-requires
-put-page-requires c κs = let a = c .before .before .before .before .before .before .before .before .before .before .before .before .before .before .before .before .before .before .before .args in
-    let tree : Tree = record { table = a .table .now; roots = a .roots .now; used = a .used } in
-    let p : Point = pointAt (a .t) (a .k) (a .value) in
-    let pl : Planned tree p = c .before .before .before .before .before .before .before .before .before .before .before .before .before .before .before .before .before .before .before .pre in
-    let small : p .tick < 4294967296 = omega (arith, c .before .before .before .before .before .before .before .before .before .before .before .before .before .before .before .before .before .before .before .fits .t .fits) in
-    let narrow : p .key < 65536 = omega (arith, c .before .before .before .before .before .before .before .before .before .before .before .before .before .before .before .before .before .before .before .fits .k .fits) in
-    let q = c .before .before .before .before .before .before .before .before .before .before .before .before .found .given .0 .0 in
-    let root : rootAt tree (p .tick) ≡ At q = sym (c .before .before .before .before .before .before .before .before .before .before .before .before .before .before .find-root .ensures) ∙ c .before .before .before .before .before .before .before .before .before .before .before .before .found .given .1 in
-    let same = root-same tree p pl q root in
-    let used = root-in-use tree p pl in
-    let is = done-at tree p pl q root (c .before .before .before .before .before .before .before .before .enter-from .result) (c .before .before .before .before .before .before .before .before .enter-from .last .0) (c .before .before .before .before .before .before .before .before .enter-from .ensures) in
-    let few = few-pages tree p pl small narrow (c .before .before .before .before .before .before .before .before .enter-from .result) (c .before .before .before .before .before .before .before .before .enter-from .last .0) is in
-    let room = halved-room tree p pl (c .before .before .before .before .before .before .before .before .enter-from .result) (c .before .before .before .before .before .before .before .before .enter-from .last .0) is (c .before .before .before .before .became2 .given .0 .0) (c .before .before .before .before .became2 .given .0 .1 .0) (c .before .before .before .before .became2 .given .1) in
-    (omega (arith, room, few .1, c .before .before .taken-page .ensures), rw (c .two-row-root .ensures) (omega arith))
+put-page-requires c κs =
+    let e = c .before .before .before .before .before .before .before .before .before in
+    let s = start (c .before .before .before .before .before .before .before .before .before .before .before .before .before) in
+    let room = halved-room (tree s) (point s) (s .pre) (e .enter-from .result) (e .enter-from .last .0) (done-is e) (c .before .before .before .before .became2 .given .0 .0) (c .before .before .before .before .became2 .given .0 .1 .0) (c .before .before .before .before .became2 .given .1) in
+    (omega (arith, room, same-size e, c .before .before .taken-page .ensures), rw (c .two-row-root .ensures) (omega arith))
 
 add-put-root : tie.Need-add-put-root
-add-put-root c = let a = c .before .before .before .before .before .before .before .before .before .before .before .before .before .before .before .before .before .before .before .before .before .before .before .before .args in
-    let tree : Tree = record { table = a .table .now; roots = a .roots .now; used = a .used } in
-    let p : Point = pointAt (a .t) (a .k) (a .value) in
-    let pl : Planned tree p = c .before .before .before .before .before .before .before .before .before .before .before .before .before .before .before .before .before .before .before .before .before .before .before .before .pre in
-    let small : p .tick < 4294967296 = omega (arith, c .before .before .before .before .before .before .before .before .before .before .before .before .before .before .before .before .before .before .before .before .before .before .before .before .fits .t .fits) in
-    let narrow : p .key < 65536 = omega (arith, c .before .before .before .before .before .before .before .before .before .before .before .before .before .before .before .before .before .before .before .before .before .before .before .before .fits .k .fits) in
-    let q = c .before .before .before .before .before .before .before .before .before .before .before .before .before .before .before .before .before .found .given .0 .0 in
-    let root : rootAt tree (p .tick) ≡ At q = sym (c .before .before .before .before .before .before .before .before .before .before .before .before .before .before .before .before .before .before .before .find-root .ensures) ∙ c .before .before .before .before .before .before .before .before .before .before .before .before .before .before .before .before .before .found .given .1 in
-    let same = root-same tree p pl q root in
-    let used = root-in-use tree p pl in
-    let is = done-at tree p pl q root (c .before .before .before .before .before .before .before .before .before .before .before .before .before .enter-from .result) (c .before .before .before .before .before .before .before .before .before .before .before .before .before .enter-from .last .0) (c .before .before .before .before .before .before .before .before .before .before .before .before .before .enter-from .ensures) in
-    let few = few-pages tree p pl small narrow (c .before .before .before .before .before .before .before .before .before .before .before .before .before .enter-from .result) (c .before .before .before .before .before .before .before .before .before .before .before .before .before .enter-from .last .0) is in
-    omega (arith, few .0)
+add-put-root c = omega (arith, few-made (c .before .before .before .before .before .before .before .before .before .before .before .before .before .before))
 
 put-root-requires-2 : tie.Need-put-root-requires-2
-put-root-requires-2 c κs = let a = c .before .before .before .before .before .before .before .before .before .before .before .before .before .before .before .before .before .before .before .before .before .before .before .before .args in
-    let tree : Tree = record { table = a .table .now; roots = a .roots .now; used = a .used } in
-    let p : Point = pointAt (a .t) (a .k) (a .value) in
-    let pl : Planned tree p = c .before .before .before .before .before .before .before .before .before .before .before .before .before .before .before .before .before .before .before .before .before .before .before .before .pre in
-    let small : p .tick < 4294967296 = omega (arith, c .before .before .before .before .before .before .before .before .before .before .before .before .before .before .before .before .before .before .before .before .before .before .before .before .fits .t .fits) in
-    let narrow : p .key < 65536 = omega (arith, c .before .before .before .before .before .before .before .before .before .before .before .before .before .before .before .before .before .before .before .before .before .before .before .before .fits .k .fits) in
-    let q = c .before .before .before .before .before .before .before .before .before .before .before .before .before .before .before .before .before .found .given .0 .0 in
-    let root : rootAt tree (p .tick) ≡ At q = sym (c .before .before .before .before .before .before .before .before .before .before .before .before .before .before .before .before .before .before .before .find-root .ensures) ∙ c .before .before .before .before .before .before .before .before .before .before .before .before .before .before .before .before .before .found .given .1 in
-    let same = root-same tree p pl q root in
-    let used = root-in-use tree p pl in
-    let is = done-at tree p pl q root (c .before .before .before .before .before .before .before .before .before .before .before .before .before .enter-from .result) (c .before .before .before .before .before .before .before .before .before .before .before .before .before .enter-from .last .0) (c .before .before .before .before .before .before .before .before .before .before .before .before .before .enter-from .ensures) in
-    let few = few-pages tree p pl small narrow (c .before .before .before .before .before .before .before .before .before .before .before .before .before .enter-from .result) (c .before .before .before .before .before .before .before .before .before .before .before .before .before .enter-from .last .0) is in
-    halved-can tree p pl (c .before .before .before .before .before .before .before .before .before .before .before .before .before .enter-from .result) (c .before .before .before .before .before .before .before .before .before .before .before .before .before .enter-from .last .0) is (few .0) (c .before .before .before .before .before .before .before .before .before .became2 .given .0 .0) (c .before .before .before .before .before .before .before .before .before .became2 .given .0 .1 .0) (c .before .before .before .before .before .before .before .before .before .became2 .given .1)
+put-root-requires-2 c κs =
+    let e = c .before .before .before .before .before .before .before .before .before .before .before .before .before .before in
+    let s = start (c .before .before .before .before .before .before .before .before .before .before .before .before .before .before .before .before .before .before) in
+    halved-can (tree s) (point s) (s .pre) (e .enter-from .result) (e .enter-from .last .0) (done-is e) (few-made e) (c .before .before .before .before .before .before .before .before .before .became2 .given .0 .0) (c .before .before .before .before .before .before .before .before .before .became2 .given .0 .1 .0) (c .before .before .before .before .before .before .before .before .before .became2 .given .1)
 
 same-length-2 : tie.Need-same-length-2
 same-length-2 c = search needs
@@ -217,19 +184,10 @@ same-length-3 : tie.Need-same-length-3
 same-length-3 c = search needs
 
 returns-2 : tie.Need-returns-2
-returns-2 c = let a = c .before .before .before .before .before .before .before .before .before .before .before .before .before .before .before .before .before .args in
-    let tree : Tree = record { table = a .table .now; roots = a .roots .now; used = a .used } in
-    let p : Point = pointAt (a .t) (a .k) (a .value) in
-    let pl : Planned tree p = c .before .before .before .before .before .before .before .before .before .before .before .before .before .before .before .before .before .pre in
-    let small : p .tick < 4294967296 = omega (arith, c .before .before .before .before .before .before .before .before .before .before .before .before .before .before .before .before .before .fits .t .fits) in
-    let narrow : p .key < 65536 = omega (arith, c .before .before .before .before .before .before .before .before .before .before .before .before .before .before .before .before .before .fits .k .fits) in
-    let q = c .before .before .before .before .before .before .before .before .before .before .found .given .0 .0 in
-    let root : rootAt tree (p .tick) ≡ At q = sym (c .before .before .before .before .before .before .before .before .before .before .before .before .find-root .ensures) ∙ c .before .before .before .before .before .before .before .before .before .before .found .given .1 in
-    let same = root-same tree p pl q root in
-    let used = root-in-use tree p pl in
-    let is = done-at tree p pl q root (c .before .before .before .before .before .before .enter-from .result) (c .before .before .before .before .before .before .enter-from .last .0) (c .before .before .before .before .before .before .enter-from .ensures) in
-    let few = few-pages tree p pl small narrow (c .before .before .before .before .before .before .enter-from .result) (c .before .before .before .before .before .before .enter-from .last .0) is in
-    stays-way tree p pl (c .before .before .before .before .before .before .enter-from .result) (c .before .before .before .before .before .before .enter-from .last .0) is (c .before .before .enum-told2 .given .1) _ refl
+returns-2 c =
+    let e = c .before .before .before .before .before .before .before in
+    let s = start (c .before .before .before .before .before .before .before .before .before .before .before) in
+    stays-way (tree s) (point s) (s .pre) (e .enter-from .result) (e .enter-from .last .0) (done-is e) (c .before .before .enum-told2 .given .1) _ refl
 
 same-length-4 : tie.Need-same-length-4
 same-length-4 c = search needs
@@ -238,19 +196,10 @@ same-length-5 : tie.Need-same-length-5
 same-length-5 c = search needs
 
 returns-3 : tie.Need-returns-3
-returns-3 c = let a = c .before .before .before .before .before .before .before .before .before .before .before .before .before .before .before .before .before .before .before .before .args in
-    let tree : Tree = record { table = a .table .now; roots = a .roots .now; used = a .used } in
-    let p : Point = pointAt (a .t) (a .k) (a .value) in
-    let pl : Planned tree p = c .before .before .before .before .before .before .before .before .before .before .before .before .before .before .before .before .before .before .before .before .pre in
-    let small : p .tick < 4294967296 = omega (arith, c .before .before .before .before .before .before .before .before .before .before .before .before .before .before .before .before .before .before .before .before .fits .t .fits) in
-    let narrow : p .key < 65536 = omega (arith, c .before .before .before .before .before .before .before .before .before .before .before .before .before .before .before .before .before .before .before .before .fits .k .fits) in
-    let q = c .before .before .before .before .before .before .before .before .before .before .before .before .before .found .given .0 .0 in
-    let root : rootAt tree (p .tick) ≡ At q = sym (c .before .before .before .before .before .before .before .before .before .before .before .before .before .before .before .find-root .ensures) ∙ c .before .before .before .before .before .before .before .before .before .before .before .before .before .found .given .1 in
-    let same = root-same tree p pl q root in
-    let used = root-in-use tree p pl in
-    let is = done-at tree p pl q root (c .before .before .before .before .before .before .before .before .before .enter-from .result) (c .before .before .before .before .before .before .before .before .before .enter-from .last .0) (c .before .before .before .before .before .before .before .before .before .enter-from .ensures) in
-    let few = few-pages tree p pl small narrow (c .before .before .before .before .before .before .before .before .before .enter-from .result) (c .before .before .before .before .before .before .before .before .before .enter-from .last .0) is in
-    copied-way tree p pl (c .before .before .before .before .before .before .before .before .before .enter-from .result) (c .before .before .before .before .before .before .before .before .before .enter-from .last .0) is (c .before .before .before .before .before .became .given .0 .0) (c .before .before .before .before .before .became .given .1) _ _ (c .before .before .put-root .ensures)
+returns-3 c =
+    let e = c .before .before .before .before .before .before .before .before .before .before in
+    let s = start (c .before .before .before .before .before .before .before .before .before .before .before .before .before .before) in
+    copied-way (tree s) (point s) (s .pre) (e .enter-from .result) (e .enter-from .last .0) (done-is e) (c .before .before .before .before .before .became .given .0 .0) (c .before .before .before .before .before .became .given .1) _ _ (c .before .before .put-root .ensures)
 
 same-length-6 : tie.Need-same-length-6
 same-length-6 c = search needs
@@ -259,25 +208,17 @@ same-length-7 : tie.Need-same-length-7
 same-length-7 c = search needs
 
 returns-4 : tie.Need-returns-4
-returns-4 c = let a = c .before .before .before .before .before .before .before .before .before .before .before .before .before .before .before .before .before .before .before .before .before .before .before .before .before .before .before .args in
-    let tree : Tree = record { table = a .table .now; roots = a .roots .now; used = a .used } in
-    let p : Point = pointAt (a .t) (a .k) (a .value) in
-    let pl : Planned tree p = c .before .before .before .before .before .before .before .before .before .before .before .before .before .before .before .before .before .before .before .before .before .before .before .before .before .before .before .pre in
-    let small : p .tick < 4294967296 = omega (arith, c .before .before .before .before .before .before .before .before .before .before .before .before .before .before .before .before .before .before .before .before .before .before .before .before .before .before .before .fits .t .fits) in
-    let narrow : p .key < 65536 = omega (arith, c .before .before .before .before .before .before .before .before .before .before .before .before .before .before .before .before .before .before .before .before .before .before .before .before .before .before .before .fits .k .fits) in
-    let q = c .before .before .before .before .before .before .before .before .before .before .before .before .before .before .before .before .before .before .before .before .found .given .0 .0 in
-    let root : rootAt tree (p .tick) ≡ At q = sym (c .before .before .before .before .before .before .before .before .before .before .before .before .before .before .before .before .before .before .before .before .before .before .find-root .ensures) ∙ c .before .before .before .before .before .before .before .before .before .before .before .before .before .before .before .before .before .before .before .before .found .given .1 in
-    let same = root-same tree p pl q root in
-    let used = root-in-use tree p pl in
-    let is = done-at tree p pl q root (c .before .before .before .before .before .before .before .before .before .before .before .before .before .before .before .before .enter-from .result) (c .before .before .before .before .before .before .before .before .before .before .before .before .before .before .before .before .enter-from .last .0) (c .before .before .before .before .before .before .before .before .before .before .before .before .before .before .before .before .enter-from .ensures) in
-    let few = few-pages tree p pl small narrow (c .before .before .before .before .before .before .before .before .before .before .before .before .before .before .before .before .enter-from .result) (c .before .before .before .before .before .before .before .before .before .before .before .before .before .before .before .before .enter-from .last .0) is in
-    let top = level-same tree p pl q same in
+returns-4 c =
+    let e = c .before .before .before .before .before .before .before .before .before .before .before .before .before .before .before .before .before in
+    let f = c .before .before .before .before .before .before .before .before .before .before .before .before .before .before .before .before .before .before .before .before .before in
+    let s = start f in
+    let top = level-same (tree s) (point s) (s .pre) (root f) (root-same (tree s) (point s) (s .pre) (root f) (root-is f)) in
     let lower = c .before .before .before .before .before .before .before .before .before .before .before .before .became2 .given .0 .0 in
     let upper = c .before .before .before .before .before .before .before .before .before .before .before .before .became2 .given .0 .1 .0 in
-    let new : c .before .before .before .before .before .before .before .before .two-row-root .result ≡ twoRowRoot (level tree p pl + 1) (a .t) (lower .high) (lower .page) (upper .page) =
-    c .before .before .before .before .before .before .before .before .two-row-root .ensures ∙ ap (λ (n : ℕ). twoRowRoot (n + 1) (a .t) (lower .high) (lower .page) (upper .page)) (sym top) in
-    halved-way tree p pl (c .before .before .before .before .before .before .before .before .before .before .before .before .before .before .before .before .enter-from .result) (c .before .before .before .before .before .before .before .before .before .before .before .before .before .before .before .before .enter-from .last .0) is lower upper (c .before .before .before .before .before .before .before .before .before .before .before .before .became2 .given .1) _ _ _
-    (c .before .before .before .before .before .before .before .put-page .ensures ∙ ap₂ (λ (n : ℕ) (x : Page). putPage (c .before .before .before .before .before .before .before .before .before .before .before .before .before .before .before .before .enter-from .last .0) n (encodePage x)) (c .before .before .before .before .before .before .before .before .before .before .taken-page .ensures) new)
+    let new : c .before .before .before .before .before .before .before .before .two-row-root .result ≡ twoRowRoot (level (tree s) (point s) (s .pre) + 1) (s .args .t) (lower .high) (lower .page) (upper .page) =
+    c .before .before .before .before .before .before .before .before .two-row-root .ensures ∙ ap (λ (n : ℕ). twoRowRoot (n + 1) (s .args .t) (lower .high) (lower .page) (upper .page)) (sym top) in
+    halved-way (tree s) (point s) (s .pre) (e .enter-from .result) (e .enter-from .last .0) (done-is e) lower upper (c .before .before .before .before .before .before .before .before .before .before .before .before .became2 .given .1) _ _ _
+    (c .before .before .before .before .before .before .before .put-page .ensures ∙ ap₂ (λ (n : ℕ) (x : Page). putPage (e .enter-from .last .0) n (encodePage x)) (c .before .before .before .before .before .before .before .before .before .before .taken-page .ensures) new)
     (rw (c .before .before .before .before .before .before .before .before .before .before .taken-page .ensures) at (c .before .before .put-root2 .ensures))
 
 pub enter-spec : {M : Type 1} → statement M
@@ -294,9 +235,10 @@ enter-spec =
     mul-level
     mul-level-2
     slice-read-level
+    slice-aggregate-enter-from
     enter-from-requires
     enum-told-2
-    add-t26
+    add-t29
     enum-known-became
     put-root-requires
     enum-known-became-2

@@ -1,0 +1,136 @@
+use Prim.Native.Nat.{ℕ, _+_, _*_, _-_, _≤_}
+use native.Mathlib.Omega.{arith}
+use mathlib.Core.Path.{_≡_, ap, sym, _∙_}
+use mathlib.Core.List.{List}
+use lib.ListN.{length}
+use borrow.Rule.Slice.PartMut.{putMid}
+use Rattle.tree.specs.Row.{word, pageWords}
+use Rattle.tree.specs.Tree.{pageAt}
+use Rattle.tree.specs.Overflow.{Written}
+use Rattle.tree.proofs.TableLaws.{page-length}
+use Rattle.enter.specs.PageEdits.{changeWords}
+use Rattle.enter.specs.EnterWords.{madeSo, changed}
+use Rattle.enter.proofs.CopyLaws.{part-is, part-back, page-count}
+use Rattle.enter.proofs.SettleLaws.{loaded-count, loaded-length}
+use Rattle.enter.proofs.InPlace.{in-place, in-place-size}
+use borrow.Author.Needs.{needs}
+use Rattle.enter.proofs.entering.change_page.Statement.{statement}
+use Rattle.enter.proofs.entering.change_page.Tie as tie
+
+mul-from : tie.Need-mul-from
+mul-from c = search needs
+
+add-to : tie.Need-add-to
+add-to c = search needs
+
+add-if1 : tie.Need-add-if1
+add-if1 c = search needs
+
+mul-if1 : tie.Need-mul-if1
+mul-if1 c = search needs
+
+slice-read-if1 : tie.Need-slice-read-if1
+slice-read-if1 c = search needs
+
+mul-change-words : tie.Need-mul-change-words
+mul-change-words c = search needs
+
+sub-change-words : tie.Need-sub-change-words
+sub-change-words c = search needs
+
+part-change-words-start : tie.Need-part-change-words-start
+part-change-words-start c = search needs
+
+part-change-words-end : tie.Need-part-change-words-end
+part-change-words-end c = search needs
+
+change-words-requires : tie.Need-change-words-requires
+change-words-requires c κs =
+    let a = c .before .before .before .before .before .args in
+    let pre = c .before .before .before .before .before .pre in
+    let table = a .table .now in
+    let whole : length (pageAt table (a .page)) ≡ pageWords = page-length table (a .page) (pre .1 .1 .1 .inside) in
+    let few : word (pageAt table (a .page)) 1 ≤ 61 = omega (arith, page-count table (a .page), c .before .if1 .taken) in
+    rw (part-is table (a .page)) (pre .1 .1 .0, omega arith)
+
+same-length : tie.Need-same-length
+same-length c = search needs
+
+returns : tie.Need-returns
+returns c =
+    let a = c .before .before .before .before .before .before .before .before .args in
+    let pre = c .before .before .before .before .before .before .before .before .pre in
+    let table = a .table .now in
+    let whole : length (pageAt table (a .page)) ≡ pageWords = page-length table (a .page) (pre .1 .1 .1 .inside) in
+    let few : word (pageAt table (a .page)) 1 ≤ 61 = omega (arith, page-count table (a .page), c .before .before .before .before .if1 .taken) in
+    let new : c .before .before .change-words .last .0 ≡ changeWords (a .t) (a .value) (pageAt table (a .page)) (a .change) =
+    c .before .before .change-words .ensures ∙ ap (λ (w : List ℕ). changeWords (a .t) (a .value) w (a .change)) (part-is table (a .page)) in
+    let size = in-place-size (a .used) (a .t) (madeSo table (a .made)) (a .page) (a .value) (a .change) whole few (pre .1 .1 .0) in
+    let stay = in-place (a .used) (a .t) (madeSo table (a .made)) (a .page) (a .value) (a .change) whole few (pre .1 .1 .0) in
+    record {
+      table-is =
+          ap (putMid (a .page * 260) (a .page * 260 + 260 - a .page * 260) table) new
+          ∙ part-back table (a .page) (changeWords (a .t) (a .value) (pageAt table (a .page)) (a .change)) (pre .1 .1 .1 .inside) size
+          ∙ ap (λ (w : Written). w .table) (sym stay);
+      made-is = ap (λ (w : Written). w .made) (sym stay);
+      became-is = ap (λ (w : Written). w .became) (sym stay);
+    }
+
+load-page-requires : tie.Need-load-page-requires
+load-page-requires c κs = search needs
+
+change-words-requires-2 : tie.Need-change-words-requires-2
+change-words-requires-2 c κs =
+    let a = c .before .before .before .before .before .before .before .before .before .before .args in
+    let pre = c .before .before .before .before .before .before .before .before .before .before .pre in
+    let table = a .table .now in
+    let whole : length (pageAt table (a .page)) ≡ pageWords = page-length table (a .page) (pre .1 .1 .1 .inside) in
+    let count = loaded-count table (a .page) whole in
+    let size = loaded-length table (a .page) whole in
+    rw (c .before .before .before .load-page .ensures) (rw count (pre .1 .1 .0), omega (arith, pre .1 .0))
+
+settle-page-requires : tie.Need-settle-page-requires
+settle-page-requires c κs =
+    let a = c .before .before .before .before .before .before .before .before .before .before .before .before .before .before .before .args in
+    let pre = c .before .before .before .before .before .before .before .before .before .before .before .before .before .before .before .pre in
+    let table = a .table .now in
+    let edited : c .before .before .before .before .change-words2 .last .0 ≡ changed (a .t) (a .value) table (a .page) (a .change) =
+    c .before .before .before .before .change-words2 .ensures ∙ ap (λ (w : List ℕ). changeWords (a .t) (a .value) w (a .change)) (c .before .before .before .before .before .before .before .before .load-page .ensures) in
+    rw edited (pre .1 .1 .1)
+
+same-length-2 : tie.Need-same-length-2
+same-length-2 c = search needs
+
+same-length-3 : tie.Need-same-length-3
+same-length-3 c = search needs
+
+returns-2 : tie.Need-returns-2
+returns-2 c =
+    let a = c .before .before .before .before .before .before .before .before .before .before .before .before .before .before .before .before .before .before .args in
+    let table = a .table .now in
+    let edited : c .before .before .before .before .before .before .before .change-words2 .last .0 ≡ changed (a .t) (a .value) table (a .page) (a .change) =
+    c .before .before .before .before .before .before .before .change-words2 .ensures ∙ ap (λ (w : List ℕ). changeWords (a .t) (a .value) w (a .change)) (c .before .before .before .before .before .before .before .before .before .before .before .load-page .ensures) in
+    rw edited at (c .before .before .settle-page .ensures)
+
+pub change-page-spec : {M : Type 1} → statement M
+change-page-spec =
+    tie.close
+    (tie.spec
+    mul-from
+    add-to
+    add-if1
+    mul-if1
+    slice-read-if1
+    mul-change-words
+    sub-change-words
+    part-change-words-start
+    part-change-words-end
+    change-words-requires
+    same-length
+    returns
+    load-page-requires
+    change-words-requires-2
+    settle-page-requires
+    same-length-2
+    same-length-3
+    returns-2)
