@@ -1,3 +1,4 @@
+use native.Mathlib.Omega.{arith}
 use mathlib.Core.Path.{_≡_}
 use mathlib.Core.Bool.{true}
 use lib.Dec.{leb, ltb}
@@ -11,7 +12,9 @@ range-low-requires : tie.Need-range-low-requires
 range-low-requires c κs = search needs
 
 returns : tie.Need-returns
-returns c = rw (← c .before .range-low .ensures, lt-leb _ _ (c .if1 .taken))
+returns c =
+    let a = c .before .before .args in
+    rw (← c .before .range-low .ensures, lt-leb (a .from) (c .before .range-low .result) (omega (arith, c .if1 .taken)))
 
 range-low-requires-2 : tie.Need-range-low-requires-2
 range-low-requires-2 c κs = search needs
