@@ -1,5 +1,5 @@
 -- The pages of an overflow, built row by row from the entries of a key order.
-use Prim.Native.Nat.{ℕ, zero, suc, _+_, _-_, _≤_, _<_}
+use Prim.Native.Nat.{ℕ, zero, suc, _+_, _-_, _^_, _≤_, _<_}
 use native.Mathlib.Numerals.{add-one}
 use native.Mathlib.Omega.{arith}
 use mathlib.Core.Path.{_≡_, refl, ap, ap₂, sym, _∙_}
@@ -14,9 +14,10 @@ use Rattle.words.specs.Value as value
 use Rattle.words.proofs.ValueLaws.{Stored, plus-stored, plus-zero, plus-assoc, zero-plus}
 use Rattle.tree.specs.declared.types.Row.{Row}
 use Rattle.page.specs.declared.fresh.Page.{Page}
-use Rattle.tree.specs.Row.{rowLimit}
+use Rattle.tree.specs.Row.{word, rowLimit, rowStart}
 use Rattle.tree.specs.TrueValue.{totalWhere}
 use Rattle.tree.specs.Fresh.{freshPage}
+use Rattle.page.specs.Entries.{entryPlace}
 use Rattle.page.specs.PageValue.{pageRows, encodePage, emptyPage, withRow, noRows}
 use Rattle.page.proofs.OrderLaws.{drop-here}
 use Rattle.tree.proofs.OrderTotals.{total-stored}
@@ -78,12 +79,6 @@ unfolding fillPage
 filled-count words t p [] = omega arith
 filled-count words t p (e ∷ es) = omega (arith, filled-count words t (withRow p (copyOf words t e)) es)
 
--- From an empty page
-pub filled-fresh : (words : List ℕ) (t level low high : ℕ) (es : List ℕ) → length es ≤ rowLimit →
-    encodePage (fillPage words t (emptyPage level low high t) es) ≡ freshPage level low high t (map (copyOf words t) es)
-unfolding noRows
-filled-fresh words t level low high es room = filled-words (λ (l : List Row). l) words t (emptyPage level low high t) es refl (omega arith)
-
 -- The first row gains a value, among the rows in use and among all places
 pub gain-take : (v : Value) (n : ℕ) (rows : List Row) → take n (gainFirst v rows) ≡ gainFirst v (take n rows)
 gain-take v zero rows = refl
@@ -103,6 +98,20 @@ filled-gained words t level low high es v room =
     let p : Page = fillPage words t (emptyPage level low high t) es in
     ap (freshPage (p .level) (p .low) (p .high) (p .birth)) (gain-take v (p .count) (p .rows))
     ∙ filled-words (gainFirst v) words t (emptyPage level low high t) es refl (omega arith)
+
+-- and where it gains nothing, the page of the copies
+gain-nothing : (words : List ℕ) (t : ℕ) (es : List ℕ) → ((i : ℕ) → word words i < 2 ^ 64) →
+    gainFirst value.zero (map (copyOf words t) es) ≡ map (copyOf words t) es
+gain-nothing words t [] small = refl
+gain-nothing words t (e ∷ es) small =
+    let r : Row = copyOf words t e in
+    ap (λ (v : Value). record { low = r .low; high = r .high; child = r .child; birth = r .birth; end = r .end; value = v } ∷ map (copyOf words t) es)
+    (plus-zero (r .value) (small (rowStart (entryPlace e) + 2), small (rowStart (entryPlace e) + 2 + 1)))
+
+pub filled-fresh : (words : List ℕ) (t level low high : ℕ) (es : List ℕ) → ((i : ℕ) → word words i < 2 ^ 64) → length es ≤ rowLimit →
+    encodePage (gainPage value.zero (fillPage words t (emptyPage level low high t) es)) ≡ freshPage level low high t (map (copyOf words t) es)
+filled-fresh words t level low high es small room =
+    filled-gained words t level low high es value.zero room ∙ ap (freshPage level low high t) (gain-nothing words t es small)
 
 -- The values of the entries' rows add up to the total of the copies
 pub added-total : (words : List ℕ) (t : ℕ) (total : Value) (es : List ℕ) → Stored total →

@@ -1,5 +1,5 @@
 -- The entries of a page's key order, and its live rows: the copies of the entries' rows are the rows that an overflow copies, in their order.
-use Prim.Native.Nat.{ℕ, zero, suc, _+_, _-_, _/_, _≤_, _<_}
+use Prim.Native.Nat.{ℕ, zero, suc, _+_, _-_, _^_, _/_, _≤_, _<_}
 use native.Mathlib.Omega.{arith}
 use mathlib.Core.Path.{_≡_, refl, ap, ap₂, sym, _∙_}
 use mathlib.Core.List.{List, [], _∷_, _++_, map}
@@ -79,14 +79,14 @@ module _ (t : ℕ) (words order : List ℕ) (start : ℕ) (from : Sourced t word
   between-length n m h l = length-take-le (m - n) (drop n order) (omega (arith, length-drop n order))
 
   -- One new page
-  pub copy-table : (table : List ℕ) (number : ℕ) → orderSize ≤ start + copyLimit →
+  pub copy-table : ((i : ℕ) → word words i < 2 ^ 64) → (table : List ℕ) (number : ℕ) → orderSize ≤ start + copyLimit →
       putPage table number
-      (encodePage (fillPage words t (emptyPage (word words 0) (lowKey (word words 2)) (highKey (word words 2)) t) (between start orderSize order)))
+      (encodePage (gainPage value.zero (fillPage words t (emptyPage (word words 0) (lowKey (word words 2)) (highKey (word words 2)) t) (between start orderSize order))))
       ≡ copiedTable table number words t
   unfolding copiedTable
-  copy-table table number h =
+  copy-table small table number h =
       ap (putPage table number)
-      (filled-fresh words t (word words 0) (lowKey (word words 2)) (highKey (word words 2)) (between start orderSize order)
+      (filled-fresh words t (word words 0) (lowKey (word words 2)) (highKey (word words 2)) (between start orderSize order) small
       (omega (arith, between-length start orderSize start-in (omega arith)))
       ∙ ap (freshPage (word words 0) (lowKey (word words 2)) (highKey (word words 2)) t)
       (ap (map (copyOf words t)) (between-all start) ∙ copies))
@@ -118,25 +118,25 @@ module _ (t : ℕ) (words order : List ℕ) (start : ℕ) (from : Sourced t word
         ap (λ (l : List Row). lowestKey (highKey (word words 2)) l)
         (ap (map (copyOf words t)) (sym (drop-here order cut (omega arith))) ∙ drop-is)
 
-    pub halve-table : (table : List ℕ) (first second middle : ℕ) → middle ≡ middleKey words t →
+    pub halve-table : ((i : ℕ) → word words i < 2 ^ 64) → (table : List ℕ) (first second middle : ℕ) → middle ≡ middleKey words t →
         putPage
         (putPage table first
-        (encodePage (fillPage words t (emptyPage (word words 0) (lowKey (word words 2)) middle t) (between start cut order))))
+        (encodePage (gainPage value.zero (fillPage words t (emptyPage (word words 0) (lowKey (word words 2)) middle t) (between start cut order)))))
         second
         (encodePage
         (gainPage (addRows words value.zero (between start cut order))
         (fillPage words t (emptyPage (word words 0) middle (highKey (word words 2)) t) (between cut orderSize order))))
         ≡ halvedTable table first second words t
     unfolding halvedTable
-    halve-table table first second middle e =
+    halve-table small table first second middle e =
         let level : ℕ = word words 0 in
         let low : ℕ = lowKey (word words 2) in
         let high : ℕ = highKey (word words 2) in
         let in-order : cut ≤ orderSize = omega (arith, start-in) in
         let after : start ≤ cut = omega arith in
-        let lower : encodePage (fillPage words t (emptyPage level low middle t) (between start cut order))
+        let lower : encodePage (gainPage value.zero (fillPage words t (emptyPage level low middle t) (between start cut order)))
         ≡ freshPage level low (middleKey words t) t (take (lowerCount (liveCopies words t)) (liveCopies words t)) =
-        filled-fresh words t level low middle (between start cut order) (omega (arith, between-length start cut after in-order))
+        filled-fresh words t level low middle (between start cut order) small (omega (arith, between-length start cut after in-order))
         ∙ ap₂ (λ (m : ℕ) (l : List Row). freshPage level low m t l) e lower-is in
         let total : addRows words value.zero (between start cut order) ≡ totalOf (take (lowerCount (liveCopies words t)) (liveCopies words t)) =
         added-from-zero words t (between start cut order) ∙ ap totalOf lower-is in

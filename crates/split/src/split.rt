@@ -11,27 +11,31 @@ ghost use mathlib.Core.Path.{_≡_};
 ghost use Prim.Native.Nat.{_+_, _*_, _-_, _≤_, _<_};
 ghost use lib.ListN.{length, drop};
 ghost use Rattle.words.specs.Value as value;
-ghost use Rattle.tree.specs.Row.{word, pageWords, rowLimit, copyLimit};
-ghost use Rattle.page.specs.PageValue.{encodePage};
+ghost use Rattle.tree.specs.Row.{word, headerWords, pageWords, rowLimit, copyLimit};
+ghost use Rattle.page.specs.PageValue.{encodePage, emptyPage};
 ghost use Rattle.page.specs.Entries.{orderSize, InPage};
 ghost use Rattle.tree.specs.Tree.{putPage};
 ghost use Rattle.tree.specs.Overflow.{takenPage, lowerHalf};
 ghost use Rattle.split.specs.SplitWords.{scratchWords, Sourced, between, fillPage, addRows, gainPage, copiedTable, middleKey, halvedTable, splitWords};
 
-// The page with the rows of the entries from one place of the order up to another, each born at t and open.
-fn filled(words: &[u64], order: &[u64], from: usize, to: usize, blank: Page, t: u32) -> Page
+// A new page of the old page's level, with the rows of the entries from one place of the order up to another, each born at t and open. The
+// rows are stored here and not by `with_row`, which would copy the page for each of them.
+fn filled(words: &[u64], order: &[u64], from: usize, to: usize, low: u16, high: u16, t: u32) -> Page
+    requires { ⌜ headerWords ≤ length (now words) ⌝ }
     requires { ⌜ length (now order) ≡ orderSize ⌝ }
     requires { ⌜ from ≤ to ⌝ }
     requires { ⌜ to ≤ orderSize ⌝ }
-    requires { ⌜ blank .count + (to - from) ≤ rowLimit ⌝ }
+    requires { ⌜ to - from ≤ rowLimit ⌝ }
     requires { ⌜ InPage (now words) (drop from (now order)) ⌝ }
-    ensures { λ r. ⌜ r ≡ fillPage (now (words .entry)) t blank (between from to (now (order .entry))) ⌝ }
+    ensures { λ r. ⌜ r ≡ fillPage (now (words .entry)) t (emptyPage (word (now (words .entry)) 0) low high t) (between from to (now (order .entry))) ⌝ }
 {
-    let mut page = blank;
+    let mut page = Page::empty(words[0], low, high, t);
     let mut at = from;
     while at < to {
         let row = page::row_at(words, page::entry_place(order[at]));
-        page = page.with_row(born_at(row, t));
+        let place = page.count;
+        page.rows[place] = born_at(row, t);
+        page.count = place + 1;
         at += 1;
     }
     page
@@ -75,6 +79,33 @@ pub fn put_page(table: &mut [u64], number: u32, page: Page)
     page.write(&mut table[from..to]);
 }
 
+// Writes a new page with the rows of such entries, the first of them with a value added. The pages of a split are all made here, one after
+// the other, so that they use the same stack.
+fn put_rows(
+    table: &mut [u64],
+    number: u32,
+    words: &[u64],
+    order: &[u64],
+    from: usize,
+    to: usize,
+    low: u16,
+    high: u16,
+    gain: Value,
+    t: u32,
+)
+    requires { ⌜ headerWords ≤ length (now words) ⌝ }
+    requires { ⌜ length (now order) ≡ orderSize ⌝ }
+    requires { ⌜ from ≤ to ⌝ }
+    requires { ⌜ to ≤ orderSize ⌝ }
+    requires { ⌜ to - from ≤ rowLimit ⌝ }
+    requires { ⌜ InPage (now words) (drop from (now order)) ⌝ }
+    requires { ⌜ (number + 1) * pageWords ≤ length (now table) ⌝ }
+    ensures { λ _. ⌜ now (table .exit) ≡ putPage (now (table .entry)) number (encodePage (gainPage gain (fillPage (now (words .entry)) t (emptyPage (word (now (words .entry)) 0) low high t) (between from to (now (order .entry)))))) ⌝ }
+{
+    let page = filled(words, order, from, to, low, high, t);
+    put_page(table, number, gain_first(page, gain));
+}
+
 // All live rows go to one new page of the old page's level and key range.
 fn copy_rows(table: &mut [u64], number: u32, words: &[u64], order: &[u64], start: usize, t: u32)
     requires { ⌜ Sourced t (now words) (now order) start ⌝ }
@@ -83,8 +114,21 @@ fn copy_rows(table: &mut [u64], number: u32, words: &[u64], order: &[u64], start
     ensures { λ _. ⌜ now (table .exit) ≡ copiedTable (now (table .entry)) number (now (words .entry)) t ⌝ }
 {
     let range = words[2];
-    let blank = Page::empty(words[0], words::low_key(range), words::high_key(range), t);
-    put_page(table, number, filled(words, order, start, 67, blank, t));
+    let low = words::low_key(range);
+    let high = words::high_key(range);
+    let nothing = Value::zero();
+    put_rows(
+        table,
+        number,
+        words,
+        order,
+        start,
+        67,
+        low,
+        high,
+        nothing,
+        t,
+    );
 }
 
 // Where the lower page's rows stop in an order that starts at `start`: it takes the larger half.
@@ -113,18 +157,25 @@ fn halve_rows(
     ensures { λ _. ⌜ now (table .exit) ≡ halvedTable (now (table .entry)) first second (now (words .entry)) t ⌝ }
 {
     let cut = lower_end(start);
-    let level = words[0];
     let range = words[2];
+    let low = words::low_key(range);
+    let high = words::high_key(range);
     let middle = page::row_at(words, page::entry_place(order[cut])).low;
-    let lower = Page::empty(level, words::low_key(range), middle, t);
-    let upper = Page::empty(level, middle, words::high_key(range), t);
     let below = total_of(words, order, start, cut);
-    put_page(table, first, filled(words, order, start, cut, lower, t));
-    put_page(
+    let nothing = Value::zero();
+    put_rows(
         table,
-        second,
-        gain_first(filled(words, order, cut, 67, upper, t), below),
+        first,
+        words,
+        order,
+        start,
+        cut,
+        low,
+        middle,
+        nothing,
+        t,
     );
+    put_rows(table, second, words, order, cut, 67, middle, high, below, t);
     middle
 }
 
