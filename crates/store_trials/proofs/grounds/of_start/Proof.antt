@@ -1,0 +1,40 @@
+use Rattle.store_trials.proofs.Tests.{tests}
+use Rattle.store.specs.Refusals.{firstMet}
+use borrow.Author.Needs.{needs}
+use Rattle.store_trials.proofs.grounds.of_start.Statement.{statement}
+use Rattle.store_trials.proofs.grounds.of_start.Tie as tie
+
+returns : tie.Need-returns
+unfolding firstMet
+returns c = search (needs, tests)
+
+returns-2 : tie.Need-returns-2
+unfolding firstMet
+returns-2 c = search (needs, tests)
+
+returns-3 : tie.Need-returns-3
+unfolding firstMet
+returns-3 c = search (needs, tests)
+
+returns-4 : tie.Need-returns-4
+unfolding firstMet
+returns-4 c = search (needs, tests)
+
+returns-5 : tie.Need-returns-5
+unfolding firstMet
+returns-5 c = search (needs, tests)
+
+returns-6 : tie.Need-returns-6
+unfolding firstMet
+returns-6 c = search (needs, tests)
+
+returns-7 : tie.Need-returns-7
+unfolding firstMet
+returns-7 c = search (needs, tests)
+
+returns-8 : tie.Need-returns-8
+unfolding firstMet
+returns-8 c = search (needs, tests)
+
+pub of-start-spec : {M : Type 1} → statement M
+of-start-spec = tie.close (tie.spec returns returns-2 returns-3 returns-4 returns-5 returns-6 returns-7 returns-8)

@@ -1,0 +1,98 @@
+use Prim.Native.Nat.{_*_, _≤_}
+use mathlib.Core.Path.{_≡_}
+use lib.ListN.{length}
+use borrow.Author.Needs.{needs}
+use Rattle.store_trials.proofs.history.history.Statement.{statement}
+use Rattle.store_trials.proofs.history.history.Tie as tie
+
+abbrev Inv-loop : tie.InvT-loop
+Inv-loop start-table₀ start-roots₀ end-table₀ end-roots₀ passes₀ random₀ shape anew turns run₀ call₀ left₀ start-table start-roots end-table end-roots passes random run call left =
+    (length start-table ≡ length start-table₀)
+    × (length start-roots ≡ length start-roots₀)
+    × (length end-table ≡ length end-table₀)
+    × (length end-roots ≡ length end-roots₀)
+    × (length passes ≡ length passes₀)
+    × (run .book .started * 4 ≤ length passes)
+    × (1 ≤ anew)
+
+abbrev μ-loop : tie.MeasureT-loop
+μ-loop start-table₀ start-roots₀ end-table₀ end-roots₀ passes₀ random₀ shape anew turns run₀ call₀ left₀ start-table start-roots end-table end-roots passes random run call left = left
+
+opened-head-requires : tie.Need-opened-head-requires Inv-loop μ-loop
+opened-head-requires c κs = search needs
+
+opened-requires : tie.Need-opened-requires Inv-loop μ-loop
+opened-requires c κs = search needs
+
+none-requires : tie.Need-none-requires Inv-loop μ-loop
+none-requires c κs = search needs
+
+loop-holds : tie.Need-loop-holds Inv-loop μ-loop
+loop-holds c = search needs
+
+turn-requires : tie.Need-turn-requires Inv-loop μ-loop
+turn-requires c κs = search needs
+
+next-call-requires : tie.Need-next-call-requires Inv-loop μ-loop
+next-call-requires c κs = search needs
+
+sub-left : tie.Need-sub-left Inv-loop μ-loop
+sub-left c = search needs
+
+loop-less : tie.Need-loop-less Inv-loop μ-loop
+loop-less c = search needs
+
+loop-again : tie.Need-loop-again Inv-loop μ-loop
+loop-again c = search needs
+
+height-requires : tie.Need-height-requires Inv-loop μ-loop
+height-requires c κs = search needs
+
+height-requires-2 : tie.Need-height-requires-2 Inv-loop μ-loop
+height-requires-2 c κs = search needs
+
+ended-requires : tie.Need-ended-requires Inv-loop μ-loop
+ended-requires c κs = search needs
+
+same-length : tie.Need-same-length Inv-loop μ-loop
+same-length c = search needs
+
+same-length-2 : tie.Need-same-length-2 Inv-loop μ-loop
+same-length-2 c = search needs
+
+same-length-3 : tie.Need-same-length-3 Inv-loop μ-loop
+same-length-3 c = search needs
+
+same-length-4 : tie.Need-same-length-4 Inv-loop μ-loop
+same-length-4 c = search needs
+
+same-length-5 : tie.Need-same-length-5 Inv-loop μ-loop
+same-length-5 c = search needs
+
+returns : tie.Need-returns Inv-loop μ-loop
+returns c = search needs
+
+pub history-spec : {M : Type 1} → statement M
+history-spec =
+    tie.close
+    (tie.spec
+    Inv-loop
+    μ-loop
+    opened-head-requires
+    opened-requires
+    none-requires
+    loop-holds
+    turn-requires
+    next-call-requires
+    sub-left
+    loop-less
+    loop-again
+    height-requires
+    height-requires-2
+    ended-requires
+    same-length
+    same-length-2
+    same-length-3
+    same-length-4
+    same-length-5
+    returns)

@@ -1,0 +1,79 @@
+use Prim.Native.Nat.{_-_, _≤_}
+use mathlib.Core.Path.{_≡_}
+use lib.ListN.{length}
+use borrow.Author.Needs.{needs}
+use Rattle.store_trials.proofs.trials.Statement.{statement}
+use Rattle.store_trials.proofs.trials.Tie as tie
+
+abbrev Inv-loop : tie.InvT-loop
+Inv-loop start-table₀ start-roots₀ end-table₀ end-roots₀ all₀ number₀ start-table start-roots end-table end-roots all number =
+    (length start-table ≡ length start-table₀)
+    × (length start-roots ≡ length start-roots₀)
+    × (length end-table ≡ length end-table₀)
+    × (length end-roots ≡ length end-roots₀) × (number ≤ 19)
+
+abbrev μ-loop : tie.MeasureT-loop
+μ-loop start-table₀ start-roots₀ end-table₀ end-roots₀ all₀ number₀ start-table start-roots end-table end-roots all number = 19 - number
+
+none-requires : tie.Need-none-requires Inv-loop μ-loop
+none-requires c κs = search needs
+
+loop-holds : tie.Need-loop-holds Inv-loop μ-loop
+loop-holds c = search needs
+
+trial-on-part-requires : tie.Need-trial-on-part-requires Inv-loop μ-loop
+trial-on-part-requires c κs = search needs
+
+say-trial-requires : tie.Need-say-trial-requires Inv-loop μ-loop
+say-trial-requires c κs = search needs
+
+say-counts-requires : tie.Need-say-counts-requires Inv-loop μ-loop
+say-counts-requires c κs = search needs
+
+plus-requires : tie.Need-plus-requires Inv-loop μ-loop
+plus-requires c κs = search needs
+
+add-number : tie.Need-add-number Inv-loop μ-loop
+add-number c = search needs
+
+loop-less : tie.Need-loop-less Inv-loop μ-loop
+loop-less c = search needs
+
+loop-again : tie.Need-loop-again Inv-loop μ-loop
+loop-again c = search needs
+
+same-length : tie.Need-same-length Inv-loop μ-loop
+same-length c = search needs
+
+same-length-2 : tie.Need-same-length-2 Inv-loop μ-loop
+same-length-2 c = search needs
+
+same-length-3 : tie.Need-same-length-3 Inv-loop μ-loop
+same-length-3 c = search needs
+
+same-length-4 : tie.Need-same-length-4 Inv-loop μ-loop
+same-length-4 c = search needs
+
+returns : tie.Need-returns Inv-loop μ-loop
+returns c = search needs
+
+pub trials-spec : {M : Type 1} → statement M
+trials-spec =
+    tie.close
+    (tie.spec
+    Inv-loop
+    μ-loop
+    none-requires
+    loop-holds
+    trial-on-part-requires
+    say-trial-requires
+    say-counts-requires
+    plus-requires
+    add-number
+    loop-less
+    loop-again
+    same-length
+    same-length-2
+    same-length-3
+    same-length-4
+    returns)

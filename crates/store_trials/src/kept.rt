@@ -1,0 +1,122 @@
+// What a call leaves beside its answer: the head, and the words that are lent.
+use crate::book::Book;
+use crate::book::pass_of;
+use store::Head;
+use store::OpenPass;
+ghost use Prim.Native.Nat.{_*_, _≤_};
+ghost use lib.ListN.{length};
+
+// "unused places zero".
+fn is_unused(open: OpenPass) -> bool {
+    if open.number != 0 {
+        return false;
+    }
+    if open.key != 0 {
+        return false;
+    }
+    if open.weight != 0 {
+        return false;
+    }
+    open.start == 0
+}
+
+// Whether a place of the head has an open pass of the list, with a number not below `least`.
+fn is_listed(open: OpenPass, least: u32, passes: &[u32], book: Book) -> bool
+    requires { ⌜ book .started * 4 ≤ length (now passes) ⌝ }
+{
+    if open.number < least {
+        return false;
+    }
+    if book.started <= open.number {
+        return false;
+    }
+    let pass = pass_of(passes, open.number);
+    if pass.key != open.key {
+        return false;
+    }
+    if pass.weight != open.weight {
+        return false;
+    }
+    if pass.start != open.start {
+        return false;
+    }
+    pass.end == 4294967295
+}
+
+// Whether a place has what it should: an open pass below the number of open ones, zeros from there on.
+fn place_agrees(open: OpenPass, used: bool, least: u32, passes: &[u32], book: Book) -> bool
+    requires { ⌜ book .started * 4 ≤ length (now passes) ⌝ }
+{
+    if used {
+        return is_listed(open, least, passes, book);
+    }
+    is_unused(open)
+}
+
+// Whether the head's places have the list's open passes, in order of opening. Their numbers rise and they are as many as the list has open,
+// so none is left out.
+fn places_agree(head: Head, passes: &[u32], book: Book) -> bool
+    requires { ⌜ book .started * 4 ≤ length (now passes) ⌝ }
+{
+    let mut place: usize = 0;
+    let mut least: u32 = 0;
+    while place < 64 {
+        let open = head.passes[place];
+        if !place_agrees(open, place < book.open as usize, least, passes, book) {
+            return false;
+        }
+        least = std::num::wrapping_add_u32(open.number, 1);
+        place += 1;
+    }
+    true
+}
+
+// Whether the head has the last tick, the number started and the open passes of the list.
+pub fn head_agrees(head: Head, passes: &[u32], book: Book) -> bool
+    requires { ⌜ book .started * 4 ≤ length (now passes) ⌝ }
+{
+    if head.last != book.last {
+        return false;
+    }
+    if head.started != book.started {
+        return false;
+    }
+    if head.count != book.open {
+        return false;
+    }
+    places_agree(head, passes, book)
+}
+
+// A number for the words of a slice and a number before them, another one for nearly every change of a word. A slice of more than eight
+// pages is passed over: there it would take too long after every call.
+fn summed(slice: &[u64], before: u64) -> u64 {
+    let mut sum = before % 2147483647;
+    if 2080 < slice.len() {
+        return sum;
+    }
+    let mut at: usize = 0;
+    while at < slice.len() {
+        sum = (sum % 2147483647 * 48271 + slice[at] % 2147483647 + 1) % 2147483647;
+        at += 1;
+    }
+    sum
+}
+
+// A number for all the words that are lent, and for the pages and roots that the head says are in use.
+pub fn memory_sum(
+    head: Head,
+    start_table: &[u64],
+    start_roots: &[u64],
+    end_table: &[u64],
+    end_roots: &[u64],
+) -> u64 {
+    let starts = summed(start_roots, summed(start_table, 1));
+    let both = summed(end_roots, summed(end_table, starts));
+    let used = [
+        head.starts.pages as u64,
+        head.starts.roots as u64,
+        head.ends.pages as u64,
+        head.ends.roots as u64,
+    ];
+    summed(&used, both)
+}

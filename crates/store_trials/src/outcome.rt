@@ -1,0 +1,160 @@
+// A call made on the store, and all that is seen of it.
+use crate::call::Call;
+use crate::call::make;
+use crate::counts::refusal_of;
+use crate::kept::memory_sum;
+use crate::listing::Hints;
+use crate::paths::height;
+use crate::paths::pages_opened;
+use crate::paths::word_at;
+use calls::Reply;
+use store::Answer;
+use store::Head;
+use tree::TreeUse;
+ghost use Prim.Native.Nat.{_≤_};
+
+// The most pages that an entry makes in a tree so many pages high: two on each level and a new root, but never more than seven.
+fn most_made(height: u64) -> u64
+    ensures { λ r. ⌜ r ≤ 7 ⌝ }
+{
+    if height < 3 {
+        return 2 * height + 1;
+    }
+    7
+}
+
+// Whether a tree may lack pages for an entry: more may be made than are left.
+fn may_lack_pages(table: &[u64], roots: &[u64], used: TreeUse) -> bool {
+    let most = most_made(height(table, roots, used.roots));
+    table.len() as u64 / 260 < used.pages as u64 + most
+}
+
+// Whether a tree may lack a place for a root at a tick: the list is full, and the last root was not born at the tick, so that it would not
+// be replaced.
+fn may_lack_root(roots: &[u64], used: TreeUse, tick: u32) -> bool {
+    if (used.roots as usize) < roots.len() {
+        return false;
+    }
+    let last = std::num::wrapping_sub_u32(used.roots, 1);
+    words::birth_of(word_at(roots, last as usize)) < tick
+}
+
+// 27 or 28 where the store said so and where it can be so, else 0.
+fn lacking(table: &[u64], roots: &[u64], used: TreeUse, tick: u32, refusal: u8) -> u8 {
+    if refusal == 27 {
+        return number_if(27, may_lack_pages(table, roots, used));
+    }
+    if refusal == 28 {
+        return number_if(28, may_lack_root(roots, used, tick));
+    }
+    0
+}
+
+// A number where something holds, and 0 where not.
+fn number_if(number: u8, holds: bool) -> u8 {
+    if holds {
+        return number;
+    }
+    0
+}
+
+// The hints for a call, by the tree that it writes or the lookups that it makes.
+fn hints_of(
+    head: Head,
+    start_table: &[u64],
+    start_roots: &[u64],
+    end_table: &[u64],
+    end_roots: &[u64],
+    call: Call,
+    refusal: u8,
+) -> Hints {
+    let starts = head.starts;
+    let ends = head.ends;
+    match call {
+        Call::Open => Hints {
+            lacking: 0,
+            pages: 0,
+        },
+        Call::Start {
+            tick,
+            key: _,
+            weight: _,
+        } => Hints {
+            lacking: lacking(start_table, start_roots, starts, tick, refusal),
+            pages: 0,
+        },
+        Call::End { tick, number: _ } => Hints {
+            lacking: lacking(end_table, end_roots, ends, tick, refusal),
+            pages: 0,
+        },
+        Call::Ask(asked) => Hints {
+            lacking: 0,
+            pages: pages_opened(head, start_table, start_roots, end_table, end_roots, asked),
+        },
+    }
+}
+
+// What a call on the store came to: its answer and its head, what the list is told of it, and whether the words that are lent were left as
+// they were.
+pub struct Outcome {
+    pub answer: Answer,
+    pub head: Head,
+    pub hints: Hints,
+    pub unchanged: bool,
+}
+
+// The call's answer and head, and what the words then say beside them. `head` is the head before the call, and `before` the sum of the
+// words.
+fn observed(
+    head: Head,
+    reply: Reply,
+    before: u64,
+    start_table: &[u64],
+    start_roots: &[u64],
+    end_table: &[u64],
+    end_roots: &[u64],
+    call: Call,
+) -> Outcome {
+    let answer = reply.answer;
+    let next = reply.head;
+    let refusal = refusal_of(answer);
+    let now = memory_sum(next, start_table, start_roots, end_table, end_roots);
+    let hints = hints_of(
+        head,
+        start_table,
+        start_roots,
+        end_table,
+        end_roots,
+        call,
+        refusal,
+    );
+    Outcome {
+        answer,
+        head: next,
+        hints,
+        unchanged: before == now,
+    }
+}
+
+// Makes a call on the store.
+pub fn made(
+    head: Head,
+    start_table: &mut [u64],
+    start_roots: &mut [u64],
+    end_table: &mut [u64],
+    end_roots: &mut [u64],
+    call: Call,
+) -> Outcome {
+    let before = memory_sum(head, start_table, start_roots, end_table, end_roots);
+    let reply = make(head, start_table, start_roots, end_table, end_roots, call);
+    observed(
+        head,
+        reply,
+        before,
+        start_table,
+        start_roots,
+        end_table,
+        end_roots,
+        call,
+    )
+}

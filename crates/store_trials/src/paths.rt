@@ -1,0 +1,144 @@
+// Pages opened, by the words that the store holds: the lengths of the paths of a question's or a lookup's lookups.
+use crate::call::Asked;
+use store::Head;
+ghost use Prim.Native.Nat.{_≤_};
+
+// A word of a lent slice, and 0 beyond its end.
+pub fn word_at(slice: &[u64], at: usize) -> u64 {
+    if at < slice.len() {
+        return slice[at];
+    }
+    0
+}
+
+// "The root for tick t is the entry in the highest place with birth ≤ t." Its page.
+fn root_page(roots: &[u64], used: u32, t: u32) -> u32 {
+    let mut left = used;
+    while 0 < left {
+        left -= 1;
+        let entry = word_at(roots, left as usize);
+        if words::birth_of(entry) <= t {
+            return words::end_of(entry);
+        }
+    }
+    0
+}
+
+// Whether a row, by its first two words, is live at t and has low key ≤ k < high key.
+fn holds(keys: u64, life: u64, t: u32, k: u32) -> bool {
+    if t < words::birth_of(life) {
+        return false;
+    }
+    if words::end_of(life) <= t {
+        return false;
+    }
+    if k < words::low_key(keys) as u32 {
+        return false;
+    }
+    k < words::high_key(keys) as u32
+}
+
+// How many rows a page has.
+fn row_count(table: &[u64], page: u32) -> usize
+    ensures { λ r. ⌜ r ≤ 64 ⌝ }
+{
+    let rows = word_at(table, page as usize * 260 + 1);
+    if 64 < rows {
+        return 64;
+    }
+    rows as usize
+}
+
+// The child of the row that holds (t, k).
+fn child(table: &[u64], page: u32, t: u32, k: u32) -> u32 {
+    let from = page as usize * 260 + 4;
+    let rows = row_count(table, page);
+    let mut row: usize = 0;
+    while row < rows {
+        let keys = word_at(table, from + 4 * row);
+        let life = word_at(table, from + 4 * row + 1);
+        if holds(keys, life, t, k) {
+            return words::child_page(keys);
+        }
+        row += 1;
+    }
+    0
+}
+
+// "The path of a lookup is the root for t, then from each page above level 0 the child of the row that is live at t and has low key ≤ k <
+// high key. Pages opened is the number of pages on it." No path is longer than four pages.
+fn path_length(table: &[u64], roots: &[u64], used: u32, t: u32, k: u32) -> u32 {
+    let mut page = root_page(roots, used, t);
+    let mut length: u32 = 1;
+    while length < 5 {
+        if word_at(table, page as usize * 260) == 0 {
+            return length;
+        }
+        page = child(table, page, t, k);
+        length += 1;
+    }
+    length
+}
+
+// The two paths of one tree that a question over the keys k1 to k2 follows at t; with k1 = 0 it is one.
+fn band_length(table: &[u64], roots: &[u64], used: u32, t: u32, k1: u32, k2: u32) -> u32 {
+    let high = path_length(table, roots, used, t, std::num::wrapping_sub_u32(k2, 1));
+    if k1 == 0 {
+        return high;
+    }
+    let low = path_length(table, roots, used, t, k1 - 1);
+    std::num::wrapping_add_u32(high, low)
+}
+
+// The pages that a question opens, "a page on two paths counted twice".
+fn question_pages(
+    head: Head,
+    start_table: &[u64],
+    start_roots: &[u64],
+    end_table: &[u64],
+    end_roots: &[u64],
+    k1: u32,
+    k2: u32,
+    t1: u32,
+    t2: u32,
+) -> u32 {
+    let t = std::num::wrapping_sub_u32(t2, 1);
+    let starts = band_length(start_table, start_roots, head.starts.roots, t, k1, k2);
+    let ends = band_length(end_table, end_roots, head.ends.roots, t1, k1, k2);
+    std::num::wrapping_add_u32(starts, ends)
+}
+
+// The pages that a question or a lookup opens, if it is answered with totals.
+pub fn pages_opened(
+    head: Head,
+    start_table: &[u64],
+    start_roots: &[u64],
+    end_table: &[u64],
+    end_roots: &[u64],
+    asked: Asked,
+) -> u32 {
+    match asked {
+        Asked::Question { k1, k2, t1, t2 } => question_pages(
+            head,
+            start_table,
+            start_roots,
+            end_table,
+            end_roots,
+            k1,
+            k2,
+            t1,
+            t2,
+        ),
+        Asked::LookupStarts { t, k } => {
+            path_length(start_table, start_roots, head.starts.roots, t, k)
+        }
+        Asked::LookupEnds { t, k } => path_length(end_table, end_roots, head.ends.roots, t, k),
+    }
+}
+
+// "A tree is as many pages high as the level of its last root plus 1."
+pub fn height(table: &[u64], roots: &[u64], used: u32) -> u64 {
+    let last = std::num::wrapping_sub_u32(used, 1);
+    let page = words::end_of(word_at(roots, last as usize));
+    std::num::wrapping_add_u64(word_at(table, page as usize * 260), 1)
+}
