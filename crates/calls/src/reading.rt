@@ -4,6 +4,7 @@ use crate::grounds::question_input;
 use crate::refusals::head_refusal;
 use lookup::find_root;
 use lookup::lookup_at;
+use lookup::lookup_two_at;
 use store::Answer;
 use store::Head;
 use tree::Lookup;
@@ -105,11 +106,13 @@ fn lookup_band(table: &[u64], roots: &[u64], used: TreeUse, t: u32, k1: u32, k2:
     ensures { λ r. ⌜ r ≡ inBand (record { table = now (table .entry); roots = now (roots .entry); used = used }) t k1 k2 ⌝ }
 {
     let root = find_root(roots, used.roots as usize, t);
-    let high = lookup_at(table, used, root, t, (k2 - 1) as u16);
+    let last_key = (k2 - 1) as u16;
     if k1 == 0 {
-        return high;
+        return lookup_at(table, used, root, t, last_key);
     }
-    let low = lookup_at(table, used, root, t, (k1 - 1) as u16);
+    let two = lookup_two_at(table, used, root, t, (k1 - 1) as u16, last_key);
+    let high = two.upper;
+    let low = two.lower;
     without(high, low)
 }
 

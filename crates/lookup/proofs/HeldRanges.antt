@@ -1,7 +1,7 @@
 -- The row that a lookup goes on from holds its key, so its key range has one.
 use Prim.Native.Nat.{ℕ, _<_}
 use native.Mathlib.Omega.{arith}
-use mathlib.Core.Path.{_≡_, refl, subst}
+use mathlib.Core.Path.{_≡_, refl, sym, subst}
 use mathlib.Core.Bool.{Bool, true, false, cond, and-eq-true-iff}
 use mathlib.Core.List.{List}
 use lib.Dec.{leb, ltb}
@@ -13,12 +13,10 @@ use Rattle.tree.specs.declared.types.Held.the-variants.{Spoiled, Found}
 use Rattle.tree.specs.Row.{rowsOf, holds}
 use Rattle.tree.specs.KeyOrder.{Placed, keyOrder}
 use Rattle.tree.specs.PageTest.{soundAt}
+use Rattle.tree.specs.Tree.{Tree, pageAt}
 use Rattle.tree.specs.TrueValue.{Search, none, one, holdingRow, heldAs, heldIn}
 use Rattle.tree.proofs.RowViews.{first-passes}
-
-abbrev Wide : Held → Type 0
-Wide Spoiled = Unit {0}
-Wide (Found row value) = row .low < row .high
+use Rattle.lookup.specs.Descent.{opened, Wide}
 
 held-wide : (t k level low high : ℕ) (page : List ℕ) → Wide (heldIn t k level low high page)
 held-wide t k level low high page = go (soundAt t level low high page)
@@ -34,10 +32,12 @@ held-wide t k level low high page = go (soundAt t level low high page)
     go true = found (holdingRow t k (rowsOf page)) refl
     go false = tt
 
-pub row-wide : (b : Bool) (t k level low high : ℕ) (page : List ℕ) {row : Row} {value : Value} →
-    cond b (heldIn t k level low high page) Spoiled ≡ Found row value → row .low < row .high
-row-wide b t k level low high page e = subst Wide e (either b)
+pub opened-wide : (tree : Tree) (t k level low high page : ℕ) {h : Held} → h ≡ opened tree t k level low high page → Wide h
+opened-wide tree t k level low high page e = subst Wide (sym e) (go (ltb page (tree .used .pages)))
   where
-    either : (c : Bool) → Wide (cond c (heldIn t k level low high page) Spoiled)
-    either true = held-wide t k level low high page
-    either false = tt
+    go : (b : Bool) → Wide (cond b (heldIn t k level low high (pageAt (tree .table) page)) Spoiled)
+    go true = held-wide t k level low high (pageAt (tree .table) page)
+    go false = tt
+
+pub row-wide : {h : Held} {row : Row} {value : Value} → h ≡ Found row value → Wide h → row .low < row .high
+row-wide e wide = subst Wide e wide

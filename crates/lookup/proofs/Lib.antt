@@ -2,3 +2,4 @@
 pub mod RootSearch
 pub mod LookupLaws
 pub mod HeldRanges
+pub mod TogetherLaws

@@ -3,13 +3,13 @@
 use Prim.Native.Nat.{ℕ, zero, suc, _+_, _-_, _*_, _≤_, _<_}
 use native.Mathlib.Numerals.{sub-one}
 use native.Mathlib.Omega.{arith}
-use mathlib.Core.Path.{_≡_, refl, ap, sym, _∙_}
-use mathlib.Core.Bool.{Bool, true, false, cond}
+use mathlib.Core.Path.{_≡_, refl, ap, sym, subst, _∙_}
+use mathlib.Core.Bool.{Bool, true, false, cond, and-eq-true-iff}
 use mathlib.Core.List.{List, []}
-use lib.ListN.{drop}
+use lib.ListN.{take, drop}
 use lib.Seq.{getD-take, getD-drop}
-use lib.Dec.{ltb}
-use borrow.Author.Tests.{le-ltb, lt-ltb, le-leb, lt-leb}
+use lib.Dec.{leb, ltb}
+use borrow.Author.Tests.{le-ltb, lt-ltb, le-leb, lt-leb, leb-true}
 use Rattle.words.specs.Words.{keyLimit}
 use Rattle.words.specs.declared.value.Value.{Value}
 use Rattle.words.specs.Value.{plus}
@@ -27,91 +27,94 @@ use Rattle.tree.specs.declared.types.Lookup.{Lookup}
 use Rattle.tree.specs.declared.types.Lookup.the-variants.{Spoiled, Found}
 use Rattle.tree.specs.Tree.{Tree, pageAt, levelOf, topLevel, rootAt, rootInUse}
 use Rattle.tree.specs.Lookup.{plusPage, withBelow, lookupPage, lookupFrom, lookupRoot, lookup}
-
--- What a lookup answers that has a total and a number of pages opened already, and the rest before it
-abbrev pub onward : Value → ℕ → Lookup → Lookup
-onward total pages Spoiled = Spoiled
-onward total pages (Found v n) = Found (plus total v) (pages + n)
-
--- What a page on the way has for (t, k)
-abbrev pub opened : Tree → ℕ → ℕ → ℕ → ℕ → ℕ → ℕ → Held
-opened tree t k level low high page = cond (ltb page (tree .used .pages)) (heldIn t k level low high (pageAt (tree .table) page)) held.Spoiled
+use Rattle.lookup.specs.declared.descent.Top.{Top}
+use Rattle.lookup.specs.declared.descent.Top.the-variants as top
+use Rattle.lookup.specs.Descent.{onward, opened, below, lookupHeld, topOf, lookupTop, TopFits}
 
 -- The same answer where total and pages are the same
 same-found : {v w : Value} {m n : ℕ} → v ≡ w → m ≡ n → Found v m ≡ Found w n
 same-found p q = λ i. Found (p i) (q i)
 
-test-inside : (below : Row → Lookup) (b : Bool) (h : Held) → cond b (withBelow below h) Spoiled ≡ withBelow below (cond b h held.Spoiled)
-test-inside below true h = refl
-test-inside below false h = refl
+test-inside : (under : Row → Lookup) (b : Bool) (h : Held) → cond b (withBelow under h) Spoiled ≡ withBelow under (cond b h held.Spoiled)
+test-inside under true h = refl
+test-inside under false h = refl
 
-module _ (tree : Tree) (t k low high page : ℕ) where
-  page-is : (below : Row → Lookup) (level : ℕ) {h : Held} → opened tree t k level low high page ≡ h
-      → lookupPage tree t k level low high page below ≡ withBelow below h
-  page-is below level e =
-      test-inside below (ltb page (tree .used .pages)) (heldIn t k level low high (pageAt (tree .table) page)) ∙ ap (withBelow below) e
+-- A page in use, lent from the table by where its words begin and end; and one that is not in use
+module _ (tree : Tree) (t level low high page : ℕ) where
+  pub opens : page < tree .used .pages → (k : ℕ) {h : Held}
+      → h ≡ heldIn t k level low high (take ((page * pageWords + pageWords) - page * pageWords) (drop (page * pageWords) (tree .table)))
+      → h ≡ opened tree t k level low high page
+  opens inside k is =
+      let long : (page * pageWords + pageWords) - page * pageWords ≡ pageWords = omega arith in
+      rw (lt-ltb page (tree .used .pages) inside)
+      (is ∙ ap (λ (n : ℕ). heldIn t k level low high (take n (drop (page * pageWords) (tree .table)))) long)
 
-  from-spoiled : (level : ℕ) → opened tree t k level low high page ≡ held.Spoiled → lookupFrom tree t k level low high page ≡ Spoiled
+  pub opens-not : tree .used .pages ≤ page → (k : ℕ) → held.Spoiled ≡ opened tree t k level low high page
+  opens-not outside k = rw (le-ltb page (tree .used .pages) outside)
+
+-- Where nothing is added yet and no page is opened
+plus-nothing : (v : Value) (rest : Lookup) → onward value.zero 0 (plusPage v rest) ≡ plusPage v rest
+plus-nothing v Spoiled = refl
+plus-nothing v (Found w n) = same-found (zero-plus-plus v w) (omega arith)
+
+held-nothing : (under : Row → Lookup) (h : Held) → onward value.zero 0 (withBelow under h) ≡ withBelow under h
+held-nothing under held.Spoiled = refl
+held-nothing under (held.Found row v) = plus-nothing v (under row)
+
+-- Where a page is added to what there is already
+deeper : (total : Value) (pages : ℕ) (v : Value) (rest : Lookup) → onward total pages (plusPage v rest) ≡ onward (plus total v) (pages + 1) rest
+deeper total pages v Spoiled = refl
+deeper total pages v (Found w n) = same-found (sym (plus-assoc total v w)) (omega arith)
+
+module _ (tree : Tree) (t k : ℕ) where
+  -- The lookup from a page is the one from what it has
+  from-opened : (level low high page : ℕ) → lookupHeld tree t k level (opened tree t k level low high page) ≡ lookupFrom tree t k level low high page
   unfolding lookupFrom
-  from-spoiled zero e = page-is (λ (row : Row). Found value.zero 0) zero e
-  from-spoiled (suc l) e = page-is (λ (row : Row). lookupFrom tree t k l (row .low) (row .high) (row .child)) (suc l) e
+  from-opened zero low high page =
+      sym (test-inside (below tree t k zero) (ltb page (tree .used .pages)) (heldIn t k zero low high (pageAt (tree .table) page)))
+  from-opened (suc l) low high page =
+      sym (test-inside (below tree t k (suc l)) (ltb page (tree .used .pages)) (heldIn t k (suc l) low high (pageAt (tree .table) page)))
 
-  from-leaf : (level : ℕ) {row : Row} {v : Value} → level ≡ 0 → opened tree t k level low high page ≡ held.Found row v
-      → lookupFrom tree t k level low high page ≡ Found (plus v value.zero) 1
-  unfolding lookupFrom
-  from-leaf zero h e = page-is (λ (row : Row). Found value.zero 0) zero e
-  from-leaf (suc l) h e = absurd (omega arith)
+  -- At the root
+  pub way-start : (level low high page : ℕ) {h : Held} {v : Value} → v ≡ value.zero → h ≡ opened tree t k level low high page
+      → onward v 0 (lookupHeld tree t k level h) ≡ lookupFrom tree t k level low high page
+  way-start level low high page {h} z e =
+      ap (λ (v : Value). onward v 0 (lookupHeld tree t k level h)) z
+      ∙ held-nothing (below tree t k level) h
+      ∙ ap (lookupHeld tree t k level) e
+      ∙ from-opened level low high page
 
-  from-above : (level : ℕ) {row : Row} {v : Value} → (level ≡ 0 → ⊥) → opened tree t k level low high page ≡ held.Found row v
-      → lookupFrom tree t k level low high page ≡ plusPage v (lookupFrom tree t k (level - 1) (row .low) (row .high) (row .child))
-  unfolding lookupFrom
-  from-above zero h e = absurd (h refl)
-  from-above (suc l) h e = rw sub-one (page-is (λ (row : Row). lookupFrom tree t k l (row .low) (row .high) (row .child)) (suc l) e)
+  leaf : (level : ℕ) (row : Row) → level ≡ 0 → below tree t k level row ≡ Found value.zero 0
+  leaf zero row h = refl
+  leaf (suc l) row h = absurd (omega arith)
 
-  -- At the root nothing is added yet and no page is opened
-  plus-nothing : (v : Value) (rest : Lookup) → onward value.zero 0 (plusPage v rest) ≡ plusPage v rest
-  plus-nothing v Spoiled = refl
-  plus-nothing v (Found w n) = same-found (zero-plus-plus v w) (omega arith)
+  above : (level : ℕ) (row : Row) → (level ≡ 0 → ⊥) → below tree t k level row ≡ lookupFrom tree t k (level - 1) (row .low) (row .high) (row .child)
+  above zero row h = absurd (h refl)
+  above (suc l) row h = rw sub-one refl
 
-  held-nothing : (below : Row → Lookup) (h : Held) → onward value.zero 0 (withBelow below h) ≡ withBelow below h
-  held-nothing below held.Spoiled = refl
-  held-nothing below (held.Found row v) = plus-nothing v (below row)
-
-  page-nothing : (below : Row → Lookup) (b : Bool) (h : Held)
-      → onward value.zero 0 (cond b (withBelow below h) Spoiled) ≡ cond b (withBelow below h) Spoiled
-  page-nothing below true h = held-nothing below h
-  page-nothing below false h = refl
-
-  pub way-start : (level : ℕ) → onward value.zero 0 (lookupFrom tree t k level low high page) ≡ lookupFrom tree t k level low high page
-  unfolding lookupFrom
-  way-start zero =
-      page-nothing (λ (row : Row). Found value.zero 0) (ltb page (tree .used .pages)) (heldIn t k zero low high (pageAt (tree .table) page))
-  way-start (suc l) =
-      page-nothing (λ (row : Row). lookupFrom tree t k l (row .low) (row .high) (row .child)) (ltb page (tree .used .pages))
-      (heldIn t k (suc l) low high (pageAt (tree .table) page))
-
-  module _ (total : Value) (pages : ℕ) (level : ℕ) where
+  module _ (total : Value) (pages : ℕ) (level : ℕ) {h : Held} where
     -- A spoiled page: there is no answer, whatever was added
-    pub way-spoiled : opened tree t k level low high page ≡ held.Spoiled → onward total pages (lookupFrom tree t k level low high page) ≡ Spoiled
-    way-spoiled e = ap (onward total pages) (from-spoiled level e)
+    pub way-spoiled : h ≡ held.Spoiled → onward total pages (lookupHeld tree t k level h) ≡ Spoiled
+    way-spoiled e = ap (λ (x : Held). onward total pages (lookupHeld tree t k level x)) e
+
+    by-row : {row : Row} {v : Value} {rest : Lookup} → h ≡ held.Found row v → below tree t k level row ≡ rest
+        → onward total pages (lookupHeld tree t k level h) ≡ onward total pages (plusPage v rest)
+    by-row {row} {v} e under =
+        ap (λ (x : Held). onward total pages (lookupHeld tree t k level x)) e ∙ ap (λ (x : Lookup). onward total pages (plusPage v x)) under
 
     -- The leaf: its row's true value is the last that is added
-    pub way-leaf : {row : Row} {v : Value} → level ≡ 0 → opened tree t k level low high page ≡ held.Found row v
-        → onward total pages (lookupFrom tree t k level low high page) ≡ Found (plus total v) (pages + 1)
-    way-leaf {row} {v} h e =
-        ap (onward total pages) (from-leaf level h e)
-        ∙ same-found (sym (plus-assoc total v value.zero) ∙ plus-zero (plus total v) (plus-stored total v)) refl
+    pub way-leaf : {row : Row} {v : Value} → level ≡ 0 → h ≡ held.Found row v
+        → onward total pages (lookupHeld tree t k level h) ≡ Found (plus total v) (pages + 1)
+    way-leaf {row} {v} z e =
+        by-row e (leaf level row z) ∙ same-found (sym (plus-assoc total v value.zero) ∙ plus-zero (plus total v) (plus-stored total v)) refl
 
-    deeper : (v : Value) (rest : Lookup) → onward total pages (plusPage v rest) ≡ onward (plus total v) (pages + 1) rest
-    deeper v Spoiled = refl
-    deeper v (Found w n) = same-found (sym (plus-assoc total v w)) (omega arith)
-
-    -- A page above the leaf: its row's true value is added, and its child comes next
-    pub way-down : {row : Row} {v : Value} → (level ≡ 0 → ⊥) → opened tree t k level low high page ≡ held.Found row v
-        → onward total pages (lookupFrom tree t k level low high page)
-        ≡ onward (plus total v) (pages + 1) (lookupFrom tree t k (level - 1) (row .low) (row .high) (row .child))
-    way-down {row} {v} h e =
-        ap (onward total pages) (from-above level h e) ∙ deeper v (lookupFrom tree t k (level - 1) (row .low) (row .high) (row .child))
+    -- A page above the leaf: its row's true value is added, and its child is opened next
+    pub way-down : {row : Row} {v : Value} {next : Held} → (level ≡ 0 → ⊥) → h ≡ held.Found row v
+        → next ≡ opened tree t k (level - 1) (row .low) (row .high) (row .child)
+        → onward total pages (lookupHeld tree t k level h) ≡ onward (plus total v) (pages + 1) (lookupHeld tree t k (level - 1) next)
+    way-down {row} {v} {next} some e n =
+        let under = ap (lookupHeld tree t k (level - 1)) n ∙ from-opened (level - 1) (row .low) (row .high) (row .child) in
+        by-row e (above level row some ∙ sym under) ∙ deeper total pages v (lookupHeld tree t k (level - 1) next)
 
 -- Below the root a lookup does not look into the root list
 from-roots : (table : List ℕ) (used : TreeUse) (a b : List ℕ) (t k level low high page : ℕ)
@@ -145,15 +148,43 @@ unfolding lookup
 root-found table roots used t k root e =
     root-roots table used [] roots t k root ∙ ap (lookupRoot (record { table = table; roots = roots; used = used }) t k) e
 
-module _ (tree : Tree) (t k page : ℕ) where
-  pub root-unused : tree .used .pages ≤ page → lookupRoot tree t k (At page) ≡ Spoiled
-  root-unused h = rw (le-ltb page (tree .used .pages) h)
+-- Where a lookup starts, by the tests of the root's page
+module _ (tree : Tree) (page : ℕ) where
+  pub top-unused : tree .used .pages ≤ page → topOf tree (At page) ≡ top.Missing
+  top-unused h = rw (le-ltb page (tree .used .pages) h)
 
-  pub root-too-high : page < tree .used .pages → topLevel < word (tree .table) (page * pageWords) → lookupRoot tree t k (At page) ≡ Spoiled
-  root-too-high h high =
+  pub top-too-high : page < tree .used .pages → topLevel < word (tree .table) (page * pageWords) → topOf tree (At page) ≡ top.Missing
+  top-too-high h high =
       rw (lt-ltb page (tree .used .pages) h, level-in-table (tree .table) page, lt-leb (word (tree .table) (page * pageWords)) topLevel high)
 
-  pub root-opens : page < tree .used .pages → word (tree .table) (page * pageWords) ≤ topLevel
-      → lookupRoot tree t k (At page) ≡ lookupFrom tree t k (word (tree .table) (page * pageWords)) 0 keyLimit page
-  root-opens h fits =
+  pub top-opens : page < tree .used .pages → word (tree .table) (page * pageWords) ≤ topLevel
+      → topOf tree (At page) ≡ top.At page (word (tree .table) (page * pageWords))
+  top-opens h fits =
       rw (lt-ltb page (tree .used .pages) h, level-in-table (tree .table) page, le-leb (word (tree .table) (page * pageWords)) topLevel fits)
+
+module _ (tree : Tree) (root : Root) {start : Top} (is : start ≡ topOf tree root) where
+  -- The lookup from the root is the one from there
+  pub from-top : (t k : ℕ) → lookupRoot tree t k root ≡ lookupTop tree t k start
+  from-top t k = go root ∙ ap (lookupTop tree t k) (sym is)
+    where
+      either : (page : ℕ) (b : Bool)
+          → cond b (lookupFrom tree t k (levelOf (tree .table) page) 0 keyLimit page) Spoiled
+          ≡ lookupTop tree t k (cond b (top.At page (levelOf (tree .table) page)) top.Missing)
+      either page true = refl
+      either page false = refl
+
+      go : (r : Root) → lookupRoot tree t k r ≡ lookupTop tree t k (topOf tree r)
+      go Missing = refl
+      go (At page) = either page (rootInUse tree page)
+
+  -- and its level is one that a root may have
+  pub top-fits : TopFits start
+  top-fits = subst TopFits (sym is) (go root)
+    where
+      either : (page : ℕ) (b : Bool) → rootInUse tree page ≡ b → TopFits (cond b (top.At page (levelOf (tree .table) page)) top.Missing)
+      either page true e = leb-true (levelOf (tree .table) page) topLevel (and-eq-true-iff (ltb page (tree .used .pages)) (leb (levelOf (tree .table) page) topLevel) .0 e .1)
+      either page false e = tt
+
+      go : (r : Root) → TopFits (topOf tree r)
+      go Missing = tt
+      go (At page) = either page (rootInUse tree page) refl

@@ -7,21 +7,24 @@ use tree::TreeUse;
 use words::Value;
 ghost use mathlib.Core.Path.{_≡_};
 ghost use mathlib.Core.List.{[]};
-ghost use mathlib.Core.Bool.{cond};
-ghost use Prim.Native.Nat.{_*_, _≤_, _<_};
+ghost use Prim.Native.Nat.{_+_, _*_, _≤_, _<_};
 ghost use lib.ListN.{length};
-ghost use lib.Dec.{ltb};
 ghost use Rattle.words.specs.Words.{keyLimit};
 ghost use Rattle.tree.specs.Row.{pageWords};
-ghost use Rattle.tree.specs.TrueValue.{heldIn};
-ghost use Rattle.tree.specs.declared.types.Held.the-variants as held;
-ghost use Rattle.tree.specs.Tree.{pageAt, topLevel};
+ghost use Rattle.tree.specs.Tree.{topLevel};
 ghost use Rattle.tree.specs.Lookup.{lookupFrom, lookupRoot, lookup};
+ghost use Rattle.lookup.specs.Descent.{onward, opened, Wide, lookupHeld, topOf};
+
+// Where a lookup starts: the page of a root and its level, or no page that can be one.
+pub enum Top {
+    At { page: u32, level: u64 },
+    Missing,
+}
 
 // Opens one page: what it has for (t, k), if its number is below the pages used and its words are those of a page of this level and range.
 fn open_page(
     table: &[u64],
-    pages: u32,
+    used: TreeUse,
     page: u32,
     level: u64,
     low: u16,
@@ -29,11 +32,11 @@ fn open_page(
     t: u32,
     k: u16,
 ) -> Held
-    requires { ⌜ pages * pageWords ≤ length (now table) ⌝ }
+    requires { ⌜ used .pages * pageWords ≤ length (now table) ⌝ }
     requires { ⌜ low < high ⌝ }
-    ensures { λ r. ⌜ r ≡ cond (ltb page pages) (heldIn t k level low high (pageAt (now (table .entry)) page)) held.Spoiled ⌝ }
+    ensures { λ r. ⌜ r ≡ opened (record { table = now (table .entry); roots = []; used = used }) t k level low high page ⌝ }
 {
-    if page < pages {
+    if page < used.pages {
         let from = page as usize * 260;
         let to = from + 260;
         return page::read_page(&table[from..to], level, low, high, t, k);
@@ -41,20 +44,23 @@ fn open_page(
     Held::Spoiled
 }
 
-// From a root of level `top` down to the leaf. The total and the pages opened grow on the way down, and each page is opened once.
-fn descend(table: &[u64], used: TreeUse, root: u32, top: u64, t: u32, k: u16) -> Lookup
+// From a page that is opened down to the leaf. The total and the pages opened grow on the way down, and each page is opened once.
+pub fn descend_from(
+    table: &[u64],
+    used: TreeUse,
+    mut held: Held,
+    mut level: u64,
+    mut total: Value,
+    mut pages: u32,
+    t: u32,
+    k: u16,
+) -> Lookup
     requires { ⌜ used .pages * pageWords ≤ length (now table) ⌝ }
-    requires { ⌜ top ≤ topLevel ⌝ }
-    ensures { λ r. ⌜ r ≡ lookupFrom (record { table = now (table .entry); roots = []; used = used }) t k top 0 keyLimit root ⌝ }
+    requires { ⌜ Wide held ⌝ }
+    requires { ⌜ pages + level ≤ topLevel ⌝ }
+    ensures { λ r. ⌜ r ≡ onward total pages (lookupHeld (record { table = now (table .entry); roots = []; used = used }) t k level held) ⌝ }
 {
-    let mut level = top;
-    let mut low: u16 = 0;
-    let mut high: u16 = 30000;
-    let mut page = root;
-    let mut total = Value::zero();
-    let mut pages: u32 = 0;
     loop {
-        let held = open_page(table, used.pages, page, level, low, high, t, k);
         let Held::Found { row, value } = held else {
             break Lookup::Spoiled;
         };
@@ -67,10 +73,36 @@ fn descend(table: &[u64], used: TreeUse, root: u32, top: u64, t: u32, k: u16) ->
             };
         }
         level -= 1;
-        low = row.low;
-        high = row.high;
-        page = row.child;
+        held = open_page(table, used, row.child, level, row.low, row.high, t, k);
     }
+}
+
+// From a root of level `top` down to the leaf.
+fn descend(table: &[u64], used: TreeUse, root: u32, top: u64, t: u32, k: u16) -> Lookup
+    requires { ⌜ used .pages * pageWords ≤ length (now table) ⌝ }
+    requires { ⌜ top ≤ topLevel ⌝ }
+    ensures { λ r. ⌜ r ≡ lookupFrom (record { table = now (table .entry); roots = []; used = used }) t k top 0 keyLimit root ⌝ }
+{
+    let held = open_page(table, used, root, top, 0, 30000, t, k);
+    descend_from(table, used, held, top, Value::zero(), 0, t, k)
+}
+
+// The page of a root and its level, if the page is in use and its level is one that a root may have.
+pub fn find_top(table: &[u64], used: TreeUse, root: Root) -> Top
+    requires { ⌜ used .pages * pageWords ≤ length (now table) ⌝ }
+    ensures { λ r. ⌜ r ≡ topOf (record { table = now (table .entry); roots = []; used = used }) root ⌝ }
+{
+    let Root::At(page) = root else {
+        return Top::Missing;
+    };
+    if used.pages <= page {
+        return Top::Missing;
+    }
+    let level = table[page as usize * 260];
+    if 3 < level {
+        return Top::Missing;
+    }
+    Top::At { page, level }
 }
 
 // The total of the points with tick at most t and key at most k, and the pages opened for it, where the root for t was found already: what
@@ -79,17 +111,11 @@ pub fn lookup_at(table: &[u64], used: TreeUse, root: Root, t: u32, k: u16) -> Lo
     requires { ⌜ used .pages * pageWords ≤ length (now table) ⌝ }
     ensures { λ r. ⌜ r ≡ lookupRoot (record { table = now (table .entry); roots = []; used = used }) t k root ⌝ }
 {
-    let Root::At(page) = root else {
+    let top = find_top(table, used, root);
+    let Top::At { page, level } = top else {
         return Lookup::Spoiled;
     };
-    if used.pages <= page {
-        return Lookup::Spoiled;
-    }
-    let top = table[page as usize * 260];
-    if 3 < top {
-        return Lookup::Spoiled;
-    }
-    descend(table, used, page, top, t, k)
+    descend(table, used, page, level, t, k)
 }
 
 // The same from the root list.

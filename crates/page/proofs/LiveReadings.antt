@@ -14,10 +14,10 @@ use Rattle.words.specs.Value.{plus, valueAt}
 use Rattle.words.proofs.ValueLaws.{Stored, plus-stored, plus-zero, zero-plus, plus-assoc}
 use Rattle.tree.specs.declared.types.Row.{Row}
 use Rattle.tree.specs.declared.types.Held.the-variants.{Found}
-use Rattle.tree.specs.Row.{word, rowAt, rowStart, rowWords, rowsFrom, rowsOf, headerWords, holds, rowLimit, live, rowIn}
+use Rattle.tree.specs.Row.{word, pageWords, rowAt, rowStart, rowWords, rowsFrom, rowsOf, headerWords, holds, rowLimit, live, rowIn}
 use Rattle.tree.specs.KeyOrder.{Placed, placedLow, placedHigh, keepIf, livePlaced, sortBy, keyOrder}
 use Rattle.tree.specs.PageTest.{headerFits, rowsTile, soundAt}
-use Rattle.tree.specs.TrueValue.{Search, none, one, first, totalWhere, rowValue, holdingRow, heldAs}
+use Rattle.tree.specs.TrueValue.{Search, none, one, first, totalWhere, rowValue, holdingRow, heldAs, heldIn}
 use Rattle.tree.proofs.Lists as lists
 use Rattle.tree.proofs.Lists.{All, all-map, all-at}
 use Rattle.tree.proofs.Sorted.{sort-all, all-sort, sort-sum, sort-total}
@@ -31,12 +31,12 @@ use Rattle.page.specs.declared.order.Place.the-variants.{At, Missing}
 use Rattle.page.specs.Nearest.{noRange, least, placeAt}
 use Rattle.page.specs.declared.test.Tested.{Tested}
 use Rattle.page.specs.declared.test.Tested.the-variants.{Spoiled, Sound}
-use Rattle.page.specs.Tested.{TestedAs}
+use Rattle.page.specs.Tested.{TestedAs, ListsFit, heldTested}
 use Rattle.page.specs.LiveHeld.{addBelow, heldAtPlace, heldAmong, surveyAmong}
 use Rattle.page.proofs.EntryLaws.{Seated, low-fits, high-fits, live-more, live-seated, liveFrom, order-seated}
 use Rattle.page.proofs.EntryWalks.{first-has}
 use Rattle.page.proofs.OrderRowLaws.{insert-length}
-use Rattle.page.proofs.PageReadings.{header-facts}
+use Rattle.page.proofs.PageReadings.{header-facts, sound-few}
 use Rattle.page.proofs.NearestLaws.{Short, range-low-is, range-high-is, rowFits, least-inside, place-is-first}
 use Rattle.page.proofs.RangeTiles.{Once, tiles-once, once-tiles}
 
@@ -299,3 +299,23 @@ module _ (t : ℕ) (page ranges places : List ℕ) (n : ℕ) (few : word page 1 
 
   pub survey-listed : (k : ℕ) → surveyAmong (word page 1) k (take n ranges) (take n places) ≡ surveyOf t k page
   survey-listed k = rw (l .ranges-are, l .places-are) (survey-says t k page few)
+
+-- What is read from the lists that the test of a page made
+pub lists-sound : (page ranges places : List ℕ) {r : Tested} {n : ℕ} → r ≡ Sound n → ListsFit page ranges places r → ListsFit page ranges places (Sound n)
+lists-sound page ranges places e h = subst (λ (s : Tested). ListsFit page ranges places s) e h
+
+module _ (t level low high : ℕ) (page ranges places : List ℕ) where
+  pub tested-fits : (r : Tested) → length page ≡ pageWords → TestedAs t level low high page ranges places r → ListsFit page ranges places r
+  tested-fits Spoiled long h = tt
+  tested-fits (Sound n) long h =
+      let few = sound-few t level low high page (h .0) in (
+        h .1 .bounded,
+        ranges-length _ _ _ _ _ _ (h .1),
+        places-length _ _ _ _ _ _ (h .1),
+        listed-in t page ranges places n few (h .1) (omega (arith, few, long)),
+      )
+
+  pub tested-held : (k : ℕ) (r : Tested) → TestedAs t level low high page ranges places r →
+      heldTested page ranges places k r ≡ heldIn t k level low high page
+  tested-held k Spoiled h = rw h
+  tested-held k (Sound n) h = rw (h .0) (held-listed t page ranges places n (sound-few t level low high page (h .0)) (h .1) k)

@@ -17,6 +17,13 @@ ghost use Rattle.tree.specs.Row.{rowStart, rowWords, rowLimit, pageWords};
 ghost use Rattle.tree.specs.TrueValue.{heldIn};
 ghost use Rattle.page.specs.LiveRows.{AllIn};
 ghost use Rattle.page.specs.LiveHeld.{addBelow, heldAmong};
+ghost use Rattle.page.specs.Tested.{ListsFit, heldTested};
+
+// What a page has for two keys at one tick.
+pub struct HeldTwo {
+    pub lower: Held,
+    pub upper: Held,
+}
 
 // The value of the row at a place.
 fn value_of(page: &[u64], place: usize) -> Value
@@ -65,6 +72,17 @@ fn held_row(page: &[u64], ranges: &[u32], places: &[u8], k: u16) -> Held
     }
 }
 
+// What the listed rows of a tested page have for k.
+fn held_tested(page: &[u64], tested: Tested, ranges: &[u32], places: &[u8], k: u16) -> Held
+    requires { ⌜ ListsFit (now page) (now ranges) (now places) tested ⌝ }
+    ensures { λ r. ⌜ r ≡ heldTested (now (page .entry)) (now (ranges .entry)) (now (places .entry)) k tested ⌝ }
+{
+    match tested {
+        Tested::Spoiled => Held::Spoiled,
+        Tested::Sound(count) => held_row(page, &ranges[..count], &places[..count], k),
+    }
+}
+
 // The row that holds (t, k) in a page of the expected level and key range, and its true value. The page is tested in the same pass.
 pub fn read_page(page: &[u64], level: u64, low: u16, high: u16, t: u32, k: u16) -> Held
     requires { ⌜ length (now page) ≡ pageWords ⌝ }
@@ -74,8 +92,28 @@ pub fn read_page(page: &[u64], level: u64, low: u16, high: u16, t: u32, k: u16) 
     let mut ranges = [0u32; 64];
     let mut places = [0u8; 64];
     let tested = list_tested(page, level, low, high, t, &mut ranges, &mut places);
-    match tested {
-        Tested::Spoiled => Held::Spoiled,
-        Tested::Sound(count) => held_row(page, &ranges[..count], &places[..count], k),
-    }
+    held_tested(page, tested, &ranges, &places, k)
+}
+
+// The same for two keys: the test, the dear part, is made once.
+pub fn read_page_for_two(
+    page: &[u64],
+    level: u64,
+    low: u16,
+    high: u16,
+    t: u32,
+    lower_key: u16,
+    upper_key: u16,
+) -> HeldTwo
+    requires { ⌜ length (now page) ≡ pageWords ⌝ }
+    requires { ⌜ low < high ⌝ }
+    ensures { λ r. ⌜ r .lower ≡ heldIn t «lower_key» level low high (now (page .entry)) ⌝ }
+    ensures { λ r. ⌜ r .upper ≡ heldIn t «upper_key» level low high (now (page .entry)) ⌝ }
+{
+    let mut ranges = [0u32; 64];
+    let mut places = [0u8; 64];
+    let tested = list_tested(page, level, low, high, t, &mut ranges, &mut places);
+    let lower = held_tested(page, tested, &ranges, &places, lower_key);
+    let upper = held_tested(page, tested, &ranges, &places, upper_key);
+    HeldTwo { lower, upper }
 }

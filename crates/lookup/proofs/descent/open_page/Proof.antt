@@ -1,11 +1,7 @@
-use Prim.Native.Nat.{ℕ, _+_, _-_, _*_}
-use native.Mathlib.Omega.{arith}
-use mathlib.Core.Path.{_≡_, ap, _∙_}
-use lib.ListN.{take, drop}
+use mathlib.Core.List.{[]}
 use borrow.Author.Needs.{needs}
-use borrow.Author.Tests.{lt-ltb, le-ltb}
-use Rattle.tree.specs.Row.{pageWords}
-use Rattle.tree.specs.TrueValue.{heldIn}
+use Rattle.tree.specs.Tree.{Tree}
+use Rattle.lookup.proofs.LookupLaws.{opens, opens-not}
 use Rattle.lookup.proofs.descent.open_page.Statement.{statement}
 use Rattle.lookup.proofs.descent.open_page.Tie as tie
 
@@ -32,14 +28,15 @@ read-page-requires c κs = search needs
 
 returns : tie.Need-returns
 returns c =
-    let a = c .before .before .before .before .args in
-    let long : (a .page * pageWords + pageWords) - a .page * pageWords ≡ pageWords = omega arith in
-    rw (lt-ltb _ _ (c .before .before .if1 .taken))
-    (c .read-page .ensures
-    ∙ ap (λ (n : ℕ). heldIn (a .t) (a .k) (a .level) (a .low) (a .high) (take n (drop (a .page * pageWords) (a .table .now)))) long)
+    let a = c .before .before .before .before .before .args in
+    let tree : Tree = record { table = a .table .now; roots = []; used = a .used } in
+    opens tree (a .t) (a .level) (a .low) (a .high) (a .page) (c .before .before .if1 .taken) (a .k) (c .read-page .ensures)
 
 returns-2 : tie.Need-returns-2
-returns-2 c = rw (le-ltb _ _ (c .if1 .left))
+returns-2 c =
+    let a = c .before .before .before .args in
+    let tree : Tree = record { table = a .table .now; roots = []; used = a .used } in
+    opens-not tree (a .t) (a .level) (a .low) (a .high) (a .page) (c .if1 .left) (a .k)
 
 pub open-page-spec : {M : Type 1} → statement M
 open-page-spec =

@@ -1,7 +1,5 @@
-use native.Mathlib.Omega.{arith}
 use mathlib.Core.Path.{_∙_}
-use Rattle.page.proofs.PageReadings.{sound-few}
-use Rattle.page.proofs.LiveReadings.{tested-spoiled, tested-sound, ranges-length, places-length, ranges-few, same-length, listed-in, held-listed}
+use Rattle.page.proofs.LiveReadings.{tested-fits, tested-held}
 use borrow.Author.Needs.{needs}
 use Rattle.page.proofs.held.read_page.Statement.{statement}
 use Rattle.page.proofs.held.read_page.Tie as tie
@@ -15,54 +13,25 @@ slice-aggregate-list-tested-2 c = search needs
 list-tested-requires : tie.Need-list-tested-requires
 list-tested-requires c κs = search needs
 
-enum-told : tie.Need-enum-told
-enum-told c = search needs
+slice-aggregate-held-tested : tie.Need-slice-aggregate-held-tested
+slice-aggregate-held-tested c = search needs
 
-enum-known-tested : tie.Need-enum-known-tested
-enum-known-tested c = search needs
+slice-aggregate-held-tested-2 : tie.Need-slice-aggregate-held-tested-2
+slice-aggregate-held-tested-2 c = search needs
 
-array-share-prefix-ranges : tie.Need-array-share-prefix-ranges
-array-share-prefix-ranges c =
-    let a = c .before .before .before .before .before .before .before .before .before .args in
-    let s = tested-sound (a .t) (a .level) (a .low) (a .high) (a .page .now) _ _ (c .before .tested .given .1) (c .before .before .before .before .before .list-tested .ensures) in
-    let few = s .1 .bounded in search needs
-
-slice-aggregate-held-row : tie.Need-slice-aggregate-held-row
-slice-aggregate-held-row c =
-    let a = c .before .before .before .before .before .before .before .before .before .before .args in
-    let s = tested-sound (a .t) (a .level) (a .low) (a .high) (a .page .now) _ _ (c .before .before .tested .given .1) (c .before .before .before .before .before .before .list-tested .ensures) in
-    ranges-length _ _ _ _ _ _ (s .1)
-
-array-share-prefix-places : tie.Need-array-share-prefix-places
-array-share-prefix-places c =
-    let a = c .before .before .before .before .before .before .before .before .before .before .args in
-    let s = tested-sound (a .t) (a .level) (a .low) (a .high) (a .page .now) _ _ (c .before .before .tested .given .1) (c .before .before .before .before .before .before .list-tested .ensures) in
-    let few = s .1 .bounded in search needs
-
-slice-aggregate-held-row-2 : tie.Need-slice-aggregate-held-row-2
-slice-aggregate-held-row-2 c =
-    let a = c .before .before .before .before .before .before .before .before .before .before .before .args in
-    let s = tested-sound (a .t) (a .level) (a .low) (a .high) (a .page .now) _ _ (c .before .before .before .tested .given .1) (c .before .before .before .before .before .before .before .list-tested .ensures) in
-    places-length _ _ _ _ _ _ (s .1)
-
-held-row-requires : tie.Need-held-row-requires
-held-row-requires c κs =
-    let a = c .before .before .before .before .before .before .before .before .before .before .before .args in
-    let s = tested-sound (a .t) (a .level) (a .low) (a .high) (a .page .now) _ _ (c .before .before .before .tested .given .1) (c .before .before .before .before .before .before .before .list-tested .ensures) in
-    let few = sound-few (a .t) (a .level) (a .low) (a .high) (a .page .now) (s .0) in
-    (ranges-few _ _ _ _ _ _ (s .1), (same-length _ _ _ _ _ _ (s .1), listed-in (a .t) (a .page .now) _ _ _ few (s .1) (omega (arith, few))))
+held-tested-requires : tie.Need-held-tested-requires
+held-tested-requires c κs =
+    let a = c .before .before .before .before .before .before .before .before .args in
+    let l = c .before .before .before .before .list-tested in
+    let lists = l .last .1 .1 .1 .1 .1 in
+    tested-fits (a .t) (a .level) (a .low) (a .high) (a .page .now) (lists .0) (lists .1 .0) (l .result) (search needs) (l .ensures)
 
 returns : tie.Need-returns
 returns c =
-    let a = c .before .before .before .before .before .before .before .before .args in
-    rw (tested-spoiled (a .t) (a .level) (a .low) (a .high) (a .page .now) _ _ (c .enum-told .given .1) (c .before .before .before .before .list-tested .ensures))
-
-returns-2 : tie.Need-returns-2
-returns-2 c =
-    let a = c .before .before .before .before .before .before .before .before .before .before .before .before .args in
-    let s = tested-sound (a .t) (a .level) (a .low) (a .high) (a .page .now) _ _ (c .before .before .before .before .tested .given .1) (c .before .before .before .before .before .before .before .before .list-tested .ensures) in
-    let few = sound-few (a .t) (a .level) (a .low) (a .high) (a .page .now) (s .0) in
-    rw (s .0) (c .held-row .ensures ∙ held-listed (a .t) (a .page .now) _ _ _ few (s .1) (a .k))
+    let a = c .before .before .before .before .before .before .before .before .before .args in
+    let l = c .before .before .before .before .before .list-tested in
+    let lists = l .last .1 .1 .1 .1 .1 in
+    c .held-tested .ensures ∙ tested-held (a .t) (a .level) (a .low) (a .high) (a .page .now) (lists .0) (lists .1 .0) (a .k) (l .result) (l .ensures)
 
 pub read-page-spec : {M : Type 1} → statement M
 read-page-spec =
@@ -71,12 +40,7 @@ read-page-spec =
     slice-aggregate-list-tested
     slice-aggregate-list-tested-2
     list-tested-requires
-    enum-told
-    enum-known-tested
-    array-share-prefix-ranges
-    slice-aggregate-held-row
-    array-share-prefix-places
-    slice-aggregate-held-row-2
-    held-row-requires
-    returns
-    returns-2)
+    slice-aggregate-held-tested
+    slice-aggregate-held-tested-2
+    held-tested-requires
+    returns)

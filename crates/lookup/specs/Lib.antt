@@ -1,0 +1,3 @@
+-- The lookup of one tree as the code makes it.
+pub mod Descent
+pub mod Together
