@@ -4,7 +4,7 @@ use native.Mathlib.Omega.{arith}
 use mathlib.Core.Path.{_≡_, refl, sym, ap, _∙_}
 use mathlib.Core.List.{List}
 use Rattle.tree.specs.declared.types.Row.{Row}
-use Rattle.page.specs.declared.order.Place.the-variants.{At, Missing}
+use Rattle.page.specs.declared.search.Place.the-variants.{At, Missing}
 use Rattle.tree.specs.Row.{word, rowsOf, rowIn}
 use Rattle.tree.specs.KeyOrder.{Placed}
 use Rattle.tree.specs.TrueValue.{Search, none, one}

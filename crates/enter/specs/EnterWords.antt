@@ -6,7 +6,7 @@ use mathlib.Core.Bool.{true, cond}
 use lib.ListN.{length, take}
 use lib.Dec.{leb}
 use Rattle.words.specs.declared.value.Value.{Value}
-use Rattle.page.specs.declared.order.Place.{Place}
+use Rattle.page.specs.declared.search.Place.{Place}
 use Rattle.tree.specs.Row.{word, rowsOf, rowLimit, pageWords}
 use Rattle.page.specs.Survey.{surveyOf}
 use Rattle.page.specs.Entries.{orderSize}

@@ -19,16 +19,13 @@ ghost use Rattle.enter.specs.PageEdits.{ChangeWithin};
 ghost use Rattle.enter.specs.EnterWords.{loaded, copyWords, useOf, pointAt, settled, madeSo, changed, leafEdited, DoneAs, CanSettle, CanEnter};
 ghost use Rattle.tree.specs.Enter.{enterFrom};
 
-// The words of a page.
-pub const PAGE_WORDS: usize = 260;
-
 // The rows that one entry may append to a page, and their words.
 const ADDED_ROWS: usize = 3;
 
 const ADDED_WORDS: usize = 4 * ADDED_ROWS;
 
 // The words of a page's copy, which has room for those rows.
-pub const COPY_WORDS: usize = PAGE_WORDS + ADDED_WORDS;
+pub const COPY_WORDS: usize = Page::WORDS + ADDED_WORDS;
 
 // A page of at most so many rows has room for them in its own words.
 const ROOMY_ROWS: usize = Page::ROWS - ADDED_ROWS;
@@ -51,10 +48,10 @@ fn load_page(copy: &mut [u64], table: &[u64], page: usize)
     requires { ⌜ page * pageWords + pageWords ≤ length (now table) ⌝ }
     ensures { λ _. ⌜ now (copy .exit) ≡ loaded (now (table .entry)) page ⌝ }
 {
-    let from = page * PAGE_WORDS;
-    let to = from + PAGE_WORDS;
+    let from = page * Page::WORDS;
+    let to = from + Page::WORDS;
     copy_words(copy, &table[from..to]);
-    let first = PAGE_WORDS;
+    let first = Page::WORDS;
     let last = COPY_WORDS;
     let zeros = [0u64; ADDED_WORDS];
     copy_words(&mut copy[first..last], &zeros);
@@ -66,10 +63,10 @@ fn store_page(table: &mut [u64], page: usize, words: &[u64])
     requires { ⌜ page * pageWords + pageWords ≤ length (now table) ⌝ }
     ensures { λ _. ⌜ now (table .exit) ≡ putPage (now (table .entry)) page (take pageWords (now (words .entry))) ⌝ }
 {
-    let from = page * PAGE_WORDS;
-    let to = from + PAGE_WORDS;
+    let from = page * Page::WORDS;
+    let to = from + Page::WORDS;
     let first: usize = 0;
-    let last = PAGE_WORDS;
+    let last = Page::WORDS;
     copy_words(&mut table[from..to], &words[first..last]);
 }
 
@@ -112,8 +109,8 @@ fn change_page(
     requires { ⌜ CanSettle used t (madeSo (now table) made) page (changed t value (now table) page change) ⌝ }
     ensures { λ r. ⌜ DoneAs (settled used t (madeSo (now (table .entry)) made) page (changed t value (now (table .entry)) page change)) (now (table .exit)) r ⌝ }
 {
-    let from = page * PAGE_WORDS;
-    let to = from + PAGE_WORDS;
+    let from = page * Page::WORDS;
+    let to = from + Page::WORDS;
     if table[from + 1] as usize <= ROOMY_ROWS {
         change_words(&mut table[from..to], change, value, t);
         return Done {
@@ -141,8 +138,8 @@ fn enter_leaf(
     requires { ⌜ CanSettle used t (madeSo (now table) 0) page (leafEdited t k value (now table) page) ⌝ }
     ensures { λ r. ⌜ DoneAs (settled used t (madeSo (now (table .entry)) 0) page (leafEdited t k value (now (table .entry)) page)) (now (table .exit)) r ⌝ }
 {
-    let from = page * PAGE_WORDS;
-    let to = from + PAGE_WORDS;
+    let from = page * Page::WORDS;
+    let to = from + Page::WORDS;
     let survey = page::survey_page(&table[from..to], t, k);
     let inner = survey.inner;
     let gain = survey.gain;
@@ -174,8 +171,8 @@ pub fn enter_from(
     if level == 0 {
         return enter_leaf(table, scratch, used, at, k, value, t);
     }
-    let from = at * PAGE_WORDS;
-    let to = from + PAGE_WORDS;
+    let from = at * Page::WORDS;
+    let to = from + Page::WORDS;
     let survey = page::survey_page(&table[from..to], t, k);
     let inner = survey.inner;
     let gain = survey.gain;

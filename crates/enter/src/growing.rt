@@ -1,6 +1,5 @@
 // Entering a point into a tree: from the root for its tick down, and what a root overflow does to the root list.
 use crate::entering::COPY_WORDS;
-use crate::entering::PAGE_WORDS;
 use crate::entering::enter_from;
 use lookup::find_root;
 use page::Page;
@@ -55,7 +54,7 @@ pub fn enter(
     let Root::At(root) = found else {
         return used;
     };
-    let level = table[root as usize * PAGE_WORDS];
+    let level = table[root as usize * Page::WORDS];
     let mut scratch = [0u64; COPY_WORDS];
     let done = enter_from(table, &mut scratch, used, level, root, k, value, t);
     let became = done.became;

@@ -1,5 +1,6 @@
 // The lookup of one tree: from the root for the tick down to a leaf, the true values of the rows that hold (t, k) added on the way.
 use crate::roots::find_root;
+use page::Page;
 use tree::Held;
 use tree::Lookup;
 use tree::Root;
@@ -37,8 +38,8 @@ fn open_page(
     ensures { λ r. ⌜ r ≡ opened (record { table = now (table .entry); roots = []; used = used }) t k level low high page ⌝ }
 {
     if page < used.pages {
-        let from = page as usize * 260;
-        let to = from + 260;
+        let from = page as usize * Page::WORDS;
+        let to = from + Page::WORDS;
         return page::read_page(&table[from..to], level, low, high, t, k);
     }
     Held::Spoiled
@@ -98,7 +99,7 @@ pub fn find_top(table: &[u64], used: TreeUse, root: Root) -> Top
     if used.pages <= page {
         return Top::Missing;
     }
-    let level = table[page as usize * 260];
+    let level = table[page as usize * Page::WORDS];
     if 3 < level {
         return Top::Missing;
     }

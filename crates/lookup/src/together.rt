@@ -4,6 +4,7 @@ use crate::descent::Top;
 use crate::descent::descend_from;
 use crate::descent::find_top;
 use page::HeldTwo;
+use page::Page;
 use tree::Held;
 use tree::Lookup;
 use tree::Root;
@@ -60,8 +61,8 @@ fn open_page_for_two(
     ensures { λ r. ⌜ r .upper ≡ opened (record { table = now (table .entry); roots = []; used = used }) t (keys .upper) level low high page ⌝ }
 {
     if page < used.pages {
-        let from = page as usize * 260;
-        let to = from + 260;
+        let from = page as usize * Page::WORDS;
+        let to = from + Page::WORDS;
         return page::read_page_for_two(
             &table[from..to],
             level,

@@ -14,7 +14,7 @@ use Rattle.words.specs.Value.{plus, valueAt}
 use Rattle.words.proofs.ValueLaws.{Stored, plus-stored, plus-zero, zero-plus, plus-assoc}
 use Rattle.tree.specs.declared.types.Row.{Row}
 use Rattle.tree.specs.declared.types.Held.the-variants.{Found}
-use Rattle.tree.specs.Row.{word, pageWords, rowAt, rowStart, rowWords, rowsFrom, rowsOf, headerWords, holds, rowLimit, live, rowIn}
+use Rattle.tree.specs.Row.{word, pageWords, rowAt, rowStart, rowWords, rowsFrom, rowsOf, headerWords, holds, rowLimit, live}
 use Rattle.tree.specs.KeyOrder.{Placed, placedLow, placedHigh, keepIf, livePlaced, sortBy, keyOrder}
 use Rattle.tree.specs.PageTest.{headerFits, rowsTile, soundAt}
 use Rattle.tree.specs.TrueValue.{Search, none, one, first, totalWhere, rowValue, holdingRow, heldAs, heldIn}
@@ -22,12 +22,12 @@ use Rattle.tree.proofs.Lists as lists
 use Rattle.tree.proofs.Lists.{All, all-map, all-at}
 use Rattle.tree.proofs.Sorted.{sort-all, all-sort, sort-sum, sort-total}
 use Rattle.tree.proofs.Places.{cover, placedHolds, order-count, order-live, live-order}
-use Rattle.tree.proofs.Tiling.{Tiles, rowsTile-tiles, tiles-rowsTile}
+use Rattle.tree.proofs.Tiling.{rowsTile-tiles, tiles-rowsTile}
 use Rattle.tree.proofs.OrderTotals.{placedValue, total-stored, order-total}
 use Rattle.page.specs.Survey.{placeFound, isAround, startsFrom, surveyOf}
 use Rattle.page.specs.LiveRows.{rangeOf, rangeLow, rangeHigh, placeIn, liveRows, Listed, AllIn, count}
 use Rattle.page.specs.TileTest.{holdsKey, tiles}
-use Rattle.page.specs.declared.order.Place.the-variants.{At, Missing}
+use Rattle.page.specs.declared.search.Place.the-variants.{At, Missing}
 use Rattle.page.specs.Nearest.{noRange, least, placeAt}
 use Rattle.page.specs.declared.test.Tested.{Tested}
 use Rattle.page.specs.declared.test.Tested.the-variants.{Spoiled, Sound}
@@ -38,7 +38,7 @@ use Rattle.page.proofs.EntryWalks.{first-has}
 use Rattle.page.proofs.OrderRowLaws.{insert-length}
 use Rattle.page.proofs.PageReadings.{header-facts, sound-few}
 use Rattle.page.proofs.NearestLaws.{Short, range-low-is, range-high-is, rowFits, least-inside, place-is-first}
-use Rattle.page.proofs.RangeTiles.{Once, tiles-once, once-tiles}
+use Rattle.page.proofs.RangeTiles.{tiles-once, once-tiles}
 
 -- Tests that agree on all items of a list find the same item
 first-same : {A : Type 0} (f g : A → Bool) (xs : List A) → All (λ (x : A). f x ≡ g x) xs → first f xs ≡ first g xs
@@ -82,9 +82,6 @@ live-few page t from (suc m) = rw (live-more page t from m) (go (live t (rowAt p
     go false h = omega arith
 
 module _ (page : List ℕ) (t n : ℕ) (few : n ≤ rowLimit) where
-  rows : List Row
-  rows = rowsFrom page headerWords n
-
   seated : All (Seated page n) (liveRows t page n)
   seated = live-seated page n t 0 n (omega arith)
 
@@ -136,9 +133,6 @@ module _ (page : List ℕ) (t n : ℕ) (few : n ≤ rowLimit) where
       tiles low high (map rangeOf (liveRows t page n)) ≡ rowsTile t low high (rowsFrom page headerWords n)
   tile-says low high some = both-true _ _ forth back
     where
-      full : Row → Type 0
-      full r = r .low < r .high
-
       forth : tiles low high (map rangeOf (liveRows t page n)) ≡ true → rowsTile t low high (rowsFrom page headerWords n) ≡ true
       forth e =
           let o = tiles-once low high some (map rangeOf (liveRows t page n)) e in

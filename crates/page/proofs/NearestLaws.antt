@@ -10,8 +10,8 @@ use lib.ListN.{length, getD, drop}
 use borrow.Author.Tests.{leb-true, leb-false, ltb-true, ltb-false, le-leb, lt-leb, lt-ltb, le-ltb}
 use Rattle.tree.specs.KeyOrder.{Placed, placedLow, placedHigh, insertBy, sortBy}
 use Rattle.tree.specs.TrueValue.{Search, none, one, first}
-use Rattle.page.specs.declared.order.Place.{Place}
-use Rattle.page.specs.declared.order.Place.the-variants.{At, Missing}
+use Rattle.page.specs.declared.search.Place.{Place}
+use Rattle.page.specs.declared.search.Place.the-variants.{At, Missing}
 use Rattle.page.specs.LiveRows.{rangeOf, rangeLow, rangeHigh, placeIn}
 use Rattle.page.specs.TileTest.{lesser}
 use Rattle.page.specs.Nearest.{noRange, fits, candidate, least, placeAt}

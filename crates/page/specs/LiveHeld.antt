@@ -9,8 +9,8 @@ use Rattle.words.specs.Value.{zero, plus, valueAt}
 use Rattle.tree.specs.declared.types.Held.{Held}
 use Rattle.tree.specs.declared.types.Held.the-variants.{Spoiled, Found}
 use Rattle.tree.specs.Row.{rowStart, rowIn}
-use Rattle.page.specs.declared.order.Place.{Place}
-use Rattle.page.specs.declared.order.Place.the-variants.{At, Missing}
+use Rattle.page.specs.declared.search.Place.{Place}
+use Rattle.page.specs.declared.search.Place.the-variants.{At, Missing}
 use Rattle.page.specs.declared.survey.Survey.{Survey}
 use Rattle.page.specs.LiveRows.{rangeLow}
 use Rattle.page.specs.Nearest.{least, placeAt}

@@ -4,8 +4,8 @@ use mathlib.Core.List.{List, [], _∷_}
 use mathlib.Core.Bool.{Bool, cond, _&&_}
 use lib.Dec.{leb, ltb}
 use lib.ListN.{getD}
-use Rattle.page.specs.declared.order.Place.{Place}
-use Rattle.page.specs.declared.order.Place.the-variants.{At, Missing}
+use Rattle.page.specs.declared.search.Place.{Place}
+use Rattle.page.specs.declared.search.Place.the-variants.{At, Missing}
 use Rattle.page.specs.LiveRows.{rangeLow, rangeHigh}
 use Rattle.page.specs.TileTest.{lesser}
 

@@ -4,8 +4,8 @@ use mathlib.Core.List.{List}
 use mathlib.Core.Bool.{Bool}
 use lib.ListN.{length}
 use lib.Dec.{leb}
-use Rattle.page.specs.declared.order.Place.{Place}
-use Rattle.page.specs.declared.order.Place.the-variants.{At, Missing}
+use Rattle.page.specs.declared.search.Place.{Place}
+use Rattle.page.specs.declared.search.Place.the-variants.{At, Missing}
 use Rattle.page.specs.declared.survey.Survey.{Survey}
 use Rattle.tree.specs.Row.{word, rowsOf, around}
 use Rattle.tree.specs.KeyOrder.{Placed, keyOrder}

@@ -22,8 +22,14 @@ pub struct Page {
 }
 
 impl Page {
+    // The words of a page.
+    pub const WORDS: usize = 260;
+
     // The rows that a page holds.
     pub const ROWS: usize = 64;
+
+    // The rows that an overflow puts in key order: those of a page, and the 3 that one entry may append.
+    pub const ORDERED: usize = 67;
 
     // The live rows that one new page takes; more go to two pages.
     pub const COPIED: usize = 40;

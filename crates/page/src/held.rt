@@ -1,12 +1,11 @@
 // One page of a lookup: the row that holds (t, k), and its true value.
 use crate::live::range_low;
-use crate::order::Place;
 use crate::row::row_at;
+use crate::search::Place;
 use crate::search::find_place;
 use crate::test::Tested;
 use crate::test::list_tested;
 use tree::Held;
-use tree::Row;
 use words::Value;
 ghost use mathlib.Core.Path.{_≡_};
 ghost use Prim.Native.Nat.{_+_, _≤_, _<_};

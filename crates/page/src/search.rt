@@ -1,7 +1,6 @@
 // Which live row of a page a lookup or an entry is after: the first one in key order, by low key and then by place, that fits.
 use crate::live::range_high;
 use crate::live::range_low;
-use crate::order::Place;
 use crate::tile::lesser;
 ghost use mathlib.Core.Path.{_≡_};
 ghost use mathlib.Core.Bool.{_&&_};
@@ -9,6 +8,12 @@ ghost use Prim.Native.Nat.{_≤_, _<_};
 ghost use lib.ListN.{length};
 ghost use Rattle.tree.specs.Row.{rowLimit};
 ghost use Rattle.page.specs.Nearest.{fits, candidate, least, noRange, placeAt};
+
+// Where a search ends: at the row of a place, or nowhere.
+pub enum Place {
+    At(usize),
+    Missing,
+}
 
 // Whether the range starts from `from` on but below `below`, and does not stop below `above`.
 fn range_fits(range: u32, from: u32, below: u32, above: u32) -> bool

@@ -1,6 +1,6 @@
 // What entering a point has to know of a page's rows before any row is changed.
 use crate::live::list_live;
-use crate::order::Place;
+use crate::search::Place;
 use crate::search::find_place;
 use crate::test::Tested;
 use crate::test::list_tested;

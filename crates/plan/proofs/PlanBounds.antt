@@ -8,8 +8,8 @@ use lib.Dec.{leb, ltb, eqb}
 use lib.ListN.{length}
 use borrow.Author.Tests.{ltb-true}
 use Rattle.tree.specs.declared.types.Row.{Row}
-use Rattle.page.specs.declared.order.Place.{Place}
-use Rattle.page.specs.declared.order.Place.the-variants as place
+use Rattle.page.specs.declared.search.Place.{Place}
+use Rattle.page.specs.declared.search.Place.the-variants as place
 use Rattle.tree.specs.Row.{word, rowAt, rowStart, rowsOf, headerWords, live, rowLimit, copyLimit}
 use Rattle.tree.specs.KeyOrder.{Placed, keyOrder}
 use Rattle.tree.specs.TrueValue.{Search, none, one, first}

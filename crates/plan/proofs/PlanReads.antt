@@ -7,8 +7,8 @@ use mathlib.Core.List.{List}
 use lib.ListN.{length}
 use borrow.Author.Tests.{eq-eqb, ne-eqb}
 use Rattle.tree.specs.declared.types.Row.{Row}
-use Rattle.page.specs.declared.order.Place.{Place}
-use Rattle.page.specs.declared.order.Place.the-variants as place
+use Rattle.page.specs.declared.search.Place.{Place}
+use Rattle.page.specs.declared.search.Place.the-variants as place
 use Rattle.page.specs.declared.survey.Survey.{Survey}
 use Rattle.page.specs.declared.survey.Surveyed.the-variants as surveyed
 use Rattle.tree.specs.Row.{word, rowAt, rowStart, rowWords, rowsOf, rowLimit, pageWords}

@@ -7,8 +7,8 @@ use lib.ListN.{length}
 use lib.Dec.{leb, ltb, eqb}
 use Rattle.words.specs.Words.{birthOf}
 use Rattle.tree.specs.declared.types.Row.{Row}
-use Rattle.page.specs.declared.order.Place.{Place}
-use Rattle.page.specs.declared.order.Place.the-variants as place
+use Rattle.page.specs.declared.search.Place.{Place}
+use Rattle.page.specs.declared.search.Place.the-variants as place
 use Rattle.page.specs.declared.survey.Survey.{Survey}
 use Rattle.tree.specs.Row.{rowAt, rowStart, rowWords, rowLimit, copyLimit}
 use Rattle.tree.specs.PageTest.{soundAt}

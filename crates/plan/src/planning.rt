@@ -104,8 +104,8 @@ fn meet_page(
     ensures { λ r. ⌜ r ≡ metPage (now (table .entry)) pages t k level low high page ⌝ }
 {
     if page < pages {
-        let from = page as usize * 260;
-        let to = from + 260;
+        let from = page as usize * Page::WORDS;
+        let to = from + Page::WORDS;
         return meet_words(&table[from..to], level, low, high, t, k);
     }
     Met::Spoiled
@@ -231,7 +231,7 @@ pub fn plan(table: &[u64], roots: &[u64], used: TreeUse, t: u32, k: u16) -> Plan
     if used.pages <= root {
         return Plan::Spoiled;
     }
-    let top = table[root as usize * 260];
+    let top = table[root as usize * Page::WORDS];
     if 3 < top {
         return Plan::Spoiled;
     }

@@ -74,8 +74,8 @@ pub fn put_page(table: &mut [u64], number: u32, page: Page)
     requires { ⌜ page .count ≤ rowLimit ⌝ }
     ensures { λ _. ⌜ now (table .exit) ≡ putPage (now (table .entry)) number (encodePage page) ⌝ }
 {
-    let from = number as usize * 260;
-    let to = from + 260;
+    let from = number as usize * Page::WORDS;
+    let to = from + Page::WORDS;
     page.write(&mut table[from..to]);
 }
 
@@ -123,7 +123,7 @@ fn copy_rows(table: &mut [u64], number: u32, words: &[u64], order: &[u64], start
         words,
         order,
         start,
-        67,
+        Page::ORDERED,
         low,
         high,
         nothing,
@@ -136,7 +136,7 @@ fn lower_end(start: usize) -> usize
     requires { ⌜ start ≤ orderSize ⌝ }
     ensures { λ r. ⌜ r ≡ start + lowerHalf (orderSize - start) ⌝ }
 {
-    start + (67 - start + 1) / 2
+    start + (Page::ORDERED - start + 1) / 2
 }
 
 // The live rows go to two new pages, which are cut at the low key of the upper page's first row: that key is the result.
@@ -175,7 +175,18 @@ fn halve_rows(
         nothing,
         t,
     );
-    put_rows(table, second, words, order, cut, 67, middle, high, below, t);
+    put_rows(
+        table,
+        second,
+        words,
+        order,
+        cut,
+        Page::ORDERED,
+        middle,
+        high,
+        below,
+        t,
+    );
     middle
 }
 
@@ -199,13 +210,13 @@ pub fn split_page(table: &mut [u64], used: TreeUse, made: u32, words: &[u64], t:
     ensures { λ r. ⌜ r .made ≡ splitWords (now (table .entry)) used made (now (words .entry)) t .made ⌝ }
     ensures { λ r. ⌜ r .became ≡ splitWords (now (table .entry)) used made (now (words .entry)) t .became ⌝ }
 {
-    let mut order = [0u64; 67];
+    let mut order = [0u64; Page::ORDERED];
     let start = page::key_order(words, words[1] as usize, t, &mut order);
     let number = taken_page(used, made);
     let range = words[2];
     let low = words::low_key(range);
     let high = words::high_key(range);
-    if 67 - start <= Page::COPIED {
+    if Page::ORDERED - start <= Page::COPIED {
         copy_rows(table, number, words, &order, start, t);
         let copy = Child {
             page: number,

@@ -9,7 +9,7 @@ use Rattle.tree.specs.Tree.{Tree, pageAt}
 use Rattle.tree.specs.RowSteps.{Point}
 use Rattle.tree.specs.Enter.{enterFrom}
 use Rattle.page.specs.declared.survey.Survey.{Survey}
-use Rattle.page.specs.declared.order.Place.the-variants.{At}
+use Rattle.page.specs.declared.search.Place.the-variants.{At}
 use Rattle.page.specs.Survey.{surveyOf}
 use Rattle.enter.specs.EnterWords.{useOf, pointAt, CanEnter, DoneAs, leafEdited, gainEdited, linkEdited}
 use Rattle.enter.specs.PageEdits.{Within}
