@@ -1,22 +1,33 @@
 -- The loops over a page's rows that list the live ones, and over the lists that add values.
 use Prim.Native.Nat.{ℕ, zero, suc, _+_, _-_, _≤_, _<_}
 use native.Mathlib.Omega.{arith}
+use native.Mathlib.Decide.{decLe}
 use native.Mathlib.Numerals.{add-one}
 use mathlib.Core.Path.{_≡_, refl, sym, ap, ap₂, _∙_}
 use mathlib.Core.Bool.{Bool, true, false, cond}
 use mathlib.Core.List.{List, [], _∷_, _++_, map, append-assoc, append-nil}
 use lib.Dec.{ltb}
 use lib.ListN.{length, getD, set, take, drop, length-map}
+use borrow.Author.Tests.{lt-ltb, le-ltb}
+use Rattle.words.specs.Words.{endOf}
 use lib.Seq.{take-set-le, take-suc-set, length-take-le}
 use Rattle.words.specs.declared.value.Value.{Value}
 use Rattle.words.specs.Value as value
 use Rattle.tree.specs.Row.{rowStart, rowsFrom, rowLimit, rowIn, live}
 use Rattle.tree.specs.KeyOrder.{Placed, keepIf, livePlaced}
 use Rattle.page.specs.Entries.{placedAt}
-use Rattle.page.specs.LiveRows.{rangeOf, rangeLow, placeIn, liveRows, Listed}
+use Rattle.page.specs.LiveRows.{rangeOf, rangeLow, endedBy, placeIn, liveRows, Listed}
 use Rattle.page.specs.LiveHeld.{addBelow}
 use Rattle.page.proofs.EntryLaws.{liveFrom, live-more}
 use Rattle.page.proofs.OrderLaws.{drop-here, drop-none}
+
+-- One comparison of whole words tells whether an end is after t
+pub ended-says : (life t : ℕ) → ltb (endedBy t) life ≡ ltb t (endOf life)
+ended-says life t = go (decLe (endedBy t + 1) life)
+  where
+    go : Dec (endedBy t + 1 ≤ life) → ltb (endedBy t) life ≡ ltb t (endOf life)
+    go (yes h) = lt-ltb (endedBy t) life (omega arith) ∙ sym (lt-ltb t (endOf life) (omega arith))
+    go (no h) = le-ltb (endedBy t) life (omega arith) ∙ sym (le-ltb t (endOf life) (omega arith))
 
 -- What a list has at its front, and what of the rows from `place` on is still to come: together that of all live rows
 module _ (page : List ℕ) (t : ℕ) (f : Placed → ℕ) (all : List ℕ) where

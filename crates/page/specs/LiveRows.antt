@@ -1,6 +1,6 @@
 -- The live rows of a page as the code lists them: their key ranges and their places, in two arrays, in the order of the places.
 use mathlib.Core.Path.{_≡_}
-use Prim.Native.Nat.{ℕ, _+_, _/_, _%_, _≤_}
+use Prim.Native.Nat.{ℕ, _+_, _*_, _/_, _%_, _≤_}
 use mathlib.Core.List.{List, map, foldr}
 use mathlib.Core.Bool.{Bool, cond}
 use lib.ListN.{length, take}
@@ -18,6 +18,10 @@ rangeLow e = e % 65536
 
 abbrev pub rangeHigh : ℕ → ℕ
 rangeHigh e = e / 65536
+
+-- The highest row word 1, "birth + 2^32 × end", with an end that is not after t
+abbrev pub endedBy : ℕ → ℕ
+endedBy t = 4294967296 * t + 4294967295
 
 abbrev pub placeIn : Placed → ℕ
 placeIn x = x .place

@@ -12,17 +12,20 @@ use Rattle.page.proofs.live.list_live.Statement.{statement}
 use Rattle.page.proofs.live.list_live.Tie as tie
 
 abbrev Inv-loop : tie.InvT-loop
-Inv-loop page rows t ranges₀ places₀ count₀ place₀ ranges places count place =
+Inv-loop page rows t ranges₀ places₀ ended count₀ place₀ ranges places count place =
     (place ≤ rows) × (count ≤ place) × (length ranges ≡ rowLimit) × (length places ≡ rowLimit)
     × Listing page t rangeOf (map rangeOf (liveRows t page rows)) count place (rows - place) ranges
     × Listing page t placeIn (map placeIn (liveRows t page rows)) count place (rows - place) places
 
 abbrev μ-loop : tie.MeasureT-loop
-μ-loop page rows t ranges₀ places₀ count₀ place₀ ranges places count place = rows - place
+μ-loop page rows t ranges₀ places₀ ended count₀ place₀ ranges places count place = rows - place
+
+ended-by-requires : tie.Need-ended-by-requires Inv-loop μ-loop
+ended-by-requires c κs = search needs
 
 loop-holds : tie.Need-loop-holds Inv-loop μ-loop
 loop-holds c =
-    let a = c .before .before .before .args in (
+    let a = c .before .before .before .before .args in (
       search needs,
       search needs,
       search needs,
@@ -72,7 +75,7 @@ count-live-requires c κs = search needs
 
 add-count : tie.Need-add-count Inv-loop μ-loop
 add-count c =
-    let a = c .before .before .before .before .before .before .before .before .before .args in
+    let a = c .before .before .before .before .before .before .before .before .before .before .args in
     let l = c .before .before .before .before .before .loop in
     omega (arith, one-small (live (a .t) (rowIn (a .page .now) (l .place))) (c .count-live .result) (c .count-live .ensures), l .inv .1)
 
@@ -84,7 +87,7 @@ loop-less c = search needs
 
 loop-again : tie.Need-loop-again Inv-loop μ-loop
 loop-again c =
-    let a = c .before .before .before .before .before .before .before .before .before .args in
+    let a = c .before .before .before .before .before .before .before .before .before .before .args in
     let l = c .before .before .before .before .before .loop in (
       search needs,
       omega (arith, one-small (live (a .t) (rowIn (a .page .now) (l .place))) (c .count-live .result) (c .count-live .ensures), l .inv .1),
@@ -106,7 +109,7 @@ same-length-2 c = search needs
 
 returns : tie.Need-returns Inv-loop μ-loop
 returns c =
-    let a = c .before .before .before .before .before .args in
+    let a = c .before .before .before .before .before .before .args in
     let l = c .before .loop in
     listed (a .t) (a .page .now) (a .rows) (l .ranges) (l .places) (l .count) (omega arith) (omega arith)
     (listing-done (a .page .now) (a .t) rangeOf (map rangeOf (liveRows (a .t) (a .page .now) (a .rows))) (a .rows) (l .count) (l .place) (l .ranges) (omega arith) (l .inv .4))
@@ -118,6 +121,7 @@ list-live-spec =
     (tie.spec
     Inv-loop
     μ-loop
+    ended-by-requires
     loop-holds
     mul-at
     add-at
