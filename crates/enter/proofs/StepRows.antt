@@ -18,7 +18,7 @@ use Rattle.page.specs.Survey.{placeFound, isAround, startsFrom}
 use Rattle.tree.specs.Edit.{ended, bornAt, appendRow, withRows}
 use Rattle.tree.specs.Fresh.{newRow}
 use Rattle.tree.proofs.Places.{AtPlace, order-places}
-use Rattle.page.proofs.EntryWalks.{first-has}
+use Rattle.tree.proofs.Searches.{first-has}
 use Rattle.tree.proofs.PageCodec.{Fits, row-fits, rows-fit, rows-length, row-at-place, with-length, with-count, with-rows}
 use Rattle.page.proofs.WithRows.{with-same, with-with}
 use Rattle.tree.specs.RowSteps.{Point, gained, cutAt, linkedTo, replaceRow, rowAround, rowFrom, gainIn, gainRows, cutIn, leafRows, relinkRow}

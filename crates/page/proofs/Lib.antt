@@ -1,12 +1,12 @@
 -- Laws of one page's code: its live rows in arrays, what is read from them, their key order, edits, and pages written whole.
 pub mod Tests
-pub mod OrderLaws
+pub mod LoopLaws
 pub mod SumLaws
+pub mod LesserLaws
 pub mod TileLaws
 pub mod InsertLaws
 pub mod EntryLaws
 pub mod OrderRowLaws
-pub mod EntryWalks
 pub mod NearestLaws
 pub mod LiveLaws
 pub mod RangeTiles

@@ -3,7 +3,7 @@ use Prim.Native.Nat.{ℕ, zero, suc, _+_, _-_, _≤_, _<_}
 use native.Mathlib.Omega.{arith}
 use native.Mathlib.Decide.{decLe}
 use native.Mathlib.Numerals.{add-one}
-use mathlib.Core.Path.{_≡_, refl, sym, ap, ap₂, _∙_}
+use mathlib.Core.Path.{_≡_, sym, ap, _∙_}
 use mathlib.Core.Bool.{Bool, true, false, cond}
 use mathlib.Core.List.{List, [], _∷_, _++_, map, append-assoc, append-nil}
 use lib.Dec.{ltb}
@@ -19,7 +19,7 @@ use Rattle.page.specs.Entries.{placedAt}
 use Rattle.page.specs.LiveRows.{rangeOf, rangeLow, endedBy, placeIn, liveRows, Listed}
 use Rattle.page.specs.LiveHeld.{addBelow}
 use Rattle.page.proofs.EntryLaws.{liveFrom, live-more}
-use Rattle.page.proofs.OrderLaws.{drop-here, drop-none}
+use Rattle.page.proofs.LoopLaws.{drop-here, drop-none}
 
 -- One comparison of whole words tells whether an end is after t
 pub ended-says : (life t : ℕ) → ltb (endedBy t) life ≡ ltb t (endOf life)

@@ -34,7 +34,7 @@ use Rattle.page.specs.declared.test.Tested.the-variants.{Spoiled, Sound}
 use Rattle.page.specs.Tested.{TestedAs, ListsFit, heldTested}
 use Rattle.page.specs.LiveHeld.{addBelow, heldAtPlace, heldAmong, surveyAmong}
 use Rattle.page.proofs.EntryLaws.{Seated, low-fits, high-fits, live-more, live-seated, liveFrom, order-seated}
-use Rattle.page.proofs.EntryWalks.{first-has}
+use Rattle.tree.proofs.Searches.{first-has}
 use Rattle.page.proofs.OrderRowLaws.{insert-length}
 use Rattle.page.proofs.PageReadings.{header-facts, sound-few}
 use Rattle.page.proofs.NearestLaws.{Short, range-low-is, range-high-is, rowFits, least-inside, place-is-first}

@@ -1,5 +1,5 @@
 -- The least number of all ranges that fit belongs to the first row in key order that fits.
-use Prim.Native.Nat.{ℕ, zero, suc, _+_, _*_, _%_, _≤_, _<_}
+use Prim.Native.Nat.{ℕ, suc, _+_, _*_, _%_, _≤_, _<_}
 use native.Mathlib.Omega.{arith}
 use native.Mathlib.Numerals.{add-one}
 use mathlib.Core.Path.{_≡_, refl, ap, sym, _∙_}
@@ -7,50 +7,19 @@ use mathlib.Core.Bool.{Bool, true, false, cond, _&&_}
 use mathlib.Core.List.{List, [], _∷_, map}
 use lib.Dec.{leb, ltb}
 use lib.ListN.{length, getD, drop}
-use borrow.Author.Tests.{leb-true, leb-false, ltb-true, ltb-false, le-leb, lt-leb, lt-ltb, le-ltb}
+use borrow.Author.Tests.{leb-true, leb-false, ltb-false, le-leb, lt-leb}
 use Rattle.tree.specs.KeyOrder.{Placed, placedLow, placedHigh, insertBy, sortBy}
 use Rattle.tree.specs.TrueValue.{Search, none, one, first}
-use Rattle.page.specs.declared.search.Place.{Place}
-use Rattle.page.specs.declared.search.Place.the-variants.{At, Missing}
+use Rattle.page.specs.declared.search.Place.the-variants.{At}
 use Rattle.page.specs.LiveRows.{rangeOf, rangeLow, rangeHigh, placeIn}
 use Rattle.page.specs.TileTest.{lesser}
 use Rattle.page.specs.Nearest.{noRange, fits, candidate, least, placeAt}
 use Rattle.page.specs.Survey.{placeFound}
-use Rattle.tree.proofs.Lists.{All, all-map}
+use Rattle.tree.proofs.Lists.{All}
 use Rattle.tree.proofs.Sorted.{Sorted, sortBy-sorted}
-use Rattle.page.proofs.OrderLaws.{drop-here, drop-none}
-use Rattle.page.proofs.EntryWalks.{first-has}
-
--- The lesser of two numbers
-pub lesser-first : (a b : ℕ) → a < b → lesser a b ≡ a
-lesser-first a b h = rw (lt-ltb a b h)
-
-pub lesser-second : (a b : ℕ) → b ≤ a → lesser a b ≡ b
-lesser-second a b h = rw (le-ltb a b h)
-
-pub lesser-assoc : (a b c : ℕ) → lesser (lesser a b) c ≡ lesser a (lesser b c)
-lesser-assoc a b c = go (ltb a b) (ltb b c) refl refl
-  where
-    go : (x y : Bool) → ltb a b ≡ x → ltb b c ≡ y → lesser (cond x a b) c ≡ lesser a (cond y b c)
-    go true true e f = lesser-first a c (omega (arith, ltb-true a b e, ltb-true b c f)) ∙ sym (lesser-first a b (ltb-true a b e))
-    go true false e f = refl
-    go false true e f = lesser-first b c (ltb-true b c f) ∙ sym (lesser-second a b (ltb-false a b e))
-    go false false e f =
-        lesser-second b c (ltb-false b c f) ∙ sym (lesser-second a c (omega (arith, ltb-false a b e, ltb-false b c f)))
-
-lesser-most : (a b n : ℕ) → b ≤ n → lesser a b ≤ n
-lesser-most a b n h = go (ltb a b) refl
-  where
-    go : (x : Bool) → ltb a b ≡ x → cond x a b ≤ n
-    go true e = omega (arith, ltb-true a b e)
-    go false e = h
-
-pub lesser-still : (a b n : ℕ) → a ≤ n → lesser a b ≤ n
-lesser-still a b n h = go (ltb a b) refl
-  where
-    go : (x : Bool) → ltb a b ≡ x → cond x a b ≤ n
-    go true e = h
-    go false e = omega (arith, ltb-false a b e)
+use Rattle.page.proofs.LoopLaws.{drop-here, drop-none}
+use Rattle.tree.proofs.Searches.{first-has}
+use Rattle.page.proofs.LesserLaws.{lesser-first, lesser-second, lesser-most, lesser-assoc}
 
 module _ (from below above : ℕ) where
   pub least-most : (at : ℕ) (es : List ℕ) → least from below above at es ≤ noRange

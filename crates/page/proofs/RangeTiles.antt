@@ -5,14 +5,16 @@ use Prim.Native.Nat.{ℕ, zero, suc, _+_, _-_, _≤_, _<_}
 use native.Mathlib.Omega.{arith}
 use native.Mathlib.Decide.{decLe}
 use mathlib.Core.Path.{_≡_, refl, sym, ap, ap₂, _∙_}
-use mathlib.Core.Bool.{Bool, true, false, cond, _&&_, _||_, and-eq-true-iff, false≢true}
+use mathlib.Core.Bool.{Bool, true, false, cond, and-eq-true-iff}
 use mathlib.Core.List.{List, [], _∷_}
-use lib.Dec.{leb, ltb, eqb}
+use lib.Dec.{leb, ltb}
 use lib.ListN.{length, getD}
-use borrow.Author.Tests.{leb-true, leb-false, ltb-true, ltb-false, eqb-true, le-leb, lt-leb, lt-ltb, le-ltb, eq-eqb}
+use borrow.Author.Tests.{leb-true, leb-false, ltb-true, ltb-false, eqb-true, le-leb, lt-leb, lt-ltb, eq-eqb}
 use Rattle.page.specs.LiveRows.{rangeLow, rangeHigh, sumBy, count}
-use Rattle.page.specs.TileTest.{lesser, larger, isEmpty, holdsKey, clipped, goesOn, stopsWell, every, tiles}
+use Rattle.page.specs.TileTest.{larger, isEmpty, holdsKey, clipped, goesOn, stopsWell, every, tiles}
 use Rattle.tree.proofs.Lists.{All, all-at, count-at}
+use Rattle.tree.proofs.Walk.{holds-one, below-none, above-none}
+use Rattle.page.proofs.LesserLaws.{lesser-first, lesser-second}
 
 -- A number added up over the first n keys from 0 on
 unfoldable sumUpTo : (ℕ → ℕ) → ℕ → ℕ
@@ -58,30 +60,7 @@ ones-sum f (suc n) h = omega (arith, h n (omega arith), ones-sum f n (λ i p. h 
 abbrev held : ℕ → ℕ → ℕ
 held q e = cond (holdsKey q e) 1 0
 
-held-yes : (q e : ℕ) → rangeLow e ≤ q → q < rangeHigh e → held q e ≡ 1
-held-yes q e h l = simp (le-leb (rangeLow e) q h, lt-ltb q (rangeHigh e) l)
-
-held-below : (q e : ℕ) → q < rangeLow e → held q e ≡ 0
-held-below q e h = simp (lt-leb (rangeLow e) q h)
-
-held-above : (q e : ℕ) → rangeHigh e ≤ q → held q e ≡ 0
-held-above q e h = go (leb (rangeLow e) q)
-  where
-    go : (b : Bool) → _≡_ {A = ℕ} (cond (b && ltb q (rangeHigh e)) 1 0) 0
-    go true = simp (le-ltb q (rangeHigh e) h)
-    go false = refl
-
--- The lesser and the larger of two numbers
-lesser-left : (a b : ℕ) → a ≤ b → lesser a b ≡ a
-lesser-left a b h = go (ltb a b) refl
-  where
-    go : (c : Bool) → ltb a b ≡ c → cond c a b ≡ a
-    go true e = refl
-    go false e = omega (arith, ltb-false a b e)
-
-lesser-right : (a b : ℕ) → b ≤ a → lesser a b ≡ b
-lesser-right a b h = simp (le-ltb a b h)
-
+-- The larger of two numbers
 larger-left : (a b : ℕ) → a ≤ larger a b
 larger-left a b = go (ltb a b) refl
   where
@@ -110,18 +89,18 @@ module _ (low : ℕ) where
   clipped-sum e zero = go (decLe (rangeHigh e) (low + 0))
     where
       go : Dec (rangeHigh e ≤ low + 0) → 0 ≡ clipped low (low + 0) e
-      go (yes h) = rw (lesser-left (rangeHigh e) (low + 0) h) (omega (arith, larger-right (rangeLow e) low))
-      go (no h) = rw (lesser-right (rangeHigh e) (low + 0) (omega arith)) (omega (arith, larger-right (rangeLow e) low))
+      go (yes h) = rw (lesser-first (rangeHigh e) (low + 0) h) (omega (arith, larger-right (rangeLow e) low))
+      go (no h) = rw (lesser-second (rangeHigh e) (low + 0) (omega arith)) (omega (arith, larger-right (rangeLow e) low))
   clipped-sum e (suc n) = ap (_+_ (held (low + n) e)) (clipped-sum e n) ∙ go (decLe (rangeHigh e) (low + n)) (decLe (rangeLow e) (low + n))
     where
       go : Dec (rangeHigh e ≤ low + n) → Dec (rangeLow e ≤ low + n) → held (low + n) e + clipped low (low + n) e ≡ clipped low (low + suc n) e
       go (yes h) d =
-          rw (held-above (low + n) e h, lesser-left (rangeHigh e) (low + n) h, lesser-left (rangeHigh e) (low + suc n) (omega arith)) (omega arith)
+          rw (above-none rangeLow rangeHigh (low + n) e h, lesser-first (rangeHigh e) (low + n) h, lesser-first (rangeHigh e) (low + suc n) (omega arith)) (omega arith)
       go (no h) (yes l) =
-          rw (held-yes (low + n) e l (omega arith), lesser-right (rangeHigh e) (low + n) (omega arith), lesser-right (rangeHigh e) (low + suc n) (omega arith))
+          rw (holds-one rangeLow rangeHigh (low + n) e l (omega arith), lesser-second (rangeHigh e) (low + n) (omega arith), lesser-second (rangeHigh e) (low + suc n) (omega arith))
           (omega (arith, larger-most (rangeLow e) low (low + n) l (omega arith)))
       go (no h) (no l) =
-          rw (held-below (low + n) e (omega arith), lesser-right (rangeHigh e) (low + n) (omega arith), lesser-right (rangeHigh e) (low + suc n) (omega arith))
+          rw (below-none rangeLow rangeHigh (low + n) e (omega arith), lesser-second (rangeHigh e) (low + n) (omega arith), lesser-second (rangeHigh e) (low + suc n) (omega arith))
           (omega (arith, larger-left (rangeLow e) low))
 
   -- Over all keys, how often each is held; over all ranges, how many keys each has: the same sum

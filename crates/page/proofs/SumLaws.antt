@@ -1,12 +1,12 @@
 -- A loop that adds a number up over a list: what is added so far, and what is still to be added, are the sum.
-use Prim.Native.Nat.{ℕ, _+_, _*_, _≤_, _<_}
+use Prim.Native.Nat.{ℕ, _+_, _≤_, _<_}
 use native.Mathlib.Omega.{arith}
 use mathlib.Core.Path.{_≡_, ap}
 use mathlib.Core.Bool.{Bool, true, false, cond}
-use mathlib.Core.List.{List, [], _∷_}
+use mathlib.Core.List.{List}
 use lib.ListN.{length, getD, drop}
 use Rattle.page.specs.LiveRows.{sumBy}
-use Rattle.page.proofs.OrderLaws.{drop-here, drop-none}
+use Rattle.page.proofs.LoopLaws.{drop-here, drop-none}
 
 module _ (f : ℕ → ℕ) (l : List ℕ) (at : ℕ) where
   sum-here : at < length l → sumBy f (drop at l) ≡ f (getD l at 0) + sumBy f (drop (at + 1) l)

@@ -1,26 +1,18 @@
 -- The parts of the tile test on key ranges, one law for each way through the code.
 use Prim.Native.Nat.{ℕ, _+_, _-_, _≤_, _<_}
 use native.Mathlib.Omega.{arith}
-use mathlib.Core.Path.{_≡_, refl}
-use mathlib.Core.Bool.{Bool, true, false, cond, _&&_}
-use mathlib.Core.List.{List, [], _∷_}
-use lib.Dec.{ltb}
+use mathlib.Core.Path.{_≡_}
+use mathlib.Core.Bool.{Bool, true, false}
+use mathlib.Core.List.{List}
 use lib.ListN.{length, getD, drop}
-use borrow.Author.Tests.{ltb-true, ltb-false}
-use Rattle.page.specs.LiveRows.{rangeLow, rangeHigh, count}
-use Rattle.page.specs.TileTest.{lesser, larger, holdsKey, clipped, every}
+use Rattle.page.specs.LiveRows.{rangeHigh, count}
+use Rattle.page.specs.TileTest.{holdsKey, clipped, every}
 use Rattle.tree.proofs.Lists.{count-at}
-use Rattle.page.proofs.OrderLaws.{drop-here, drop-none}
-
-pub lesser-right : (a b : ℕ) → lesser a b ≤ b
-lesser-right a b = go (ltb a b) refl
-  where
-    go : (c : Bool) → ltb a b ≡ c → cond c a b ≤ b
-    go true e = omega (arith, ltb-true a b e)
-    go false e = omega arith
+use Rattle.page.proofs.LesserLaws.{lesser-most}
+use Rattle.page.proofs.LoopLaws.{drop-here, drop-none}
 
 pub clipped-small : (low high e : ℕ) → clipped low high e ≤ high
-clipped-small low high e = omega (arith, lesser-right (rangeHigh e) high)
+clipped-small low high e = omega (arith, lesser-most (rangeHigh e) high high (omega arith))
 
 -- A range that holds a key is counted
 pub some-holder : (q : ℕ) (ranges : List ℕ) (at : ℕ) → at < length ranges → holdsKey q (getD ranges at 0) ≡ true → 0 < count (holdsKey q) ranges

@@ -17,7 +17,7 @@ use Rattle.tree.proofs.RowViews.{first-passes}
 use Rattle.tree.specs.PageTest.{soundAt}
 use Rattle.page.specs.Survey.{surveyOf, isAround, placeFound}
 use Rattle.page.proofs.EntryLaws.{Seated, order-seated}
-use Rattle.page.proofs.EntryWalks.{first-has}
+use Rattle.tree.proofs.Searches.{first-has}
 use Rattle.page.proofs.PageReadings.{sound-few}
 use Rattle.plan.specs.declared.planning.Counts.{Counts}
 use Rattle.plan.specs.declared.planning.Met.{Met}

@@ -15,7 +15,7 @@ use Rattle.tree.specs.PageTest.{soundAt}
 use Rattle.page.specs.Survey.{placeFound, startsFrom, isAround, surveyOf}
 use Rattle.tree.proofs.Lists.{count}
 use Rattle.page.proofs.EntryLaws.{Seated, order-seated}
-use Rattle.page.proofs.EntryWalks.{first-has}
+use Rattle.tree.proofs.Searches.{first-has}
 use Rattle.plan.specs.declared.planning.Counts.{Counts}
 use Rattle.plan.specs.declared.planning.Met.{Met}
 use Rattle.plan.specs.declared.planning.Met.the-variants as met

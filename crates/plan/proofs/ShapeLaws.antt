@@ -21,7 +21,7 @@ use Rattle.tree.specs.Fresh.{newRow}
 use Rattle.page.specs.PageValue.{noRow}
 use Rattle.tree.proofs.Lists.{count}
 use Rattle.tree.proofs.Places.{AtPlace, order-places}
-use Rattle.page.proofs.EntryWalks.{first-has}
+use Rattle.tree.proofs.Searches.{first-has}
 use Rattle.tree.specs.RowSteps.{Point, gained, cutAt, linkedTo}
 use Rattle.tree.specs.declared.types.Child.{Child}
 use Rattle.tree.specs.declared.types.Became.the-variants.{Copied, Halved}

@@ -17,7 +17,7 @@ use Rattle.tree.specs.Fresh.{freshPage}
 use Rattle.page.specs.PageValue.{encodePage, emptyPage}
 use Rattle.page.specs.Entries.{orderSize, entryOf, entryPlace, InPage}
 use Rattle.page.proofs.EntryLaws.{Seated, seated-place, order-seated}
-use Rattle.page.proofs.OrderLaws.{drop-here}
+use Rattle.page.proofs.LoopLaws.{drop-here}
 use Rattle.page.proofs.PageReadings.{in-page, entries-are}
 use Rattle.tree.specs.declared.types.TreeUse.{TreeUse}
 use Rattle.tree.specs.Tree.{putPage}

@@ -32,13 +32,13 @@ module _ {A : Type 0} (lowOf highOf : A → ℕ) where
   abbrev pub NotEmpty : A → Type 0
   NotEmpty x = lowOf x < highOf x
 
-  holds-one : (q : ℕ) (x : A) → lowOf x ≤ q → q < highOf x → one-if (holdsKey q) x ≡ 1
+  pub holds-one : (q : ℕ) (x : A) → lowOf x ≤ q → q < highOf x → one-if (holdsKey q) x ≡ 1
   holds-one q x p r = simp (le-leb (lowOf x) q p, lt-ltb q (highOf x) r)
 
-  below-none : (q : ℕ) (x : A) → q < lowOf x → one-if (holdsKey q) x ≡ 0
+  pub below-none : (q : ℕ) (x : A) → q < lowOf x → one-if (holdsKey q) x ≡ 0
   below-none q x p = simp (lt-leb (lowOf x) q p)
 
-  above-none : (q : ℕ) (x : A) → highOf x ≤ q → one-if (holdsKey q) x ≡ 0
+  pub above-none : (q : ℕ) (x : A) → highOf x ≤ q → one-if (holdsKey q) x ≡ 0
   above-none q x p = go (leb (lowOf x) q)
     where
       go : (b : Bool) → _≡_ {A = ℕ} (cond (b && ltb q (highOf x)) 1 0) 0

@@ -1,5 +1,4 @@
 use Prim.Native.Nat.{_+_}
-use native.Mathlib.Omega.{arith}
 use mathlib.Core.Path.{ap, sym, _∙_}
 use Rattle.page.specs.LiveHeld.{heldAtPlace}
 use Rattle.page.proofs.LiveReadings.{place-in}

@@ -7,7 +7,7 @@ use Rattle.words.specs.Value.{zero}
 use Rattle.tree.specs.Row.{rowStart, rowWords}
 use Rattle.page.specs.LiveRows.{AllIn}
 use Rattle.page.specs.LiveHeld.{addBelow}
-use Rattle.page.proofs.OrderLaws.{all-here}
+use Rattle.page.proofs.LoopLaws.{all-here}
 use Rattle.page.proofs.LiveLaws.{below-on, below-none}
 use borrow.Author.Needs.{needs}
 use Rattle.page.proofs.held.total_below.Statement.{statement}

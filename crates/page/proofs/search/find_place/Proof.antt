@@ -1,7 +1,5 @@
 use Prim.Native.Nat.{_%_, _<_}
 use native.Mathlib.Omega.{arith}
-use mathlib.Core.Path.{_≡_}
-use lib.ListN.{length}
 use borrow.Author.Tests.{le-leb, lt-leb}
 use Rattle.page.specs.Nearest.{noRange, least}
 use Rattle.page.proofs.NearestLaws.{least-inside}

@@ -1,6 +1,7 @@
 use native.Mathlib.Omega.{arith}
 use Rattle.page.specs.Nearest.{noRange}
-use Rattle.page.proofs.NearestLaws.{lesser-second, lesser-still, least-most, least-on, least-done}
+use Rattle.page.proofs.NearestLaws.{least-most, least-on, least-done}
+use Rattle.page.proofs.LesserLaws.{lesser-second, lesser-still}
 use mathlib.Core.Path.{_≡_}
 use Prim.Native.Nat.{_-_, _≤_}
 use lib.ListN.{length, drop}

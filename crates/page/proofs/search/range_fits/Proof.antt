@@ -3,7 +3,7 @@ use mathlib.Core.Path.{_≡_}
 use mathlib.Core.Bool.{true}
 use lib.Dec.{leb, ltb}
 use borrow.Author.Tests.{le-leb, lt-leb, lt-ltb, le-ltb}
-use Rattle.page.specs.LiveRows.{rangeLow, rangeHigh}
+use Rattle.page.specs.LiveRows.{rangeLow}
 use borrow.Author.Needs.{needs}
 use Rattle.page.proofs.search.range_fits.Statement.{statement}
 use Rattle.page.proofs.search.range_fits.Tie as tie

@@ -1,4 +1,3 @@
-use native.Mathlib.Omega.{arith}
 use mathlib.Core.Path.{_∙_}
 use Rattle.page.proofs.LiveReadings.{ranges-length, places-length, ranges-few, same-length, survey-listed}
 use borrow.Author.Needs.{needs}
