@@ -1,9 +1,10 @@
 -- A loop that adds a number up over a list: what is added so far, and what is still to be added, are the sum.
 use Prim.Native.Nat.{ℕ, _+_, _≤_, _<_}
 use native.Mathlib.Omega.{arith}
-use mathlib.Core.Path.{_≡_, ap}
+use mathlib.Core.Path.{_≡_, refl, ap}
 use mathlib.Core.Bool.{Bool, true, false, cond}
 use mathlib.Core.List.{List}
+use lib.Dec.{eqb}
 use lib.ListN.{length, getD, drop}
 use Rattle.page.specs.LiveRows.{sumBy}
 use Rattle.page.proofs.LoopLaws.{drop-here, drop-none}
@@ -22,3 +23,8 @@ module _ (f : ℕ → ℕ) (l : List ℕ) (at : ℕ) where
 pub one-small : (b : Bool) (n : ℕ) → n ≡ cond b 1 0 → n ≤ 1
 one-small true n e = omega arith
 one-small false n e = omega arith
+
+-- What is 1 where a test passes, else 0, is 1 just where it passes
+pub one-is-one : (b : Bool) → eqb (cond b 1 0) 1 ≡ b
+one-is-one true = refl
+one-is-one false = refl

@@ -1,8 +1,10 @@
 -- "live rows that fail to hold each key of the page's range once, an empty live row": the test of refusal 26 on key ranges in any order.
 use Prim.Native.Nat.{ℕ, _-_}
+use mathlib.Core.Path.{_≡_}
 use mathlib.Core.List.{List, [], _∷_}
 use mathlib.Core.Bool.{Bool, true, cond, _&&_, _||_}
 use lib.Dec.{leb, ltb, eqb}
+use Rattle.words.specs.Lists.{All}
 use Rattle.page.specs.LiveRows.{rangeLow, rangeHigh, sumBy, count}
 
 abbrev pub lesser : ℕ → ℕ → ℕ
@@ -41,6 +43,14 @@ tiles low high ranges =
     && (eqb (sumBy (clipped low high) ranges) (high - low)
     && (ltb 0 (count (holdsKey low) ranges) && every (stopsWell low high ranges) ranges))
 
--- So many hints say where a low key may be found
-abbrev pub hintSize : ℕ
-hintSize = 512
+-- The code notes keys in so many slots, by their last bits
+abbrev pub slots : ℕ
+slots = 512
+
+-- A key at which a range may stop: that where the page's range stops, or one that is held
+abbrev pub mayStop : ℕ → List ℕ → ℕ → Bool
+mayStop high ranges q = eqb q high || ltb 0 (count (holdsKey q) ranges)
+
+-- In every slot stands such a key
+abbrev pub Noted : ℕ → List ℕ → List ℕ → Type 0
+Noted high ranges noted = All (λ (q : ℕ). mayStop high ranges q ≡ true) noted

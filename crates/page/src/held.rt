@@ -8,13 +8,15 @@ use crate::test::list_tested;
 use tree::Held;
 use words::Value;
 ghost use mathlib.Core.Path.{_≡_};
+ghost use mathlib.Core.Bool.{cond};
 ghost use Prim.Native.Nat.{_+_, _≤_, _<_};
 ghost use lib.ListN.{length};
+ghost use lib.Dec.{ltb};
 ghost use Rattle.words.specs.Value.{valueAt};
 ghost use Rattle.words.specs.Value as value;
 ghost use Rattle.tree.specs.Row.{rowStart, rowWords, rowLimit, pageWords};
 ghost use Rattle.tree.specs.TrueValue.{heldIn};
-ghost use Rattle.page.specs.LiveRows.{AllIn};
+ghost use Rattle.page.specs.LiveRows.{rangeLow, AllIn};
 ghost use Rattle.page.specs.LiveHeld.{addBelow, heldAmong};
 ghost use Rattle.page.specs.Tested.{ListsFit, heldTested};
 
@@ -32,17 +34,26 @@ fn value_of(page: &[u64], place: usize) -> Value
     Value::read(page, 4 + 4 * place + 2)
 }
 
-// The values of the rows whose low key is below `low`. Every value is read, and added or not, so that no branch depends on a row.
+// 1 for a range that starts below `low`, else 0. It is reckoned and not compared, so that no branch comes of it.
+fn one_if_below(range: u32, low: u32) -> u64
+    requires { ⌜ low ≤ 65536 ⌝ }
+    ensures { λ r. ⌜ r ≡ cond (ltb (rangeLow range) low) 1 0 ⌝ }
+{
+    ((65535 + low - range_low(range)) / 65536) as u64
+}
+
+// The values of the rows whose low key is below `low`. Every value is read, and added once or no times, so that no branch depends on a row.
 fn total_below(page: &[u64], ranges: &[u32], places: &[u8], low: u32) -> Value
     requires { ⌜ length (now places) ≡ length (now ranges) ⌝ }
     requires { ⌜ AllIn (now page) (now places) ⌝ }
+    requires { ⌜ low ≤ 65536 ⌝ }
     ensures { λ r. ⌜ r ≡ addBelow (now (page .entry)) low value.zero (now (ranges .entry)) (now (places .entry)) ⌝ }
 {
     let mut total = Value::zero();
     let mut at: usize = 0;
     while at < ranges.len() {
         let own = value_of(page, places[at] as usize);
-        total = total.plus(own.only_if(range_low(ranges[at]) < low));
+        total = total.plus(own.times(one_if_below(ranges[at], low)));
         at += 1;
     }
     total

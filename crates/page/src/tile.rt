@@ -4,13 +4,13 @@
 use crate::live::range_high;
 use crate::live::range_low;
 ghost use mathlib.Core.Path.{_≡_};
-ghost use mathlib.Core.Bool.{true, cond};
-ghost use Prim.Native.Nat.{_-_, _≤_, _<_};
-ghost use lib.ListN.{length};
-ghost use lib.Dec.{ltb};
+ghost use mathlib.Core.Bool.{cond};
+ghost use Prim.Native.Nat.{_-_, _%_, _≤_, _<_};
+ghost use lib.ListN.{length, getD};
+ghost use lib.Dec.{ltb, eqb};
 ghost use Rattle.tree.specs.Row.{rowLimit};
 ghost use Rattle.page.specs.LiveRows.{sumBy, count};
-ghost use Rattle.page.specs.TileTest.{lesser, larger, isEmpty, holdsKey, clipped, goesOn, every, stopsWell, tiles, hintSize};
+ghost use Rattle.page.specs.TileTest.{lesser, larger, isEmpty, holdsKey, clipped, goesOn, every, stopsWell, tiles, slots, Noted};
 
 fn one_if(counts: bool) -> u32
     ensures { λ r. ⌜ r ≡ cond counts 1 0 ⌝ }
@@ -111,67 +111,74 @@ fn clipped_total(ranges: &[u32], low: u32, high: u32) -> u32
     total
 }
 
-// Notes for each range where it is, by its low key. Low keys may share a note, and the later range has it then: a note is only a hint.
-fn note_lows(ranges: &[u32], hints: &mut [u8])
+// Notes of the keys at which a range may stop: in each of 512 slots `high` or a key that is held, the low key of a range, which has the slot
+// of its last nine bits. Where two low keys have one slot, the later range's stays.
+fn note_lows(ranges: &[u32], high: u16) -> [u16; 512]
     requires { ⌜ length (now ranges) ≤ rowLimit ⌝ }
-    requires { ⌜ length (now hints) ≡ hintSize ⌝ }
-    ensures { λ _. ⌜ length (now (hints .exit)) ≡ hintSize ⌝ }
+    requires { ⌜ count isEmpty (now ranges) ≡ 0 ⌝ }
+    ensures { λ r. ⌜ Noted high (now (ranges .entry)) r ⌝ }
 {
+    let mut noted = [high; 512];
     let mut at: usize = 0;
     while at < ranges.len() {
         let low = range_low(ranges[at]);
-        hints[low as usize % 512] = at as u8;
+        noted[low as usize % 512] = low as u16;
         at += 1;
     }
+    noted
 }
 
-// Whether the range at a place, if there is one, holds the key.
-fn hint_holds(ranges: &[u32], at: usize, key: u32) -> bool
-    ensures { λ r. ⌜ (r ≡ true → 0 < count (holdsKey key) (now (ranges .entry))) ⌝ }
+// Whether the key is noted.
+fn is_noted(noted: &[u16], key: u32) -> bool
+    requires { ⌜ length (now noted) ≡ slots ⌝ }
+    ensures { λ r. ⌜ r ≡ eqb (getD (now (noted .entry)) (key % slots) 0) key ⌝ }
 {
-    if ranges.len() <= at {
-        return false;
-    }
-    holds_key(ranges[at], key)
+    let known = noted[key as usize % 512];
+    known as u32 == key
 }
 
-// Whether a range holds the key: the one that the hints name, or any.
-fn is_held(ranges: &[u32], hints: &[u8], key: u32) -> bool
+// Whether a range holds the key, of which any note must be true. Most keys that are asked for are noted.
+fn is_held(ranges: &[u32], noted: &[u16], key: u32) -> bool
     requires { ⌜ length (now ranges) ≤ rowLimit ⌝ }
-    requires { ⌜ length (now hints) ≡ hintSize ⌝ }
+    requires { ⌜ length (now noted) ≡ slots ⌝ }
+    requires { ⌜ (getD (now noted) (key % slots) 0 ≡ key → 0 < count (holdsKey key) (now ranges)) ⌝ }
     ensures { λ r. ⌜ r ≡ ltb 0 (count (holdsKey key) (now (ranges .entry))) ⌝ }
 {
-    let hint = hints[key as usize % 512];
-    if hint_holds(ranges, hint as usize, key) {
+    if is_noted(noted, key) {
         return true;
     }
     0 < count_holders(ranges, key)
 }
 
 // Whether a key at which a range stops lies outside the range low to high or is held.
-fn goes_on(ranges: &[u32], hints: &[u8], key: u32, low: u32, high: u32) -> bool
+fn goes_on(ranges: &[u32], noted: &[u16], key: u32, low: u16, high: u16) -> bool
     requires { ⌜ length (now ranges) ≤ rowLimit ⌝ }
-    requires { ⌜ length (now hints) ≡ hintSize ⌝ }
+    requires { ⌜ length (now noted) ≡ slots ⌝ }
+    requires { ⌜ Noted high (now ranges) (now noted) ⌝ }
     ensures { λ r. ⌜ r ≡ goesOn low high (now (ranges .entry)) key ⌝ }
 {
-    if key <= low {
+    if is_noted(noted, key) {
         return true;
     }
-    if high <= key {
+    if key <= low as u32 {
         return true;
     }
-    is_held(ranges, hints, key)
+    if high as u32 <= key {
+        return true;
+    }
+    0 < count_holders(ranges, key)
 }
 
-fn each_goes_on(ranges: &[u32], hints: &[u8], low: u32, high: u32) -> bool
+fn each_goes_on(ranges: &[u32], noted: &[u16], low: u16, high: u16) -> bool
     requires { ⌜ length (now ranges) ≤ rowLimit ⌝ }
-    requires { ⌜ length (now hints) ≡ hintSize ⌝ }
+    requires { ⌜ length (now noted) ≡ slots ⌝ }
+    requires { ⌜ Noted high (now ranges) (now noted) ⌝ }
     ensures { λ r. ⌜ r ≡ every (stopsWell low high (now (ranges .entry))) (now (ranges .entry)) ⌝ }
 {
     let mut at: usize = 0;
     while at < ranges.len() {
         let stop = range_high(ranges[at]);
-        if goes_on(ranges, hints, stop, low, high) {
+        if goes_on(ranges, noted, stop, low, high) {
             at += 1;
         } else {
             return false;
@@ -194,10 +201,9 @@ pub fn tiles(ranges: &[u32], low: u16, high: u16) -> bool
     if clipped_total(ranges, first, past) != past - first {
         return false;
     }
-    let mut hints = [0u8; 512];
-    note_lows(ranges, &mut hints);
-    if is_held(ranges, &hints, first) {
-        return each_goes_on(ranges, &hints, first, past);
+    let noted = note_lows(ranges, high);
+    if is_held(ranges, &noted, first) {
+        return each_goes_on(ranges, &noted, low, high);
     }
     false
 }

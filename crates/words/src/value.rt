@@ -3,6 +3,7 @@ ghost use mathlib.Core.Path.{_≡_};
 ghost use mathlib.Core.Bool.{cond};
 ghost use Prim.Native.Nat.{_+_, _≤_};
 ghost use lib.ListN.{length};
+ghost use lib.Dec.{eqb};
 ghost use Rattle.words.specs.Value.{zero, plus, minus, valueAt, encodeValue, valueWords};
 ghost use Rattle.words.specs.Overwrite.{overwrite};
 
@@ -12,14 +13,12 @@ pub struct Value {
     pub sum: u64,
 }
 
-// The word where it counts, else 0. A loop that adds values takes this for each of their words, so that the processor has no branch to guess.
-fn word_if(counts: bool, word: u64) -> u64
-    ensures { λ r. ⌜ r ≡ cond counts word 0 ⌝ }
+// The word once, or no times.
+fn word_times(word: u64, factor: u64) -> u64
+    requires { ⌜ factor ≤ 1 ⌝ }
+    ensures { λ r. ⌜ r ≡ cond (eqb factor 1) word 0 ⌝ }
 {
-    if counts {
-        return word;
-    }
-    0
+    word * factor
 }
 
 impl Value {
@@ -50,13 +49,15 @@ impl Value {
         }
     }
 
-    // This value where it counts, else the value of nothing.
-    pub fn only_if(self, counts: bool) -> Value
-        ensures { λ r. ⌜ r ≡ cond counts self zero ⌝ }
+    // This value once, or no times. A loop that adds some of many values takes this with a factor that it reckons without a comparison: of
+    // a choice the compiler would make a branch, which the processor has to guess for each of them.
+    pub fn times(self, factor: u64) -> Value
+        requires { ⌜ factor ≤ 1 ⌝ }
+        ensures { λ r. ⌜ r ≡ cond (eqb factor 1) self zero ⌝ }
     {
         Value {
-            count: word_if(counts, self.count),
-            sum: word_if(counts, self.sum),
+            count: word_times(self.count, factor),
+            sum: word_times(self.sum, factor),
         }
     }
 

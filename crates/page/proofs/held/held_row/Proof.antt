@@ -1,3 +1,4 @@
+use native.Mathlib.Omega.{arith}
 use Prim.Native.Nat.{_+_}
 use mathlib.Core.Path.{ap, sym, _∙_}
 use Rattle.page.specs.LiveHeld.{heldAtPlace}
@@ -28,7 +29,7 @@ cast-total-below : tie.Need-cast-total-below
 cast-total-below c = search needs
 
 total-below-requires : tie.Need-total-below-requires
-total-below-requires c κs = search needs
+total-below-requires c κs = (search needs, (search needs, omega arith))
 
 plus-requires : tie.Need-plus-requires
 plus-requires c κs = search needs

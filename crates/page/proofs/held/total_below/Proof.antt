@@ -1,13 +1,15 @@
 use Prim.Native.Nat.{ℕ, _+_, _-_, _≤_}
 use native.Mathlib.Omega.{arith}
 use mathlib.Core.Path.{_≡_, ap, sym, _∙_}
-use lib.ListN.{length, drop}
+use lib.Dec.{ltb}
+use lib.ListN.{length, getD, drop}
 use Rattle.words.specs.declared.value.Value.{Value}
 use Rattle.words.specs.Value.{zero}
 use Rattle.tree.specs.Row.{rowStart, rowWords}
-use Rattle.page.specs.LiveRows.{AllIn}
+use Rattle.page.specs.LiveRows.{rangeLow, AllIn}
 use Rattle.page.specs.LiveHeld.{addBelow}
 use Rattle.page.proofs.LoopLaws.{all-here}
+use Rattle.page.proofs.SumLaws.{one-small, one-is-one}
 use Rattle.page.proofs.LiveLaws.{below-on, below-none}
 use borrow.Author.Needs.{needs}
 use Rattle.page.proofs.held.total_below.Statement.{statement}
@@ -40,17 +42,20 @@ value-of-requires c κs =
     let l = c .before .before .loop in
     all-here (a .places .now) (l .at) (λ (p : ℕ). rowStart p + rowWords ≤ length (a .page .now)) (omega arith) (l .inv .1) .0
 
-mul-range-low : tie.Need-mul-range-low Inv-loop μ-loop
-mul-range-low c = search needs
+mul-one-if-below : tie.Need-mul-one-if-below Inv-loop μ-loop
+mul-one-if-below c = search needs
 
-shared-slice-read-range-low : tie.Need-shared-slice-read-range-low Inv-loop μ-loop
-shared-slice-read-range-low c = search needs
+shared-slice-read-one-if-below : tie.Need-shared-slice-read-one-if-below Inv-loop μ-loop
+shared-slice-read-one-if-below c = search needs
 
-range-low-requires : tie.Need-range-low-requires Inv-loop μ-loop
-range-low-requires c κs = search needs
+one-if-below-requires : tie.Need-one-if-below-requires Inv-loop μ-loop
+one-if-below-requires c κs = search needs
 
-only-if-requires : tie.Need-only-if-requires Inv-loop μ-loop
-only-if-requires c κs = search needs
+times-requires : tie.Need-times-requires Inv-loop μ-loop
+times-requires c κs =
+    let a = c .before .before .before .before .before .before .before .before .before .before .args in
+    let l = c .before .before .before .before .before .loop in
+    one-small (ltb (rangeLow (getD (a .ranges .now) (l .at) 0)) (a .low)) (c .one-if-below .result) (c .one-if-below .ensures)
 
 plus-requires : tie.Need-plus-requires Inv-loop μ-loop
 plus-requires c κs = search needs
@@ -67,7 +72,7 @@ loop-again c =
     let l = c .before .before .before .before .before .before .before .loop in (
       search needs,
       all-here (a .places .now) (l .at) (λ (p : ℕ). rowStart p + rowWords ≤ length (a .page .now)) (omega arith) (l .inv .1) .1,
-      rw (c .plus .ensures, c .before .only-if .ensures, c .before .before .range-low .ensures, c .before .before .before .before .value-of .ensures)
+      rw (c .plus .ensures, c .before .times .ensures, c .before .before .one-if-below .ensures, one-is-one (ltb (rangeLow (getD (a .ranges .now) (l .at) 0)) (a .low)), c .before .before .before .before .value-of .ensures)
           (sym (below-on (a .page .now) (a .low) (a .ranges .now) (a .places .now) (search needs) (l .at) (l .total) (omega arith)) ∙ l .inv .2),
     )
 
@@ -88,10 +93,10 @@ total-below-spec =
     shared-slice-read-value-of
     cast-value-of
     value-of-requires
-    mul-range-low
-    shared-slice-read-range-low
-    range-low-requires
-    only-if-requires
+    mul-one-if-below
+    shared-slice-read-one-if-below
+    one-if-below-requires
+    times-requires
     plus-requires
     add-at
     loop-less

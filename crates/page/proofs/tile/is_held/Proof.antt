@@ -1,22 +1,22 @@
-use Prim.Native.Nat.{_%_}
-use native.Mathlib.Omega.{arith}
-use mathlib.Core.Path.{sym}
-use borrow.Author.Tests.{lt-ltb}
+use Prim.Native.Nat.{_%_, _<_}
+use mathlib.Core.Path.{_≡_, sym, _∙_}
+use lib.ListN.{getD}
+use Rattle.page.specs.LiveRows.{count}
+use Rattle.page.specs.TileTest.{holdsKey, slots}
+use borrow.Author.Tests.{lt-ltb, eqb-true}
 use borrow.Author.Needs.{needs}
 use Rattle.page.proofs.tile.is_held.Statement.{statement}
 use Rattle.page.proofs.tile.is_held.Tie as tie
 
-shared-slice-read-hint : tie.Need-shared-slice-read-hint
-shared-slice-read-hint c = search needs
-
-cast-hint-holds : tie.Need-cast-hint-holds
-cast-hint-holds c = omega (arith, c .shared-slice-known3 .given (c .before .before .before .args .key % 512))
-
-hint-holds-requires : tie.Need-hint-holds-requires
-hint-holds-requires c κs = search needs
+is-noted-requires : tie.Need-is-noted-requires
+is-noted-requires c κs = search needs
 
 returns : tie.Need-returns
-returns c = sym (lt-ltb 0 _ (c .before .hint-holds .ensures (c .if1 .taken)))
+returns c =
+    let a = c .before .before .before .before .args in
+    let here = eqb-true _ _ (sym (c .before .is-noted .ensures) ∙ c .if1 .taken) in
+    let true-note : getD (a .noted .now) (a .key % slots) 0 ≡ a .key → 0 < count (holdsKey (a .key)) (a .ranges .now) = search needs in
+    sym (lt-ltb 0 _ (true-note here))
 
 count-holders-requires : tie.Need-count-holders-requires
 count-holders-requires c κs = search needs
@@ -25,12 +25,4 @@ returns-2 : tie.Need-returns-2
 returns-2 c = rw (c .count-holders .ensures)
 
 pub is-held-spec : {M : Type 1} → statement M
-is-held-spec =
-    tie.close
-    (tie.spec
-    shared-slice-read-hint
-    cast-hint-holds
-    hint-holds-requires
-    returns
-    count-holders-requires
-    returns-2)
+is-held-spec = tie.close (tie.spec is-noted-requires returns count-holders-requires returns-2)
