@@ -11,12 +11,10 @@ use Rattle.tree.specs.declared.types.Lookup.the-variants.{Spoiled, Found}
 use Rattle.tree.specs.Tree.{Tree}
 use Rattle.tree.specs.Lookup.{lookup}
 use Rattle.tree.proofs.PathLength.{pages-at-most}
+use Rattle.lookup.proofs.LookupLaws.{same-found}
 use Rattle.store.specs.Reading.{pagesOf, Four, fourSpoiled, fourValue, fourPages}
 use Rattle.calls.specs.Bands.{without, inBand}
 use Rattle.calls.proofs.Differences.{two-values, four-values}
-
-same-found : {v w : Value} {m n : ℕ} → v ≡ w → m ≡ n → Found v m ≡ Found w n
-same-found p q = λ i. Found (p i) (q i)
 
 -- The lookups below the low key, where `first` says that the band starts at key 0
 abbrev pub fourOf : Bool → Lookup → Lookup → Lookup → Lookup → Four

@@ -4,6 +4,7 @@ use native.Mathlib.Omega.{arith}
 use mathlib.Core.Path.{_≡_, ap, sym, _∙_}
 use Rattle.words.specs.declared.value.Value.{Value}
 use Rattle.words.specs.Value.{zero, plus, minus}
+use Rattle.words.proofs.ValueLaws.{value-path}
 
 -- What is taken away in two steps may be taken away in either order
 mod-swap : (a u v : ℕ) → ((a + u) % 2 ^ 64 + v) % 2 ^ 64 ≡ ((a + v) % 2 ^ 64 + u) % 2 ^ 64
@@ -40,9 +41,6 @@ four-regrouped a b c d =
 two-only : (a b : ℕ)
     → (((a + (2 ^ 64 - b % 2 ^ 64)) % 2 ^ 64 + (2 ^ 64 - 0 % 2 ^ 64)) % 2 ^ 64 + 0) % 2 ^ 64 ≡ (a + (2 ^ 64 - b % 2 ^ 64)) % 2 ^ 64
 two-only a b = omega arith
-
-value-path : {a b : Value} → a .count ≡ b .count → a .sum ≡ b .sum → a ≡ b
-value-path p q = λ i. record { count = p i; sum = q i }
 
 pub four-values : (a b c d : Value) → minus (minus a c) (minus b d) ≡ plus (minus (minus a b) c) d
 unfolding plus minus

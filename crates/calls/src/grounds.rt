@@ -1,5 +1,7 @@
 // The grounds that numbers alone decide, those of the input and of the head's own numbers. Each function tests its grounds in number order
 // and returns the number of the first that is met, or 0.
+use store::Head;
+use store::OpenPass;
 ghost use mathlib.Core.Path.{_≡_};
 ghost use Rattle.store.specs.Refusals.{firstMet};
 ghost use Rattle.calls.specs.Grounds.{startInput, endInput, questionInput, lookupInput, startState};
@@ -8,16 +10,16 @@ ghost use Rattle.calls.specs.Grounds.{startInput, endInput, questionInpu
 pub fn start_input(tick: u32, key: u32, weight: u32) -> u8
     ensures { λ r. ⌜ r ≡ firstMet (startInput tick key weight) ⌝ }
 {
-    if 30000 <= key {
+    if OpenPass::KEY_LIMIT <= key {
         return 1;
     }
     if weight == 0 {
         return 3;
     }
-    if 10000 < weight {
+    if OpenPass::HEAVIEST < weight {
         return 3;
     }
-    if tick == 4294967295 {
+    if tick == words::OPEN {
         return 4;
     }
     0
@@ -27,7 +29,7 @@ pub fn start_input(tick: u32, key: u32, weight: u32) -> u8
 pub fn end_input(tick: u32) -> u8
     ensures { λ r. ⌜ r ≡ firstMet (endInput tick) ⌝ }
 {
-    if tick == 4294967295 {
+    if tick == words::OPEN {
         return 4;
     }
     0
@@ -37,10 +39,10 @@ pub fn end_input(tick: u32) -> u8
 pub fn question_input(k1: u32, k2: u32, t1: u32, t2: u32) -> u8
     ensures { λ r. ⌜ r ≡ firstMet (questionInput k1 k2 t1 t2) ⌝ }
 {
-    if 30000 <= k1 {
+    if OpenPass::KEY_LIMIT <= k1 {
         return 1;
     }
-    if 30000 < k2 {
+    if OpenPass::KEY_LIMIT < k2 {
         return 1;
     }
     if k2 <= k1 {
@@ -56,10 +58,10 @@ pub fn question_input(k1: u32, k2: u32, t1: u32, t2: u32) -> u8
 pub fn lookup_input(t: u32, k: u32) -> u8
     ensures { λ r. ⌜ r ≡ firstMet (lookupInput t k) ⌝ }
 {
-    if 30000 <= k {
+    if OpenPass::KEY_LIMIT <= k {
         return 1;
     }
-    if t == 4294967295 {
+    if t == words::OPEN {
         return 4;
     }
     0
@@ -72,10 +74,10 @@ pub fn start_state(last: u32, count: u32, started: u32, tick: u32) -> u8
     if tick < last {
         return 21;
     }
-    if 64 <= count {
+    if Head::OPEN_LIMIT <= count {
         return 24;
     }
-    if 1000000 <= started {
+    if Head::PASS_LIMIT <= started {
         return 25;
     }
     0

@@ -21,8 +21,12 @@ fn open_tree(table: &mut [u64], roots: &mut [u64])
     ensures { λ _. ⌜ now (table .exit) ≡ openedTree (now (table .entry)) (now (roots .entry)) .table ⌝ }
     ensures { λ _. ⌜ now (roots .exit) ≡ openedTree (now (table .entry)) (now (roots .entry)) .roots ⌝ }
 {
-    let row = page::new_row(0, 0, 30000, 0, Value::zero());
-    put_page(table, 0, Page::empty(0, 0, 30000, 0).with_row(row));
+    let row = page::new_row(0, 0, words::KEY_LIMIT, 0, Value::zero());
+    put_page(
+        table,
+        0,
+        Page::empty(0, 0, words::KEY_LIMIT, 0).with_row(row),
+    );
     roots[0] = words::life(0, 0);
 }
 

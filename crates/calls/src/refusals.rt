@@ -5,6 +5,7 @@ use crate::grounds::start_input;
 use crate::grounds::start_state;
 use head::find_pass;
 use head::head_fits;
+use page::Page;
 use store::FoundPass;
 use store::Head;
 use tree::Plan;
@@ -24,7 +25,7 @@ ghost use Rattle.calls.specs.Grounds.{earlier, headGrounds};
 fn too_small(table: &[u64], roots: &[u64]) -> bool
     ensures { λ r. ⌜ r ≡ tooSmall (now (table .entry)) (now (roots .entry)) ⌝ }
 {
-    if table.len() < 260 {
+    if table.len() < Page::WORDS {
         return true;
     }
     roots.len() < 1
@@ -74,11 +75,12 @@ fn pages_left(table: &[u64], used: TreeUse) -> usize
     requires { ⌜ used .pages ≤ pageLimit ⌝ }
     ensures { λ r. ⌜ r ≡ pagesLeft (record { table = now (table .entry); roots = []; used = used }) ⌝ }
 {
-    let whole = table.len() / 260;
-    if whole < 1000000 {
+    let most = TreeUse::PAGE_LIMIT as usize;
+    let whole = table.len() / Page::WORDS;
+    if whole < most {
         return whole - used.pages as usize;
     }
-    1000000 - used.pages as usize
+    most - used.pages as usize
 }
 
 // 28, for an entry that adds a root to a list of so many places.

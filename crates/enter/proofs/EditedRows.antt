@@ -11,20 +11,11 @@ use Rattle.tree.specs.declared.types.Row.{Row}
 use Rattle.tree.specs.Row.{word, rowStart, rowsOf, headerWords, rowIn}
 use Rattle.tree.specs.KeyOrder.{Placed}
 use Rattle.tree.specs.Edit.{ended, bornAt, putRow, endRow, appendRow, withRows}
+use Rattle.tree.proofs.Lists.{all-set, all-append}
 use Rattle.tree.proofs.PageCodec.{Fits, row-fits, rows-fit, rows-length, with-length, with-count, with-rows}
 use Rattle.page.proofs.WithRows.{put-is-with, append-is-with, with-with}
 use Rattle.tree.specs.RowSteps.{replaceRow}
 use Rattle.enter.specs.PageEdits.{replaceWords}
-
--- Properties of all rows, one of them written over or more of them added
-pub all-set : {A : Type 0} (P : A → Type 0) (xs : List A) (i : ℕ) (x : A) → All P xs → P x → All P (set xs i x)
-all-set P [] i x h p = tt
-all-set P (y ∷ ys) zero x h p = (p, h .1)
-all-set P (y ∷ ys) (suc i) x h p = (h .0, all-set P ys i x (h .1) p)
-
-pub all-append : {A : Type 0} (P : A → Type 0) (xs ys : List A) → All P xs → All P ys → All P (xs ++ ys)
-all-append P [] ys h k = k
-all-append P (x ∷ xs) ys h k = (h .0, all-append P xs ys (h .1) k)
 
 -- A page with n rows before, and rows after
 pub append-to-with : (page : List ℕ) (rows : List Row) (r : Row) → All Fits rows → rowStart (length rows + 1) ≤ length page →
@@ -53,13 +44,13 @@ module _ (t : ℕ) (page : List ℕ) (place : ℕ) (old : Row) (inside : place <
   rows-fits = rows-fit page headerWords (word page 1)
 
   stopped-fits : All Fits (set (rowsOf page) place (ended t old))
-  stopped-fits = all-set Fits (rowsOf page) place (ended t old) rows-fits (record { low = old-fits .low; high = old-fits .high; birth = old-fits .birth })
+  stopped-fits = all-set Fits (rowsOf page) place (ended t old) (record { low = old-fits .low; high = old-fits .high; birth = old-fits .birth }) rows-fits
 
   pub replaced-fits : (new : Row) (further : List Row) → t < 4294967296 → Fits new → All Fits further → All Fits (replaceRow t (placedIn place old) new further (rowsOf page))
   replaced-fits new further small n f = go (eqb (old .birth) t)
     where
       go : (b : Bool) → All Fits (cond b (set (rowsOf page) place new ++ further) (set (rowsOf page) place (ended t old) ++ (bornAt t new ∷ further)))
-      go true = all-append Fits (set (rowsOf page) place new) further (all-set Fits (rowsOf page) place new rows-fits n) f
+      go true = all-append Fits (set (rowsOf page) place new) further (all-set Fits (rowsOf page) place new n rows-fits) f
       go false = all-append Fits (set (rowsOf page) place (ended t old)) (bornAt t new ∷ further) stopped-fits (record { low = n .low; high = n .high; birth = small }, f)
 
   pub replaced-length : (new : Row) → (length (replaceRow t (placedIn place old) new [] (rowsOf page)) ≤ word page 1 + 1) × (word page 1 ≤ length (replaceRow t (placedIn place old) new [] (rowsOf page)))

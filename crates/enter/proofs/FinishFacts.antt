@@ -15,56 +15,15 @@ use Rattle.tree.specs.Row.{word, live, rowWords, rowLimit, copyLimit, pageWords
 use Rattle.tree.specs.KeyOrder.{Placed, placedLow, keepIf, livePlaced, sortBy, keyOrder}
 use Rattle.tree.specs.Edit.{bornAt, withRows}
 use Rattle.tree.specs.Fresh.{zeros, freshPage}
-use Rattle.tree.proofs.Lists.{all-map}
-use Rattle.tree.proofs.Places.{live-order}
+use Rattle.tree.proofs.Lists.{all-drop}
 use Rattle.tree.proofs.PageCodec.{encode-length, Fits, with-length}
-use Rattle.page.proofs.OrderRowLaws.{insert-length}
+use Rattle.tree.proofs.RowBounds.{copied-length, copied-fits, first-length, lowest-fits}
 use Rattle.tree.specs.Tree.{Tree, pageAt, putPage}
 use Rattle.tree.specs.declared.types.Became.the-variants.{Stays}
 use Rattle.tree.specs.Overflow.{Written, takenPage, copiedRows, lowerCount, lowestKey, gainFirst, totalOf, copyPage, halvePage, splitPage, finishPage}
 use Rattle.tree.proofs.TableLaws.{put-length, put-other}
 use Rattle.enter.proofs.StepRows.{ChildrenFit}
 use Rattle.enter.proofs.SettleLaws.{finish-stays, finish-splits}
-
--- Rows that are copied are no more than there were, and fit as they did
-live-most : (t from : ℕ) (rows : List Row) → length (livePlaced t from rows) ≤ length rows
-unfolding livePlaced
-live-most t from [] = omega arith
-live-most t from (r ∷ rs) = go (live t r) (live-most t (suc from) rs)
-  where
-    go : (b : Bool) → length (livePlaced t (suc from) rs) ≤ length rs →
-        length (keepIf b (record { place = from; row = r }) (livePlaced t (suc from) rs)) ≤ suc (length rs)
-    go true h = omega arith
-    go false h = omega arith
-
-sort-length : (xs : List Placed) → length (sortBy placedLow xs) ≡ length xs
-unfolding sortBy
-sort-length [] = refl
-sort-length (x ∷ xs) = insert-length placedLow x (sortBy placedLow xs) ∙ ap suc (sort-length xs)
-
-pub copied-most : (t : ℕ) (rows : List Row) → length (copiedRows t rows) ≤ length rows
-copied-most t rows =
-    omega (arith, length-map (keyOrder t rows) (λ (x : Placed). bornAt t (x .row)), sort-length (livePlaced t 0 rows), live-most t 0 rows)
-
-copied-fit : (t : ℕ) → t < 4294967296 → (rows : List Row) → All Fits rows → All Fits (copiedRows t rows)
-copied-fit t small rows fit = mapped (keyOrder t rows) (live-order Fits t rows (all-map Fits _ (λ (r : Row) (f : Fits r) l. f) rows fit))
-  where
-    mapped : (xs : List Placed) → All (λ (x : Placed). Fits (x .row)) xs → All Fits (map (λ (x : Placed). bornAt t (x .row)) xs)
-    mapped [] h = tt
-    mapped (x ∷ xs) h = (record { low = h .0 .low; high = h .0 .high; birth = small }, mapped xs (h .1))
-
-all-drop : (n : ℕ) (rows : List Row) → All Fits rows → All Fits (drop n rows)
-all-drop zero rows h = h
-all-drop (suc n) [] h = tt
-all-drop (suc n) (r ∷ rs) h = all-drop n rs (h .1)
-
-lowest-fits : (d : ℕ) (rows : List Row) → d < 65536 → All Fits rows → lowestKey d rows < 65536
-lowest-fits d [] small h = small
-lowest-fits d (r ∷ rs) small h = h .0 .low
-
-gain-first-length : (v : Value) (rows : List Row) → length (gainFirst v rows) ≡ length rows
-gain-first-length v [] = refl
-gain-first-length v (r ∷ rs) = refl
 
 pub fresh-length : (level low high birth : ℕ) (rows : List Row) → length rows ≤ rowLimit → length (freshPage level low high birth rows) ≡ pageWords
 unfolding freshPage zeros
@@ -124,7 +83,7 @@ module _ (tree : Tree) (t : ℕ) (small : t < 4294967296) (so : Written) (page :
       Finished tree so page (halvePage tree t so old lower upper (lowestKey (highKey (word old 2)) upper))
   unfolding old moved lower upper
   halve-facts room =
-      let many : length (copiedRows t rows) ≤ length rows = copied-most t rows in
+      let many : length (copiedRows t rows) ≤ length rows = copied-length t rows in
       let middle : ℕ = lowestKey (highKey (word old 2)) upper in
       let n : ℕ = takenPage (tree .used) (so .made) in
       let m : ℕ = takenPage (tree .used) (so .made + 1) in
@@ -132,14 +91,14 @@ module _ (tree : Tree) (t : ℕ) (small : t < 4294967296) (so : Written) (page :
       let second : List ℕ = freshPage (word old 0) middle (highKey (word old 2)) t (gainFirst (totalOf lower) upper) in
       let a : length lower ≤ rowLimit = omega (arith, length-take (lowerCount moved) moved) in
       let b : length (gainFirst (totalOf lower) upper) ≤ rowLimit =
-      omega (arith, gain-first-length (totalOf lower) upper, length-drop (lowerCount moved) moved) in
+      omega (arith, first-length (totalOf lower) upper, length-drop (lowerCount moved) moved) in
       let first-size : length first ≡ pageWords = fresh-length (word old 0) (lowKey (word old 2)) middle t lower a in
       let second-size : length second ≡ pageWords = fresh-length (word old 0) middle (highKey (word old 2)) t (gainFirst (totalOf lower) upper) b in
       let first-fits : n * pageWords + pageWords ≤ length (so .table) = omega arith in
       let between : List ℕ = putPage (so .table) n first in
       let long : length between ≡ length (so .table) = put-length (so .table) n first first-fits first-size in
       let second-fits : m * pageWords + pageWords ≤ length between = omega arith in
-      let mid : middle < 65536 = lowest-fits (highKey (word old 2)) upper (omega arith) (all-drop (lowerCount moved) moved (copied-fit t small rows fit)) in
+      let mid : middle < 65536 = lowest-fits (highKey (word old 2)) upper (omega arith) (all-drop Fits (lowerCount moved) moved (copied-fits t rows small fit)) in
       record {
         same-length = put-length between m second second-fits second-size ∙ long;
         other = λ q l a. put-other between m second second-fits second-size q (omega arith) ∙ put-other (so .table) n first first-fits first-size q (omega arith);

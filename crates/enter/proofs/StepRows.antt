@@ -18,7 +18,7 @@ use Rattle.page.specs.Survey.{placeFound, isAround, startsFrom}
 use Rattle.tree.specs.Edit.{ended, bornAt, appendRow, withRows}
 use Rattle.tree.specs.Fresh.{newRow}
 use Rattle.tree.proofs.Places.{AtPlace, order-places}
-use Rattle.tree.proofs.Searches.{first-has}
+use Rattle.tree.proofs.Searches.{first-has, first-passes}
 use Rattle.tree.proofs.PageCodec.{Fits, row-fits, rows-fit, rows-length, row-at-place, with-length, with-count, with-rows}
 use Rattle.page.proofs.WithRows.{with-same, with-with}
 use Rattle.tree.specs.RowSteps.{Point, gained, cutAt, linkedTo, replaceRow, rowAround, rowFrom, gainIn, gainRows, cutIn, leafRows, relinkRow}
@@ -34,15 +34,6 @@ pub record Seen (t : ℕ) (page : List ℕ) (test : Placed → Bool) (x : Placed
   pub same : rowIn page (x .place) ≡ x .row
   pub alive : live t (x .row) ≡ true
   pub passes : test x ≡ true
-
-pub first-passes : {A : Type 0} (test : A → Bool) (xs : List A) {x : A} → first test xs ≡ one x → test x ≡ true
-unfolding first
-first-passes test [] e = let z : _≡_ {A = ℕ} 0 1 = cc in absurd (omega arith)
-first-passes {A} test (y ∷ ys) {x} e = go (test y) refl (λ r. first-passes test ys r) e
-  where
-    go : (b : Bool) → test y ≡ b → (first test ys ≡ one x → test x ≡ true) → cond b (one y) (first test ys) ≡ one x → test x ≡ true
-    go true h ih r = let s : y ≡ x = cc in rw (← s) h
-    go false h ih r = ih r
 
 pub found-seen : (t : ℕ) (page : List ℕ) (test : Placed → Bool) {x : Placed} → first test (keyOrder t (rowsOf page)) ≡ one x → Seen t page test x
 found-seen t page test {x} e =

@@ -1,4 +1,5 @@
 // Refusal 20: a head that doesn't fit. Any head may be handed in, so the number of open passes is tested before a place is read.
+use page::Page;
 use store::Head;
 use store::OpenPass;
 use tree::TreeUse;
@@ -11,13 +12,13 @@ ghost use Rattle.store.specs.Head.{openLimit, openPasses, passFits, passesFit, 
 fn pass_fits(started: u32, last: u32, pass: OpenPass) -> bool
     ensures { λ r. ⌜ r ≡ passFits started last pass ⌝ }
 {
-    if 30000 <= pass.key {
+    if OpenPass::KEY_LIMIT <= pass.key {
         return false;
     }
     if pass.weight < 1 {
         return false;
     }
-    if 10000 < pass.weight {
+    if OpenPass::HEAVIEST < pass.weight {
         return false;
     }
     if started <= pass.number {
@@ -60,10 +61,10 @@ fn use_fits(used: TreeUse, words: usize, list: usize) -> bool
     if used.roots < 1 {
         return false;
     }
-    if 1000000 < used.pages {
+    if TreeUse::PAGE_LIMIT < used.pages {
         return false;
     }
-    if words / 260 < used.pages as usize {
+    if words / Page::WORDS < used.pages as usize {
         return false;
     }
     if used.pages < used.roots {
@@ -82,10 +83,10 @@ pub fn head_fits(
 ) -> bool
     ensures { λ r. ⌜ r ≡ headFits (record { head = head; lent = record { startTable = now («start_table» .entry); startRoots = now («start_roots» .entry); endTable = now («end_table» .entry); endRoots = now («end_roots» .entry) } }) ⌝ }
 {
-    if 64 < head.count {
+    if Head::OPEN_LIMIT < head.count {
         return false;
     }
-    if 1000000 < head.started {
+    if Head::PASS_LIMIT < head.started {
         return false;
     }
     let starts = head.starts;

@@ -15,7 +15,7 @@ use Rattle.tree.specs.KeyOrder.{Placed, keyOrder}
 use Rattle.tree.specs.PageTest.{soundAt}
 use Rattle.tree.specs.Tree.{Tree, pageAt}
 use Rattle.tree.specs.TrueValue.{Search, none, one, holdingRow, heldAs, heldIn}
-use Rattle.tree.proofs.RowViews.{first-passes}
+use Rattle.tree.proofs.Searches.{first-passes}
 use Rattle.lookup.specs.Descent.{opened, Wide}
 
 held-wide : (t k level low high : ℕ) (page : List ℕ) → Wide (heldIn t k level low high page)

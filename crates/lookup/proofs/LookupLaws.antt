@@ -32,7 +32,7 @@ use Rattle.lookup.specs.declared.descent.Top.the-variants as top
 use Rattle.lookup.specs.Descent.{onward, opened, below, lookupHeld, topOf, lookupTop, TopFits}
 
 -- The same answer where total and pages are the same
-same-found : {v w : Value} {m n : ℕ} → v ≡ w → m ≡ n → Found v m ≡ Found w n
+pub same-found : {v w : Value} {m n : ℕ} → v ≡ w → m ≡ n → Found v m ≡ Found w n
 same-found p q = λ i. Found (p i) (q i)
 
 test-inside : (under : Row → Lookup) (b : Bool) (h : Held) → cond b (withBelow under h) Spoiled ≡ withBelow under (cond b h held.Spoiled)

@@ -84,7 +84,7 @@ fn descend(table: &[u64], used: TreeUse, root: u32, top: u64, t: u32, k: u16) ->
     requires { ⌜ top ≤ topLevel ⌝ }
     ensures { λ r. ⌜ r ≡ lookupFrom (record { table = now (table .entry); roots = []; used = used }) t k top 0 keyLimit root ⌝ }
 {
-    let held = open_page(table, used, root, top, 0, 30000, t, k);
+    let held = open_page(table, used, root, top, 0, words::KEY_LIMIT, t, k);
     descend_from(table, used, held, top, Value::zero(), 0, t, k)
 }
 

@@ -128,7 +128,7 @@ fn descend_together(
     ensures { λ r. ⌜ r .lower ≡ lookupFrom (record { table = now (table .entry); roots = []; used = used }) t (keys .lower) top 0 keyLimit root ⌝ }
     ensures { λ r. ⌜ r .upper ≡ lookupFrom (record { table = now (table .entry); roots = []; used = used }) t (keys .upper) top 0 keyLimit root ⌝ }
 {
-    let mut held = open_page_for_two(table, used, root, top, 0, 30000, t, keys);
+    let mut held = open_page_for_two(table, used, root, top, 0, words::KEY_LIMIT, t, keys);
     let mut level = top;
     let mut lower_total = Value::zero();
     let mut upper_total = Value::zero();

@@ -35,7 +35,7 @@ use Rattle.page.specs.Tested.{TestedAs, ListsFit, heldTested}
 use Rattle.page.specs.LiveHeld.{addBelow, heldAtPlace, heldAmong, surveyAmong}
 use Rattle.page.proofs.EntryLaws.{Seated, low-fits, high-fits, live-more, live-seated, liveFrom, order-seated}
 use Rattle.tree.proofs.Searches.{first-has}
-use Rattle.page.proofs.OrderRowLaws.{insert-length}
+use Rattle.tree.proofs.Sorted.{sort-length}
 use Rattle.page.proofs.PageReadings.{header-facts, sound-few}
 use Rattle.page.proofs.NearestLaws.{Short, range-low-is, range-high-is, rowFits, least-inside, place-is-first}
 use Rattle.page.proofs.RangeTiles.{tiles-once, once-tiles}
@@ -45,11 +45,6 @@ first-same : {A : Type 0} (f g : A → Bool) (xs : List A) → All (λ (x : A). 
 unfolding first
 first-same f g [] h = refl
 first-same f g (x ∷ xs) h = ap₂ (λ (b : Bool) (s : Search _). cond b (one x) s) (h .0) (first-same f g xs (h .1))
-
-sort-length : (xs : List Placed) → length (sortBy placedLow xs) ≡ length xs
-unfolding sortBy
-sort-length [] = refl
-sort-length (x ∷ xs) = insert-length placedLow x (sortBy placedLow xs) ∙ ap suc (sort-length xs)
 
 both-true : (a b : Bool) → (a ≡ true → b ≡ true) → (b ≡ true → a ≡ true) → a ≡ b
 both-true true b f g = sym (f refl)
@@ -228,7 +223,7 @@ pub survey-says : (t k : ℕ) (page : List ℕ) → word page 1 ≤ rowLimit →
     surveyAmong (word page 1) k (map rangeOf (liveRows t page (word page 1))) (map placeIn (liveRows t page (word page 1))) ≡ surveyOf t k page
 survey-says t k page few =
     let live-is : length (map rangeOf (liveRows t page (word page 1))) ≡ length (keyOrder t (rowsOf page)) =
-    length-map (liveRows t page (word page 1)) rangeOf ∙ sym (sort-length (liveRows t page (word page 1))) in
+    length-map (liveRows t page (word page 1)) rangeOf ∙ sym (sort-length placedLow (liveRows t page (word page 1))) in
     λ i. record {
       rows = word page 1;
       live = live-is i;

@@ -72,8 +72,8 @@ impl Page {
         ensures { λ r. ⌜ r ≡ twoRowRoot level birth middle lower upper ⌝ }
     {
         let below = new_row(birth, 0, middle, lower, Value::zero());
-        let above = new_row(birth, middle, 30000, upper, Value::zero());
-        Page::empty(level, 0, 30000, birth)
+        let above = new_row(birth, middle, words::KEY_LIMIT, upper, Value::zero());
+        Page::empty(level, 0, words::KEY_LIMIT, birth)
             .with_row(below)
             .with_row(above)
     }

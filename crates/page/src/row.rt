@@ -44,7 +44,7 @@ pub fn new_row(birth: u32, low: u16, high: u16, child: u32, value: Value) -> Row
         high,
         child,
         birth,
-        end: 4294967295,
+        end: words::OPEN,
         value,
     }
 }

@@ -1,4 +1,5 @@
 // Refusal 26, as far as one page's own words go.
+use crate::fresh::Page;
 use crate::live::list_live;
 use crate::tile::tiles;
 ghost use mathlib.Core.Path.{_≡_};
@@ -25,7 +26,7 @@ fn header_fits(page: &[u64], level: u64, low: u16, high: u16) -> bool
     if page[1] < 1 {
         return false;
     }
-    if 64 < page[1] {
+    if (Page::ROWS as u64) < page[1] {
         return false;
     }
     page[2] == words::key_range(low, high)

@@ -13,11 +13,10 @@ use Rattle.page.specs.declared.search.Place.the-variants as place
 use Rattle.tree.specs.Row.{word, rowAt, rowStart, rowsOf, headerWords, live, rowLimit, copyLimit}
 use Rattle.tree.specs.KeyOrder.{Placed, keyOrder}
 use Rattle.tree.specs.TrueValue.{Search, none, one, first}
-use Rattle.tree.proofs.RowViews.{first-passes}
 use Rattle.tree.specs.PageTest.{soundAt}
 use Rattle.page.specs.Survey.{surveyOf, isAround, placeFound}
 use Rattle.page.proofs.EntryLaws.{Seated, order-seated}
-use Rattle.tree.proofs.Searches.{first-has}
+use Rattle.tree.proofs.Searches.{first-has, first-passes}
 use Rattle.page.proofs.PageReadings.{sound-few}
 use Rattle.plan.specs.declared.planning.Counts.{Counts}
 use Rattle.plan.specs.declared.planning.Met.{Met}

@@ -71,9 +71,10 @@ met-tests around true true m = refl
 met-tests around true false m = refl
 met-tests around false b m = refl
 
-join-tests : (a b : Bool) (x : Planned) → cond a (cond b x Spoiled) Spoiled ≡ cond (a && b) x Spoiled
-join-tests true b x = refl
-join-tests false b x = refl
+-- Two tests, one after the other
+pub join-tests : {X : Type 0} (a b : Bool) (x y : X) → cond a (cond b x y) y ≡ cond (a && b) x y
+join-tests true b x y = refl
+join-tests false b x y = refl
 
 above-test : (counts : Counts) (b : Bool) (x : Planned) → planAbove counts (cond b x Spoiled) ≡ cond b (planAbove counts x) Spoiled
 unfolding planAbove
@@ -216,4 +217,4 @@ module _ (tree : Tree) (p : Point) (small : p .tick < openEnd) where
       (soundAt (p .tick) (suc l) low high (pageAt (tree .table) page))
       (metSurvey (p .tick) (pageAt (tree .table) page) (surveyOf (p .tick) (p .key) (pageAt (tree .table) page)))
       ∙ ap (λ (y : Planned). cond (metAt tree (p .tick) (suc l) low high page) y Spoiled) (above-is l page (plan-from-is l))
-      ∙ join-tests (metAt tree (p .tick) (suc l) low high page) _ _
+      ∙ join-tests (metAt tree (p .tick) (suc l) low high page) _ _ Spoiled

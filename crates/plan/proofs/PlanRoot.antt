@@ -26,7 +26,7 @@ use Rattle.tree.specs.Plan.{isHalved, topMustSplit, descentSound, planRoot, pla
 use Rattle.plan.specs.PlanSteps.{planTop, planFrom}
 use Rattle.lookup.proofs.RootSearch.{root-none}
 use Rattle.lookup.proofs.LookupLaws.{level-in-table}
-use Rattle.plan.proofs.PlanLaws.{partsIn, outcome, plan-from-is}
+use Rattle.plan.proofs.PlanLaws.{partsIn, outcome, join-tests, plan-from-is}
 
 -- What the root's own plan makes of the whole
 abbrev pub planEnd : ℕ → ℕ → ℕ → Planned → Plan
@@ -46,10 +46,6 @@ not-split false x = refl
 split-test : (e : Bool) (x : Plan) → cond e Spoiled x ≡ cond (not (e && true)) x Spoiled
 split-test true x = refl
 split-test false x = refl
-
-join-tests : (a b : Bool) (x : Plan) → cond a (cond b x Spoiled) Spoiled ≡ cond (a && b) x Spoiled
-join-tests true b x = refl
-join-tests false b x = refl
 
 end-test : (top last t : ℕ) (b : Bool) (x : Planned) → planEnd top last t (cond b x planned.Spoiled) ≡ cond b (planEnd top last t x) Spoiled
 end-test top last t true x = refl
@@ -116,5 +112,5 @@ module _ (tree : Tree) (p : Point) where
           ∙ sym (ap (planEnd level (lastRoot tree) (p .tick)) (plan-from-is tree p small level 0 keyLimit page)
           ∙ end-test level (lastRoot tree) (p .tick) sound (outcome so)
           ∙ ap (λ (x : Plan). cond sound x Spoiled) (top-is tree (p .tick) level so (so .became))
-          ∙ join-tests sound (not (topMustSplit tree p page)) whole)
+          ∙ join-tests sound (not (topMustSplit tree p page)) whole Spoiled)
           ∙ ap fromLevel (level-in-table (tree .table) page)

@@ -42,16 +42,6 @@ module _ {A : Type 0} (test : A → Bool) where
     count-lost e =
         omega (arith, sum-append (one-if test) (set xs i x) more, count-set xs i x d inside, one-if-is (getD xs i d) here, one-if-is x e)
 
--- What a search finds passes its test
-pub first-passes : {A : Type 0} (test : A → Bool) (xs : List A) {x : A} → first test xs ≡ one x → test x ≡ true
-unfolding first
-first-passes test [] e = let z : _≡_ {A = ℕ} 0 1 = cc in absurd (omega arith)
-first-passes {A} test (y ∷ ys) {x} e = go (test y) refl (λ r. first-passes test ys r) e
-  where
-    go : (b : Bool) → test y ≡ b → (first test ys ≡ one x → test x ≡ true) → cond b (one y) (first test ys) ≡ one x → test x ≡ true
-    go true f ih r = let s : y ≡ x = cc in rw (← s) f
-    go false f ih r = ih r
-
 -- The live rows, counted in key order, and in a page's copy
 pub live-count : (t : ℕ) (rows : List Row) → length (keyOrder t rows) ≡ count (live t) rows
 live-count t rows = sym (ones (keyOrder t rows)) ∙ order-sum t (λ (r : Row). 1) rows

@@ -21,12 +21,12 @@ use Rattle.tree.specs.Fresh.{newRow}
 use Rattle.page.specs.PageValue.{noRow}
 use Rattle.tree.proofs.Lists.{count}
 use Rattle.tree.proofs.Places.{AtPlace, order-places}
-use Rattle.tree.proofs.Searches.{first-has}
+use Rattle.tree.proofs.Searches.{first-has, first-passes}
 use Rattle.tree.specs.RowSteps.{Point, gained, cutAt, linkedTo}
 use Rattle.tree.specs.declared.types.Child.{Child}
 use Rattle.tree.specs.declared.types.Became.the-variants.{Copied, Halved}
 use Rattle.tree.specs.RowSteps.{replaceRow, rowAround, rowFrom, gainIn, gainRows, cutIn, leafRows, relinkRow}
-use Rattle.plan.proofs.RowCounts.{count-kept, count-lost, first-passes}
+use Rattle.plan.proofs.RowCounts.{count-kept, count-lost}
 
 -- "A row born at t is altered where it is": the rows that replacing a row appends, besides its further rows
 abbrev pub costOf : ℕ → Placed → ℕ

@@ -235,7 +235,7 @@ pub fn plan(table: &[u64], roots: &[u64], used: TreeUse, t: u32, k: u16) -> Plan
     if 3 < top {
         return Plan::Spoiled;
     }
-    let planned = plan_from(table, used.pages, root, top, 0, 30000, t, k);
+    let planned = plan_from(table, used.pages, root, top, 0, words::KEY_LIMIT, t, k);
     let Planned::Made { made, parts } = planned else {
         return Plan::Spoiled;
     };

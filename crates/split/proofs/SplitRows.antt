@@ -14,6 +14,7 @@ use Rattle.tree.specs.Row.{word, rowStart, rowWords, rowsOf, copyLimit, rowIn}
 use Rattle.tree.specs.KeyOrder.{Placed, keyOrder}
 use Rattle.tree.specs.Edit.{bornAt}
 use Rattle.tree.specs.Fresh.{freshPage}
+use Rattle.tree.proofs.Lists.{all-drop, map-take, map-drop}
 use Rattle.page.specs.PageValue.{encodePage, emptyPage}
 use Rattle.page.specs.Entries.{orderSize, entryOf, entryPlace, InPage}
 use Rattle.page.proofs.EntryLaws.{Seated, seated-place, order-seated}
@@ -26,22 +27,6 @@ use Rattle.tree.specs.Overflow.{lowerCount, lowestKey, gainFirst, totalOf, lowe
 use Rattle.split.specs.SplitWords.{scratchWords, Sourced, between, entryRow, copyOf, fillPage, addRows, gainPage}
 use Rattle.split.specs.SplitWords.{liveCopies, copiedTable, middleKey, halvedTable, splitWords}
 use Rattle.split.proofs.SplitLaws.{filled-fresh, filled-gained, added-from-zero}
-
-module _ {A : Type 0} where
-  map-take : {B : Type 0} (f : A → B) (n : ℕ) (xs : List A) → map f (take n xs) ≡ take n (map f xs)
-  map-take f zero xs = refl
-  map-take f (suc n) [] = refl
-  map-take f (suc n) (x ∷ xs) = ap (_∷_ (f x)) (map-take f n xs)
-
-  map-drop : {B : Type 0} (f : A → B) (n : ℕ) (xs : List A) → map f (drop n xs) ≡ drop n (map f xs)
-  map-drop f zero xs = refl
-  map-drop f (suc n) [] = refl
-  map-drop f (suc n) (x ∷ xs) = map-drop f n xs
-
-  all-drop : (P : A → Type 0) (n : ℕ) (xs : List A) → All P xs → All P (drop n xs)
-  all-drop P zero xs h = h
-  all-drop P (suc n) [] h = h
-  all-drop P (suc n) (x ∷ xs) h = all-drop P n xs (h .1)
 
 module _ (t : ℕ) (words order : List ℕ) (start : ℕ) (from : Sourced t words order start) where
   pub copies : map (copyOf words t) (drop start order) ≡ liveCopies words t

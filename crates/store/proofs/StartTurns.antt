@@ -16,7 +16,7 @@ use Rattle.tree.specs.declared.types.Plan.the-variants.{Ready}
 use Rattle.tree.specs.Tree.{Tree}
 use Rattle.tree.specs.RowSteps.{Point}
 use Rattle.tree.specs.Plan.{plan, enter}
-use Rattle.tree.proofs.Lists.{all-map}
+use Rattle.tree.proofs.Lists.{all-map, all-append}
 use Rattle.store.specs.declared.types.OpenPass.{OpenPass}
 use Rattle.store.specs.declared.types.Answer.the-variants.{Started}
 use Rattle.store.specs.Head.{Store, startsTree, endsTree, headFits, openPasses, openLimit, passLimit, weightLimit}
@@ -103,10 +103,6 @@ module _ (s : Store) (b : Book) (a : Agrees s b) (tick key weight : ℕ) (able :
       (λ p k. record { key = k .key; some = k .some; weight = k .weight; start = omega (arith, k .start, able .later); lived = k .lived })
       (b .passes) (a .kept)
 
-  all-append : (xs : List Pass) (x : Pass) → All (PassKept tick) xs → PassKept tick x → All (PassKept tick) (xs ++ (x ∷ []))
-  all-append [] x h k = (k, tt)
-  all-append (y ∷ xs) x h k = (h .0, all-append xs x (h .1) k)
-
   abbrev grown : List OpenPass
   grown = set (s .head .passes) (s .head .count) (record { number = s .head .started; key = key; weight = weight; start = tick })
 
@@ -135,8 +131,8 @@ module _ (s : Store) (b : Book) (a : Agrees s b) (tick key weight : ℕ) (able :
             );
         most = omega (arith, count-same, able .place);
         kept =
-            all-append (b .passes) pass old-kept
-            (record { key = able .key-fits; some = able .some; weight = able .weight-fits; start = omega arith; lived = tt });
+            all-append (PassKept tick) (b .passes) (pass ∷ []) old-kept
+            (record { key = able .key-fits; some = able .some; weight = able .weight-fits; start = omega arith; lived = tt }, tt);
         starts =
             took-more (startsTree s) (b .last) (startPoints (b .passes)) (a .starts) point timely made root is (room .pages) (room .place)
             (startPoints (b .passes ++ (pass ∷ [])))

@@ -1,4 +1,5 @@
-// The store: two trees and a head. What its calls take and give; the calls come with the store's landing.
+// The store, two trees and a head, as definitions and theorems: this crate has the types that they speak of and no function. The crates `head`
+// and `calls` have the code.
 mod types;
 
 pub use types::Answer;

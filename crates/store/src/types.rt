@@ -9,6 +9,14 @@ pub struct OpenPass {
     pub start: u32,
 }
 
+impl OpenPass {
+    // Keys are below this.
+    pub const KEY_LIMIT: u32 = words::KEY_LIMIT as u32;
+
+    // The highest weight.
+    pub const HEAVIEST: u32 = 10000;
+}
+
 // Where a search among the open passes ends: at the pass in a place of the head's list, or nowhere.
 pub enum FoundPass {
     Missing,
@@ -23,6 +31,14 @@ pub struct Head {
     pub passes: [OpenPass; 64],
     pub starts: TreeUse,
     pub ends: TreeUse,
+}
+
+impl Head {
+    // So many passes may be open at a time.
+    pub const OPEN_LIMIT: u32 = 64;
+
+    // So many may start.
+    pub const PASS_LIMIT: u32 = 1000000;
 }
 
 // What a call answers.

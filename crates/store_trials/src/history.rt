@@ -4,7 +4,7 @@ use crate::call::Call;
 use crate::counts::Counts;
 use crate::counts::refusal_of;
 use crate::counts::same;
-use crate::kept::head_agrees;
+use crate::left_behind::head_agrees;
 use crate::listing::after;
 use crate::listing::wanted;
 use crate::next::next_call;

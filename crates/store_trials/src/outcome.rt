@@ -2,7 +2,7 @@
 use crate::call::Call;
 use crate::call::make;
 use crate::counts::refusal_of;
-use crate::kept::memory_sum;
+use crate::left_behind::memory_sum;
 use crate::listing::Hints;
 use crate::paths::height;
 use crate::paths::pages_opened;

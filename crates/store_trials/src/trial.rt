@@ -3,7 +3,7 @@ use crate::by_hand::write;
 use crate::counts::Counts;
 use crate::edited::edited;
 use crate::full_lookups::try_full_lookups;
-use crate::look::look;
+use crate::inspection::look;
 use crate::paths::height;
 use crate::progress::Progress;
 use crate::progress::try_call;

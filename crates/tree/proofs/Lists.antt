@@ -4,7 +4,7 @@ use native.Mathlib.Omega.{arith}
 use mathlib.Core.Path.{_≡_, refl, ap, ap₂, sym, _∙_}
 use mathlib.Core.Bool.{Bool, true, cond}
 use mathlib.Core.List.{List, [], _∷_, _++_, map, foldr}
-use lib.ListN.{length, getD, length-map}
+use lib.ListN.{length, getD, set, take, drop, length-map}
 pub use Rattle.words.specs.Lists.{All}
 
 module _ {A : Type 0} where
@@ -17,6 +17,26 @@ module _ {A : Type 0} where
   all-at P [] i d h p = absurd (omega arith)
   all-at P (x ∷ xs) zero d h p = h .0
   all-at P (x ∷ xs) (suc i) d h p = all-at P xs i d (h .1) (omega arith)
+
+  -- What all items have, with one written over, with more of them, and with some left out
+  pub all-set : (P : A → Type 0) (xs : List A) (i : ℕ) (a : A) → P a → All P xs → All P (set xs i a)
+  all-set P [] i a p h = tt
+  all-set P (x ∷ xs) zero a p h = (p, h .1)
+  all-set P (x ∷ xs) (suc i) a p h = (h .0, all-set P xs i a p (h .1))
+
+  pub all-append : (P : A → Type 0) (xs ys : List A) → All P xs → All P ys → All P (xs ++ ys)
+  all-append P [] ys h k = k
+  all-append P (x ∷ xs) ys h k = (h .0, all-append P xs ys (h .1) k)
+
+  pub all-take : (P : A → Type 0) (i : ℕ) (xs : List A) → All P xs → All P (take i xs)
+  all-take P zero xs h = tt
+  all-take P (suc i) [] h = tt
+  all-take P (suc i) (x ∷ xs) h = (h .0, all-take P i xs (h .1))
+
+  pub all-drop : (P : A → Type 0) (i : ℕ) (xs : List A) → All P xs → All P (drop i xs)
+  all-drop P zero xs h = h
+  all-drop P (suc i) [] h = tt
+  all-drop P (suc i) (x ∷ xs) h = all-drop P i xs (h .1)
 
   -- The sum of a number over the items
   abbrev pub sumBy : (A → ℕ) → List A → ℕ
@@ -76,3 +96,32 @@ module _ {A : Type 0} where
 -- What is known of a field that is an array of structs is the length of a list that its elements are mapped to
 pub length-mapped : (X Y : Type 0) (f : X → Y) (l : List X) (n : ℕ) → length (map f l) ≡ n → length l ≡ n
 length-mapped X Y f l n e = sym (length-map l f) ∙ e
+
+-- A list with a function at each item
+pub map-append : {A B : Type 0} (f : A → B) (xs ys : List A) → map f (xs ++ ys) ≡ map f xs ++ map f ys
+map-append f [] ys = refl
+map-append f (x ∷ xs) ys = ap (_∷_ (f x)) (map-append f xs ys)
+
+pub map-set : {A B : Type 0} (f : A → B) (xs : List A) (i : ℕ) (a : A) → map f (set xs i a) ≡ set (map f xs) i (f a)
+map-set f [] i a = refl
+map-set f (x ∷ xs) zero a = refl
+map-set f (x ∷ xs) (suc i) a = ap (_∷_ (f x)) (map-set f xs i a)
+
+pub map-take : {A B : Type 0} (f : A → B) (i : ℕ) (xs : List A) → map f (take i xs) ≡ take i (map f xs)
+map-take f zero xs = refl
+map-take f (suc i) [] = refl
+map-take f (suc i) (x ∷ xs) = ap (_∷_ (f x)) (map-take f i xs)
+
+pub map-drop : {A B : Type 0} (f : A → B) (i : ℕ) (xs : List A) → map f (drop i xs) ≡ drop i (map f xs)
+map-drop f zero xs = refl
+map-drop f (suc i) [] = refl
+map-drop f (suc i) (x ∷ xs) = map-drop f i xs
+
+pub map-getD : {A B : Type 0} (f : A → B) (xs : List A) (i : ℕ) (d : A) → getD (map f xs) i (f d) ≡ f (getD xs i d)
+map-getD f [] i d = refl
+map-getD f (x ∷ xs) zero d = refl
+map-getD f (x ∷ xs) (suc i) d = map-getD f xs i d
+
+pub all-of-map : {A B : Type 0} (P : B → Type 0) (f : A → B) (xs : List A) → All (λ (x : A). P (f x)) xs → All P (map f xs)
+all-of-map P f [] h = tt
+all-of-map P f (x ∷ xs) h = (h .0, all-of-map P f xs (h .1))

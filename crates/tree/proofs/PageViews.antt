@@ -31,10 +31,11 @@ use Rattle.tree.proofs.ModelSteps.{Outcome, stay, copy, two, putAt, tot
 use Rattle.tree.proofs.ReplacedRows.{tests, split, length-born}
 use Rattle.tree.proofs.TableLaws.{page-length, put-length}
 use Rattle.tree.proofs.PageCodec.{Fits, with-length, fresh-length}
-use Rattle.tree.proofs.View.{entryOf, viewRow, viewRows, viewPage, viewTable, map-take, map-drop, order-view, view-with}
+use Rattle.tree.proofs.Lists.{all-take, all-drop, map-take, map-drop}
+use Rattle.tree.proofs.View.{entryOf, viewRow, viewRows, viewPage, viewTable, order-view, view-with}
 use Rattle.tree.proofs.View.{view-fresh, view-put, lowest-view, total-view}
 use Rattle.tree.proofs.RowViews.{partsOf, Covers}
-use Rattle.tree.proofs.RowBounds.{all-take, all-drop, copied-length, copied-fits, first-fits, first-length, lowest-fits}
+use Rattle.tree.proofs.RowBounds.{copied-length, copied-fits, first-fits, first-length, lowest-fits}
 
 -- A page that was split made at least one
 abbrev pub MadeSome : Became → ℕ → Type 0

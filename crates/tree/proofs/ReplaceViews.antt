@@ -12,12 +12,12 @@ use Rattle.words.specs.declared.value.Value.{Value}
 use Rattle.tree.specs.declared.types.Row.{Row}
 use Rattle.tree.specs.KeyOrder.{Placed}
 use Rattle.tree.specs.Edit.{ended, bornAt}
-use Rattle.tree.proofs.Lists.{count}
+use Rattle.tree.proofs.Lists.{count, map-append, map-set, map-getD}
 use Rattle.tree.proofs.Places.{AtPlace}
 use Rattle.tree.specs.RowSteps.{replaceRow}
 use Rattle.tree.proofs.ModelPages as model
 use Rattle.tree.proofs.ModelPages.{Entry, onlyIf, sumLive, replaced, kept, keep, made, makes, isReplaced, bornAll, born}
-use Rattle.tree.proofs.View.{viewRow, viewRows, entryOf, map-append, map-set, map-getD}
+use Rattle.tree.proofs.View.{viewRow, viewRows, entryOf}
 
 module _ (t m : ℕ) where
   -- How many live rows have the low key

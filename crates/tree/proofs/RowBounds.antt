@@ -15,7 +15,7 @@ use Rattle.tree.specs.KeyOrder.{Placed, keyOrder}
 use Rattle.tree.specs.TrueValue.{Search, none, one, first}
 use Rattle.tree.specs.Edit.{ended, bornAt}
 use Rattle.tree.specs.Fresh.{newRow}
-use Rattle.tree.proofs.Lists.{all-map, sumBy}
+use Rattle.tree.proofs.Lists.{all-map, all-set, all-append, all-of-map, sumBy}
 use Rattle.tree.proofs.Places.{live-order, order-sum, liveOnly}
 use Rattle.tree.specs.RowSteps.{Point, gained, cutAt, linkedTo, rowAround, rowFrom, gainIn, gainRows}
 use Rattle.tree.specs.declared.types.Became.{Became}
@@ -25,30 +25,6 @@ use Rattle.tree.specs.Overflow.{copiedRows, gainFirst, lowestKey}
 use Rattle.tree.proofs.PageCodec.{Fits}
 use Rattle.tree.proofs.Searches.{first-has}
 use Rattle.tree.proofs.RowViews.{Covers}
-
-module _ {A : Type 0} (P : A → Type 0) where
-  pub all-set : (xs : List A) (i : ℕ) (a : A) → P a → All P xs → All P (set xs i a)
-  all-set [] i a p h = tt
-  all-set (x ∷ xs) zero a p h = (p, h .1)
-  all-set (x ∷ xs) (suc i) a p h = (h .0, all-set xs i a p (h .1))
-
-  pub all-append : (xs ys : List A) → All P xs → All P ys → All P (xs ++ ys)
-  all-append [] ys h k = k
-  all-append (x ∷ xs) ys h k = (h .0, all-append xs ys (h .1) k)
-
-  pub all-take : (i : ℕ) (xs : List A) → All P xs → All P (take i xs)
-  all-take zero xs h = tt
-  all-take (suc i) [] h = tt
-  all-take (suc i) (x ∷ xs) h = (h .0, all-take i xs (h .1))
-
-  pub all-drop : (i : ℕ) (xs : List A) → All P xs → All P (drop i xs)
-  all-drop zero xs h = h
-  all-drop (suc i) [] h = tt
-  all-drop (suc i) (x ∷ xs) h = all-drop i xs (h .1)
-
-pub all-of-map : {A B : Type 0} (P : B → Type 0) (f : A → B) (xs : List A) → All (λ (x : A). P (f x)) xs → All P (map f xs)
-all-of-map P f [] h = tt
-all-of-map P f (x ∷ xs) h = (h .0, all-of-map P f xs (h .1))
 
 -- One row replaced
 pub replace-length : (t : ℕ) (x : Placed) (new : Row) (further rows : List Row)

@@ -37,7 +37,7 @@ use Rattle.tree.proofs.RowCounts.{one-start}
 use Rattle.tree.proofs.OrderedSlots.{entriesOf, ordered-is}
 use Rattle.tree.proofs.View.{viewRows, placedEntry, order-view}
 use Rattle.tree.proofs.ReplaceViews.{replace-view, none-replaced}
-use Rattle.tree.proofs.Searches.{first-has, mapSearch, first-map, inside, from, holding, holding-some, inside-some}
+use Rattle.tree.proofs.Searches.{first-has, first-passes, mapSearch, first-map, inside, from, holding, holding-some, inside-some}
 use Rattle.tree.proofs.Searches.{inside-none, from-here, from-last, from-next}
 
 -- What a page became, in the model's words
@@ -75,16 +75,6 @@ some-found f (one x) e h = (x, refl, cc)
 none-found : {A B : Type 0} (f : A → B) (s : Search A) → mapSearch f s ≡ none → s ≡ none
 none-found f none h = refl
 none-found f (one x) h = let z : _≡_ {A = ℕ} 0 1 = cc in absurd (omega arith)
-
--- What a search found passes its test
-pub first-passes : {A : Type 0} (test : A → Bool) (xs : List A) {x : A} → first test xs ≡ one x → test x ≡ true
-unfolding first
-first-passes test [] {x} e = let z : _≡_ {A = ℕ} 0 1 = cc in absurd (omega arith)
-first-passes {A} test (y ∷ ys) {x} e = go (test y) refl (λ f. first-passes test ys f) e
-  where
-    go : (b : Bool) → test y ≡ b → (first test ys ≡ one x → test x ≡ true) → cond b (one y) (first test ys) ≡ one x → test x ≡ true
-    go true h ih f = let g : y ≡ x = cc in rw (← g) h
-    go false h ih f = ih f
 
 -- Step 3 leaves a row with a low key below the point's where it is
 module _ (p : Point) (rows : List Row) (x : Placed) (at : AtPlace (p .tick) (x .row) rows x) (below : x .row .low < p .key) where

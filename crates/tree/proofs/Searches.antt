@@ -24,6 +24,16 @@ first-has {A} P test (y ∷ ys) h {x} e = go (test y) (λ f. first-has P test ys
     go true ih f = let g : y ≡ x = cc in rw (← g) (h .0)
     go false ih f = ih f
 
+-- and passes its test
+pub first-passes : {A : Type 0} (test : A → Bool) (xs : List A) {x : A} → first test xs ≡ one x → test x ≡ true
+unfolding first
+first-passes test [] {x} e = let z : _≡_ {A = ℕ} 0 1 = cc in absurd (omega arith)
+first-passes {A} test (y ∷ ys) {x} e = go (test y) refl (λ f. first-passes test ys f) e
+  where
+    go : (b : Bool) → test y ≡ b → (first test ys ≡ one x → test x ≡ true) → cond b (one y) (first test ys) ≡ one x → test x ≡ true
+    go true h ih f = let g : y ≡ x = cc in rw (← g) h
+    go false h ih f = ih f
+
 -- A search that looks at items through a function
 abbrev pub mapSearch : {A B : Type 0} → (A → B) → Search A → Search B
 mapSearch f none = none

@@ -22,8 +22,8 @@ use Rattle.tree.specs.declared.types.Became.the-variants.{Stays, Copied,
 use Rattle.tree.specs.RowSteps.{cutIn, leafRows, relinkRow, replaceRow}
 use Rattle.tree.specs.Alike.{SeenRow, seenRow}
 use Rattle.tree.proofs.View.{map-sort}
-use Rattle.tree.proofs.Searches.{first-has}
-use Rattle.tree.proofs.RowViews.{first-passes, gain-keeps}
+use Rattle.tree.proofs.Searches.{first-has, first-passes}
+use Rattle.tree.proofs.RowViews.{gain-keeps}
 
 -- The rows live at w, by place, as a reader at w sees them
 abbrev pub seenFrom : ℕ → ℕ → List Row → List SeenRow

@@ -27,31 +27,6 @@ use Rattle.tree.proofs.ModelSteps.{putAt, totalAmount, lowestOf}
 use Rattle.tree.proofs.TableLaws.{put-same, put-other}
 use Rattle.tree.proofs.PageCodec.{Fits, with-level, with-range, with-rows, fresh-level, fresh-range, fresh-rows}
 
--- A list of rows, with a function of rows at each
-pub map-append : {A B : Type 0} (f : A → B) (xs ys : List A) → map f (xs ++ ys) ≡ map f xs ++ map f ys
-map-append f [] ys = refl
-map-append f (x ∷ xs) ys = ap (_∷_ (f x)) (map-append f xs ys)
-
-pub map-set : {A B : Type 0} (f : A → B) (xs : List A) (i : ℕ) (a : A) → map f (set xs i a) ≡ set (map f xs) i (f a)
-map-set f [] i a = refl
-map-set f (x ∷ xs) zero a = refl
-map-set f (x ∷ xs) (suc i) a = ap (_∷_ (f x)) (map-set f xs i a)
-
-pub map-take : {A B : Type 0} (f : A → B) (i : ℕ) (xs : List A) → map f (take i xs) ≡ take i (map f xs)
-map-take f zero xs = refl
-map-take f (suc i) [] = refl
-map-take f (suc i) (x ∷ xs) = ap (_∷_ (f x)) (map-take f i xs)
-
-pub map-drop : {A B : Type 0} (f : A → B) (i : ℕ) (xs : List A) → map f (drop i xs) ≡ drop i (map f xs)
-map-drop f zero xs = refl
-map-drop f (suc i) [] = refl
-map-drop f (suc i) (x ∷ xs) = map-drop f i xs
-
-pub map-getD : {A B : Type 0} (f : A → B) (xs : List A) (i : ℕ) (d : A) → getD (map f xs) i (f d) ≡ f (getD xs i d)
-map-getD f [] i d = refl
-map-getD f (x ∷ xs) zero d = refl
-map-getD f (x ∷ xs) (suc i) d = map-getD f xs i d
-
 map-insert : {A B : Type 0} (lowOf : B → ℕ) (f : A → B) (x : A) (ys : List A)
     → map f (insertBy (λ (a : A). lowOf (f a)) x ys) ≡ insertBy lowOf (f x) (map f ys)
 unfolding insertBy

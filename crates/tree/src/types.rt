@@ -23,6 +23,11 @@ pub struct TreeUse {
     pub roots: u32,
 }
 
+impl TreeUse {
+    // A tree may use so many pages.
+    pub const PAGE_LIMIT: u32 = 1000000;
+}
+
 // The page of the root for a tick.
 pub enum Root {
     At(u32),

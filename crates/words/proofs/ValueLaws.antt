@@ -7,7 +7,7 @@ use Rattle.words.specs.declared.value.Value.{Value}
 use Rattle.words.specs.Value.{zero, plus}
 
 -- Values with the same count and the same sum are the same
-value-path : {a b : Value} → a .count ≡ b .count → a .sum ≡ b .sum → a ≡ b
+pub value-path : {a b : Value} → a .count ≡ b .count → a .sum ≡ b .sum → a ≡ b
 value-path p q = λ i. record { count = p i; sum = q i }
 
 pub plus-comm : (a b : Value) → plus a b ≡ plus b a

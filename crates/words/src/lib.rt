@@ -1,7 +1,10 @@
 // Words that hold several numbers, and the value that rows carry: the bottom layer of the index.
+mod limits;
 mod pack;
 mod value;
 
+pub use limits::KEY_LIMIT;
+pub use limits::OPEN;
 pub use pack::birth_of;
 pub use pack::child_page;
 pub use pack::end_of;

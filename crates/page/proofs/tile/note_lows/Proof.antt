@@ -3,7 +3,7 @@ use native.Mathlib.Omega.{arith}
 use mathlib.Core.Path.{_≡_}
 use mathlib.Core.Bool.{true}
 use lib.ListN.{length}
-use Rattle.tree.proofs.RowBounds.{all-set}
+use Rattle.tree.proofs.Lists.{all-set}
 use Rattle.page.specs.TileTest.{slots, mayStop, Noted}
 use Rattle.page.proofs.NoteLaws.{all-same, low-may-stop, high-may-stop}
 use borrow.Author.Needs.{needs}

@@ -3,8 +3,8 @@ use Prim.Native.Nat.{_-_, _≤_}
 use mathlib.Core.Path.{_≡_}
 use lib.ListN.{length}
 use borrow.Author.Needs.{needs}
-use Rattle.store_trials.proofs.kept.places_agree.Statement.{statement}
-use Rattle.store_trials.proofs.kept.places_agree.Tie as tie
+use Rattle.store_trials.proofs.left_behind.places_agree.Statement.{statement}
+use Rattle.store_trials.proofs.left_behind.places_agree.Tie as tie
 
 abbrev Inv-loop : tie.InvT-loop
 Inv-loop passes book head place₀ least₀ place least =
