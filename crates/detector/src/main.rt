@@ -1,5 +1,6 @@
 // The command program: commands from standard input, what they say to standard output, over a store of its own. Reading and writing is all that
 // happens here; what a command does is run_command's part.
+use interpret::LONGEST_ANSWER;
 use interpret::Ran;
 use interpret::operand_count;
 use interpret::run_command;
@@ -8,6 +9,7 @@ use libc::STDOUT_FILENO;
 use store::Head;
 ghost use Prim.Native.Nat.{_≤_};
 ghost use lib.ListN.{length};
+ghost use Rattle.interpret.specs.Runs.{longestAnswer};
 
 // Reads so many bytes to the front of a buffer. Fewer come where the input ends.
 fn read_front(buffer: &mut [u8], count: usize) -> usize
@@ -37,8 +39,8 @@ fn run_front(
     out: &mut [u8],
 ) -> Ran
     requires { ⌜ came ≤ length (now operands) ⌝ }
-    requires { ⌜ 18 ≤ length (now out) ⌝ }
-    ensures { λ r. ⌜ r .length ≤ 18 ⌝ }
+    requires { ⌜ longestAnswer ≤ length (now out) ⌝ }
+    ensures { λ r. ⌜ r .length ≤ longestAnswer ⌝ }
 {
     run_command(
         head,
@@ -64,7 +66,7 @@ fn obey(
     let mut operands = [0u8; 12];
     let asked = operand_count(code);
     let came = read_front(&mut operands, asked);
-    let mut out = [0u8; 18];
+    let mut out = [0u8; LONGEST_ANSWER];
     let ran = run_front(
         head,
         start_table,

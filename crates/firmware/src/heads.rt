@@ -23,7 +23,7 @@ fn read_pass(numbers: &[u32], at: usize) -> OpenPass
 }
 
 // The passes that the numbers stand for.
-pub fn read_passes(numbers: &[u32]) -> [OpenPass; 64]
+pub fn read_passes(numbers: &[u32]) -> [OpenPass; Head::PLACES]
     requires { ⌜ length (now numbers) ≡ passNumbers ⌝ }
     ensures { λ r. ⌜ r ≡ passesFrom (now (numbers .entry)) 0 openLimit ⌝ }
 {
@@ -33,9 +33,9 @@ pub fn read_passes(numbers: &[u32]) -> [OpenPass; 64]
         weight: 0,
         start: 0,
     };
-    let mut passes = [none; 64];
+    let mut passes = [none; Head::PLACES];
     let mut place: usize = 0;
-    while place < 64 {
+    while place < Head::PLACES {
         passes[place] = read_pass(numbers, 4 * place);
         place += 1;
     }
@@ -54,12 +54,12 @@ fn write_pass(numbers: &mut [u32], at: usize, pass: OpenPass)
 }
 
 // Writes passes over the numbers.
-pub fn write_passes(numbers: &mut [u32], passes: [OpenPass; 64])
+pub fn write_passes(numbers: &mut [u32], passes: [OpenPass; Head::PLACES])
     requires { ⌜ length (now numbers) ≡ passNumbers ⌝ }
     ensures { λ _. ⌜ now (numbers .exit) ≡ numbersOf passes ⌝ }
 {
     let mut place: usize = 0;
-    while place < 64 {
+    while place < Head::PLACES {
         let pass = passes[place];
         write_pass(numbers, 4 * place, pass);
         place += 1;

@@ -92,7 +92,7 @@ pub fn opened_head() -> Head
         last: 0,
         started: 0,
         count: 0,
-        passes: [none; 64],
+        passes: [none; Head::PLACES],
         starts: one,
         ends: one,
     }

@@ -9,13 +9,14 @@ use Rattle.words.proofs.OverwriteLaws.{overwrite-more}
 use Rattle.store.specs.declared.types.Answer.the-variants.{Started, Totals}
 use Rattle.command.specs.Bytes.{bytesOf}
 use Rattle.command.specs.Stream.{written}
+use Rattle.interpret.specs.Runs.{longestAnswer}
 use Rattle.interpret.proofs.ByteLaws.{bytes-length}
 
 pub one-zero : bytesOf 1 0 ≡ 0 ∷ []
 unfolding bytesOf
 one-zero = refl
 
-module _ (out : List ℕ) (room : 18 ≤ length out) where
+module _ (out : List ℕ) (room : longestAnswer ≤ length out) where
   pub started-bytes : (n : ℕ) → overwrite (overwrite out 0 (bytesOf 1 0)) 1 (bytesOf 4 n) ≡ overwrite out 0 (written (Started n))
   unfolding bytesOf
   started-bytes n = overwrite-more out 0 (bytesOf 1 0) (omega arith) 1 (bytesOf 4 n) (omega arith)
@@ -43,7 +44,7 @@ module _ (out : List ℕ) (room : 18 ≤ length out) where
 pub started-length : (n : ℕ) → length (written (Started n)) ≡ 5
 started-length n = omega (arith, bytes-length 4 n)
 
-pub totals-length : (count sum pages : ℕ) → length (written (Totals count sum pages)) ≡ 18
+pub totals-length : (count sum pages : ℕ) → length (written (Totals count sum pages)) ≡ longestAnswer
 totals-length count sum pages =
     omega (
       arith,

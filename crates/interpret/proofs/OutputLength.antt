@@ -1,4 +1,4 @@
--- No command writes more than 18 bytes: the buffer that a program lends is large enough.
+-- No command writes more bytes than the longest answer: the buffer that a program lends is large enough.
 use Prim.Native.Nat.{ℕ, _≤_}
 use native.Mathlib.Omega.{arith}
 use mathlib.Core.Bool.{Bool, true, false, cond}
@@ -11,28 +11,28 @@ use Rattle.store.specs.Head.{Store}
 use Rattle.store.specs.Calls.{perform}
 use Rattle.command.specs.Stream.{Kind, unknown, command, kindOf, written, cutShort, stops, answers, runKind, runOne}
 use Rattle.interpret.specs.declared.run.Ran.{Ran}
-use Rattle.interpret.specs.Runs.{RanAs}
+use Rattle.interpret.specs.Runs.{longestAnswer, RanAs}
 use Rattle.interpret.proofs.ByteLaws.{bytes-length}
 use Rattle.interpret.proofs.AnswerLaws.{started-length, totals-length}
 
-written-fits : (a : Answer) → length (written a) ≤ 18
+written-fits : (a : Answer) → length (written a) ≤ longestAnswer
 written-fits (Refused n) = omega (arith, bytes-length 1 n)
 written-fits Opened = omega arith
 written-fits (Started n) = omega (arith, started-length n)
 written-fits Ended = omega arith
 written-fits (Totals count sum pages) = omega (arith, totals-length count sum pages)
 
-kind-fits : (s : Store) (bytes : List ℕ) (kind : Kind) → length (runKind s bytes kind .output) ≤ 18
+kind-fits : (s : Store) (bytes : List ℕ) (kind : Kind) → length (runKind s bytes kind .output) ≤ longestAnswer
 kind-fits s bytes unknown = omega arith
 kind-fits s bytes (command n call) = go (ltb (length bytes) n)
   where
-    go : (b : Bool) → length (cond b (stops s cutShort) (answers (perform s (call bytes))) .output) ≤ 18
+    go : (b : Bool) → length (cond b (stops s cutShort) (answers (perform s (call bytes))) .output) ≤ longestAnswer
     go true = omega arith
     go false = written-fits (perform s (call bytes) .answer)
 
-output-fits : (s : Store) (code : ℕ) (bytes : List ℕ) → length (runOne s code bytes .output) ≤ 18
+output-fits : (s : Store) (code : ℕ) (bytes : List ℕ) → length (runOne s code bytes .output) ≤ longestAnswer
 output-fits s code bytes = kind-fits s bytes (kindOf code)
 
 pub ran-fits : (s : Store) (code : ℕ) (bytes : List ℕ) (r : Ran) (before out startTable startRoots endTable endRoots : List ℕ)
-    → RanAs (runOne s code bytes) r before out startTable startRoots endTable endRoots → r .length ≤ 18
+    → RanAs (runOne s code bytes) r before out startTable startRoots endTable endRoots → r .length ≤ longestAnswer
 ran-fits s code bytes r before out startTable startRoots endTable endRoots x = omega (arith, x .size, output-fits s code bytes)

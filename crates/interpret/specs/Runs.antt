@@ -7,6 +7,10 @@ use Rattle.words.specs.Overwrite.{overwrite}
 use Rattle.command.specs.Stream as stream
 use Rattle.interpret.specs.declared.run.Ran.{Ran}
 
+-- No command writes more bytes than a question: "00h, count 8, sum 8, pages opened 1"
+abbrev pub longestAnswer : ℕ
+longestAnswer = 18
+
 -- The bytes written, whether the run goes on, the head and every lent word afterwards are those that a definition says
 pub record RanAs (a : stream.Ran) (r : Ran) (before out startTable startRoots endTable endRoots : List ℕ) : Type 0 where
   pub output : out ≡ overwrite before 0 (a .output)

@@ -7,10 +7,14 @@ ghost use lib.ListN.{length};
 ghost use Rattle.words.specs.Overwrite.{overwrite};
 ghost use Rattle.store.specs.declared.types.Answer.the-variants as said;
 ghost use Rattle.command.specs.Stream.{written};
+ghost use Rattle.interpret.specs.Runs.{longestAnswer};
+
+// No command writes more bytes than a question.
+pub const LONGEST_ANSWER: usize = 18;
 
 // "00h, pass number 4".
 fn put_started(out: &mut [u8], number: u32)
-    requires { ⌜ 18 ≤ length (now out) ⌝ }
+    requires { ⌜ longestAnswer ≤ length (now out) ⌝ }
     ensures { λ _. ⌜ now (out .exit) ≡ overwrite (now (out .entry)) 0 (written (said.Started number)) ⌝ }
 {
     put_number(out, 0, 1, 0);
@@ -19,7 +23,7 @@ fn put_started(out: &mut [u8], number: u32)
 
 // "00h, count 8, sum 8, pages opened 1".
 fn put_totals(out: &mut [u8], count: u64, sum: u64, pages: u32)
-    requires { ⌜ 18 ≤ length (now out) ⌝ }
+    requires { ⌜ longestAnswer ≤ length (now out) ⌝ }
     ensures { λ _. ⌜ now (out .exit) ≡ overwrite (now (out .entry)) 0 (written (said.Totals count sum pages)) ⌝ }
 {
     put_number(out, 0, 1, 0);
@@ -30,7 +34,7 @@ fn put_totals(out: &mut [u8], count: u64, sum: u64, pages: u32)
 
 // Writes an answer to the front of `out` and returns how many bytes it takes. "A refusal writes its number as one byte."
 pub fn put_answer(out: &mut [u8], answer: Answer) -> usize
-    requires { ⌜ 18 ≤ length (now out) ⌝ }
+    requires { ⌜ longestAnswer ≤ length (now out) ⌝ }
     ensures { λ _. ⌜ now (out .exit) ≡ overwrite (now (out .entry)) 0 (written answer) ⌝ }
     ensures { λ r. ⌜ r ≡ length (written answer) ⌝ }
 {
@@ -53,7 +57,7 @@ pub fn put_answer(out: &mut [u8], answer: Answer) -> usize
         }
         Answer::Totals { count, sum, pages } => {
             put_totals(out, count, sum, pages);
-            18
+            LONGEST_ANSWER
         }
     }
 }

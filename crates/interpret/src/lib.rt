@@ -3,6 +3,7 @@ mod answers;
 mod bytes;
 mod run;
 
+pub use answers::LONGEST_ANSWER;
 pub use answers::put_answer;
 pub use bytes::number2;
 pub use bytes::number4;

@@ -12,7 +12,7 @@ ghost use lib.ListN.{length};
 ghost use Rattle.words.specs.Overwrite.{overwrite};
 ghost use Rattle.calls.specs.Replies.{storeOf};
 ghost use Rattle.command.specs.Stream.{command, kindOf, operandBytes, startCommand, endCommand, questionCommand, runKind, runOne};
-ghost use Rattle.interpret.specs.Runs.{RanAs};
+ghost use Rattle.interpret.specs.Runs.{longestAnswer, RanAs};
 
 // What a command leaves: the head for the next one, how many bytes it wrote, and whether the run goes on.
 pub struct Ran {
@@ -39,7 +39,7 @@ pub fn operand_count(code: u8) -> usize
 
 // Ends the run with a number of its own, as one byte: 6 for an unknown command, 7 for one cut short.
 fn stop(head: Head, out: &mut [u8], number: u8) -> Ran
-    requires { ⌜ 18 ≤ length (now out) ⌝ }
+    requires { ⌜ longestAnswer ≤ length (now out) ⌝ }
     ensures { λ _. ⌜ now (out .exit) ≡ overwrite (now (out .entry)) 0 (number ∷ []) ⌝ }
     ensures { λ r. ⌜ r ≡ record { head = head; length = 1; on = false } ⌝ }
 {
@@ -61,7 +61,7 @@ fn run_start(
     operands: &[u8],
     out: &mut [u8],
 ) -> Ran
-    requires { ⌜ 18 ≤ length (now out) ⌝ }
+    requires { ⌜ longestAnswer ≤ length (now out) ⌝ }
     ensures { λ r. ⌜ RanAs (runKind (storeOf head (now («start_table» .entry)) (now («start_roots» .entry)) (now («end_table» .entry)) (now («end_roots» .entry))) (now (operands .entry)) (command 8 startCommand)) r (now (out .entry)) (now (out .exit)) (now («start_table» .exit)) (now («start_roots» .exit)) (now («end_table» .entry)) (now («end_roots» .entry)) ⌝ }
 {
     if operands.len() < 8 {
@@ -100,7 +100,7 @@ fn run_end(
     operands: &[u8],
     out: &mut [u8],
 ) -> Ran
-    requires { ⌜ 18 ≤ length (now out) ⌝ }
+    requires { ⌜ longestAnswer ≤ length (now out) ⌝ }
     ensures { λ r. ⌜ RanAs (runKind (storeOf head (now («start_table» .entry)) (now («start_roots» .entry)) (now («end_table» .entry)) (now («end_roots» .entry))) (now (operands .entry)) (command 8 endCommand)) r (now (out .entry)) (now (out .exit)) (now («start_table» .entry)) (now («start_roots» .entry)) (now («end_table» .exit)) (now («end_roots» .exit)) ⌝ }
 {
     if operands.len() < 8 {
@@ -137,7 +137,7 @@ fn run_question(
     operands: &[u8],
     out: &mut [u8],
 ) -> Ran
-    requires { ⌜ 18 ≤ length (now out) ⌝ }
+    requires { ⌜ longestAnswer ≤ length (now out) ⌝ }
     ensures { λ r. ⌜ RanAs (runKind (storeOf head (now («start_table» .entry)) (now («start_roots» .entry)) (now («end_table» .entry)) (now («end_roots» .entry))) (now (operands .entry)) (command 12 questionCommand)) r (now (out .entry)) (now (out .exit)) (now («start_table» .entry)) (now («start_roots» .entry)) (now («end_table» .entry)) (now («end_roots» .entry)) ⌝ }
 {
     if operands.len() < 12 {
@@ -177,7 +177,7 @@ pub fn run_command(
     operands: &[u8],
     out: &mut [u8],
 ) -> Ran
-    requires { ⌜ 18 ≤ length (now out) ⌝ }
+    requires { ⌜ longestAnswer ≤ length (now out) ⌝ }
     ensures { λ r. ⌜ RanAs (runOne (storeOf head (now («start_table» .entry)) (now («start_roots» .entry)) (now («end_table» .entry)) (now («end_roots» .entry))) code (now (operands .entry))) r (now (out .entry)) (now (out .exit)) (now («start_table» .exit)) (now («start_roots» .exit)) (now («end_table» .exit)) (now («end_roots» .exit)) ⌝ }
 {
     if code == 1 {

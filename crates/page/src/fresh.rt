@@ -18,7 +18,7 @@ pub struct Page {
     pub high: u16,
     pub birth: u32,
     pub count: usize,
-    pub rows: [Row; 64],
+    pub rows: [Row; Page::ROWS],
 }
 
 impl Page {
@@ -52,7 +52,7 @@ impl Page {
             high,
             birth,
             count: 0,
-            rows: [none; 64],
+            rows: [none; Page::ROWS],
         }
     }
 

@@ -1,4 +1,5 @@
 // One page of a lookup: the row that holds (t, k), and its true value.
+use crate::fresh::Page;
 use crate::live::range_low;
 use crate::row::row_at;
 use crate::search::Place;
@@ -99,8 +100,8 @@ pub fn read_page(page: &[u64], level: u64, low: u16, high: u16, t: u32, k: u16) 
     requires { ⌜ low < high ⌝ }
     ensures { λ r. ⌜ r ≡ heldIn t k level low high (now (page .entry)) ⌝ }
 {
-    let mut ranges = [0u32; 64];
-    let mut places = [0u8; 64];
+    let mut ranges = [0u32; Page::ROWS];
+    let mut places = [0u8; Page::ROWS];
     let tested = list_tested(page, level, low, high, t, &mut ranges, &mut places);
     held_tested(page, tested, &ranges, &places, k)
 }
@@ -120,8 +121,8 @@ pub fn read_page_for_two(
     ensures { λ r. ⌜ r .lower ≡ heldIn t «lower_key» level low high (now (page .entry)) ⌝ }
     ensures { λ r. ⌜ r .upper ≡ heldIn t «upper_key» level low high (now (page .entry)) ⌝ }
 {
-    let mut ranges = [0u32; 64];
-    let mut places = [0u8; 64];
+    let mut ranges = [0u32; Page::ROWS];
+    let mut places = [0u8; Page::ROWS];
     let tested = list_tested(page, level, low, high, t, &mut ranges, &mut places);
     let lower = held_tested(page, tested, &ranges, &places, lower_key);
     let upper = held_tested(page, tested, &ranges, &places, upper_key);

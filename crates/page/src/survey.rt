@@ -1,4 +1,5 @@
 // What entering a point has to know of a page's rows before any row is changed.
+use crate::fresh::Page;
 use crate::live::list_live;
 use crate::search::Place;
 use crate::search::find_place;
@@ -52,8 +53,8 @@ pub fn survey_page(page: &[u64], t: u32, k: u16) -> Survey
     ensures { λ r. ⌜ r ≡ surveyOf t k (now (page .entry)) ⌝ }
 {
     let rows = page[1] as usize;
-    let mut ranges = [0u32; 64];
-    let mut places = [0u8; 64];
+    let mut ranges = [0u32; Page::ROWS];
+    let mut places = [0u8; Page::ROWS];
     let count = list_live(page, rows, t, &mut ranges, &mut places);
     survey_live(&ranges[..count], &places[..count], rows, k)
 }
@@ -64,8 +65,8 @@ pub fn survey_sound(page: &[u64], level: u64, low: u16, high: u16, t: u32, k: u1
     requires { ⌜ low < high ⌝ }
     ensures { λ r. ⌜ r ≡ cond (soundAt t level low high (now (page .entry))) (Sound (surveyOf t k (now (page .entry)))) Spoiled ⌝ }
 {
-    let mut ranges = [0u32; 64];
-    let mut places = [0u8; 64];
+    let mut ranges = [0u32; Page::ROWS];
+    let mut places = [0u8; Page::ROWS];
     let tested = list_tested(page, level, low, high, t, &mut ranges, &mut places);
     match tested {
         Tested::Spoiled => Surveyed::Spoiled,

@@ -12,6 +12,9 @@ ghost use Rattle.tree.specs.Row.{rowLimit};
 ghost use Rattle.page.specs.LiveRows.{sumBy, count};
 ghost use Rattle.page.specs.TileTest.{lesser, larger, isEmpty, holdsKey, clipped, goesOn, every, stopsWell, tiles, slots, Noted};
 
+// Keys are noted in so many slots.
+const SLOTS: usize = 512;
+
 fn one_if(counts: bool) -> u32
     ensures { λ r. ⌜ r ≡ cond counts 1 0 ⌝ }
 {
@@ -111,18 +114,18 @@ fn clipped_total(ranges: &[u32], low: u32, high: u32) -> u32
     total
 }
 
-// Notes of the keys at which a range may stop: in each of 512 slots `high` or a key that is held, the low key of a range, which has the slot
+// Notes of the keys at which a range may stop: in each slot `high` or a key that is held, the low key of a range, which has the slot
 // of its last nine bits. Where two low keys have one slot, the later range's stays.
-fn note_lows(ranges: &[u32], high: u16) -> [u16; 512]
+fn note_lows(ranges: &[u32], high: u16) -> [u16; SLOTS]
     requires { ⌜ length (now ranges) ≤ rowLimit ⌝ }
     requires { ⌜ count isEmpty (now ranges) ≡ 0 ⌝ }
     ensures { λ r. ⌜ Noted high (now (ranges .entry)) r ⌝ }
 {
-    let mut noted = [high; 512];
+    let mut noted = [high; SLOTS];
     let mut at: usize = 0;
     while at < ranges.len() {
         let low = range_low(ranges[at]);
-        noted[low as usize % 512] = low as u16;
+        noted[low as usize % SLOTS] = low as u16;
         at += 1;
     }
     noted
@@ -133,7 +136,7 @@ fn is_noted(noted: &[u16], key: u32) -> bool
     requires { ⌜ length (now noted) ≡ slots ⌝ }
     ensures { λ r. ⌜ r ≡ eqb (getD (now (noted .entry)) (key % slots) 0) key ⌝ }
 {
-    let known = noted[key as usize % 512];
+    let known = noted[key as usize % SLOTS];
     known as u32 == key
 }
 

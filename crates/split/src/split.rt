@@ -14,7 +14,7 @@ ghost use Rattle.words.specs.Value as value;
 ghost use Rattle.tree.specs.Row.{word, headerWords, pageWords, rowLimit, copyLimit};
 ghost use Rattle.page.specs.PageValue.{encodePage, emptyPage};
 ghost use Rattle.page.specs.Entries.{orderSize, InPage};
-ghost use Rattle.tree.specs.Tree.{putPage};
+ghost use Rattle.tree.specs.Tree.{putPage, pageLimit};
 ghost use Rattle.tree.specs.Overflow.{takenPage, lowerHalf};
 ghost use Rattle.split.specs.SplitWords.{scratchWords, Sourced, between, fillPage, addRows, gainPage, copiedTable, middleKey, halvedTable, splitWords};
 
@@ -192,7 +192,7 @@ fn halve_rows(
 
 // The number of the i-th page that a call takes, counted from 0.
 pub fn taken_page(used: TreeUse, i: u32) -> u32
-    requires { ⌜ used .pages ≤ 1000000 ⌝ }
+    requires { ⌜ used .pages ≤ pageLimit ⌝ }
     requires { ⌜ i ≤ 32 ⌝ }
     ensures { λ r. ⌜ r ≡ takenPage used i ⌝ }
 {
@@ -204,7 +204,7 @@ pub fn split_page(table: &mut [u64], used: TreeUse, made: u32, words: &[u64], t:
     requires { ⌜ length (now words) ≡ scratchWords ⌝ }
     requires { ⌜ word (now words) 1 ≤ orderSize ⌝ }
     requires { ⌜ made ≤ 16 ⌝ }
-    requires { ⌜ used .pages ≤ 1000000 ⌝ }
+    requires { ⌜ used .pages ≤ pageLimit ⌝ }
     requires { ⌜ (used .pages + splitWords (now table) used made (now words) t .made) * pageWords ≤ length (now table) ⌝ }
     ensures { λ _. ⌜ now (table .exit) ≡ splitWords (now (table .entry)) used made (now (words .entry)) t .table ⌝ }
     ensures { λ r. ⌜ r .made ≡ splitWords (now (table .entry)) used made (now (words .entry)) t .made ⌝ }

@@ -28,14 +28,17 @@ pub struct Head {
     pub last: u32,
     pub started: u32,
     pub count: u32,
-    pub passes: [OpenPass; 64],
+    pub passes: [OpenPass; Head::PLACES],
     pub starts: TreeUse,
     pub ends: TreeUse,
 }
 
 impl Head {
+    // Places for open passes.
+    pub const PLACES: usize = 64;
+
     // So many passes may be open at a time.
-    pub const OPEN_LIMIT: u32 = 64;
+    pub const OPEN_LIMIT: u32 = Head::PLACES as u32;
 
     // So many may start.
     pub const PASS_LIMIT: u32 = 1000000;
