@@ -4,6 +4,7 @@ pub mod LoopLaws
 pub mod SumLaws
 pub mod LesserLaws
 pub mod TileLaws
+pub mod SpanLaws
 pub mod NoteLaws
 pub mod InsertLaws
 pub mod EntryLaws

@@ -23,6 +23,10 @@ holdsKey q e = leb (rangeLow e) q && ltb q (rangeHigh e)
 abbrev pub clipped : ℕ → ℕ → ℕ → ℕ
 clipped low high e = lesser (rangeHigh e) high - larger (rangeLow e) low
 
+-- The same, but an empty range counts for more than a range can have
+abbrev pub spanned : ℕ → ℕ → ℕ → ℕ
+spanned low high e = cond (isEmpty e) 65536 (clipped low high e)
+
 -- A key at which a range stops is held again, unless it lies outside the range low to high
 abbrev pub goesOn : ℕ → ℕ → List ℕ → ℕ → Bool
 goesOn low high ranges q = leb q low || (leb high q || ltb 0 (count (holdsKey q) ranges))

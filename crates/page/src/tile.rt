@@ -10,7 +10,7 @@ ghost use lib.ListN.{length, getD};
 ghost use lib.Dec.{ltb, eqb};
 ghost use Rattle.tree.specs.Row.{rowLimit};
 ghost use Rattle.page.specs.LiveRows.{sumBy, count};
-ghost use Rattle.page.specs.TileTest.{lesser, larger, isEmpty, holdsKey, clipped, goesOn, every, stopsWell, tiles, slots, Noted};
+ghost use Rattle.page.specs.TileTest.{lesser, larger, isEmpty, holdsKey, clipped, spanned, goesOn, every, stopsWell, tiles, slots, Noted};
 
 // Keys are noted in so many slots.
 const SLOTS: usize = 512;
@@ -73,19 +73,6 @@ fn clipped(range: u32, low: u32, high: u32) -> u32
     )
 }
 
-fn count_empty(ranges: &[u32]) -> u32
-    requires { ⌜ length (now ranges) ≤ rowLimit ⌝ }
-    ensures { λ r. ⌜ r ≡ count isEmpty (now (ranges .entry)) ⌝ }
-{
-    let mut found: u32 = 0;
-    let mut at: usize = 0;
-    while at < ranges.len() {
-        found += one_if(is_empty(ranges[at]));
-        at += 1;
-    }
-    found
-}
-
 fn count_holders(ranges: &[u32], key: u32) -> u32
     requires { ⌜ length (now ranges) ≤ rowLimit ⌝ }
     ensures { λ r. ⌜ r ≡ count (holdsKey key) (now (ranges .entry)) ⌝ }
@@ -99,16 +86,25 @@ fn count_holders(ranges: &[u32], key: u32) -> u32
     found
 }
 
-// The keys of the range low to high that the ranges have, each as often as it is held.
-fn clipped_total(ranges: &[u32], low: u32, high: u32) -> u32
+// How many keys of the range low to high the range has. An empty range counts for more than a range can have, so that one sum tells of both.
+fn spanned(range: u32, low: u32, high: u32) -> u32
+    ensures { λ r. ⌜ r ≡ spanned low high range ⌝ }
+{
+    if is_empty(range) {
+        return 65536;
+    }
+    clipped(range, low, high)
+}
+
+fn spanned_total(ranges: &[u32], low: u32, high: u32) -> u32
     requires { ⌜ length (now ranges) ≤ rowLimit ⌝ }
     requires { ⌜ high < 65536 ⌝ }
-    ensures { λ r. ⌜ r ≡ sumBy (clipped low high) (now (ranges .entry)) ⌝ }
+    ensures { λ r. ⌜ r ≡ sumBy (spanned low high) (now (ranges .entry)) ⌝ }
 {
     let mut total: u32 = 0;
     let mut at: usize = 0;
     while at < ranges.len() {
-        total += clipped(ranges[at], low, high);
+        total += spanned(ranges[at], low, high);
         at += 1;
     }
     total
@@ -198,10 +194,7 @@ pub fn tiles(ranges: &[u32], low: u16, high: u16) -> bool
 {
     let first = low as u32;
     let past = high as u32;
-    if count_empty(ranges) != 0 {
-        return false;
-    }
-    if clipped_total(ranges, first, past) != past - first {
+    if spanned_total(ranges, first, past) != past - first {
         return false;
     }
     let noted = note_lows(ranges, high);
