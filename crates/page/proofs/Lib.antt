@@ -10,6 +10,7 @@ pub mod InsertLaws
 pub mod EntryLaws
 pub mod OrderRowLaws
 pub mod NearestLaws
+pub mod HolderLaws
 pub mod LiveLaws
 pub mod RangeTiles
 pub mod LiveReadings

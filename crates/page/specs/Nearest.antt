@@ -7,7 +7,7 @@ use lib.ListN.{getD}
 use Rattle.page.specs.declared.search.Place.{Place}
 use Rattle.page.specs.declared.search.Place.the-variants.{At, Missing}
 use Rattle.page.specs.LiveRows.{rangeLow, rangeHigh}
-use Rattle.page.specs.TileTest.{lesser}
+use Rattle.page.specs.TileTest.{lesser, holdsKey}
 
 -- The number of no range: above those of all that fit
 abbrev pub noRange : ℕ
@@ -29,3 +29,12 @@ module _ (from below above : ℕ) where
 -- The place at the position that a number has
 abbrev pub placeAt : List ℕ → ℕ → Place
 placeAt places best = cond (leb noRange best) Missing (At (getD places (best % 256) 0))
+
+-- 256 + its position for a range that holds a key, and these numbers added up over the ranges, the first of which is at position `at`
+module _ (key : ℕ) where
+  abbrev pub holder : ℕ → ℕ → ℕ
+  holder at e = cond (holdsKey key e) (256 + at) 0
+
+  unfoldable pub holderSum : ℕ → List ℕ → ℕ
+  holderSum at [] = 0
+  holderSum at (e ∷ es) = holder at e + holderSum (suc at) es

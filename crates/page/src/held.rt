@@ -3,7 +3,7 @@ use crate::fresh::Page;
 use crate::live::range_low;
 use crate::row::row_at;
 use crate::search::Place;
-use crate::search::find_place;
+use crate::search::find_holder;
 use crate::test::Tested;
 use crate::test::list_tested;
 use tree::Held;
@@ -67,8 +67,7 @@ fn held_row(page: &[u64], ranges: &[u32], places: &[u8], k: u16) -> Held
     requires { ⌜ AllIn (now page) (now places) ⌝ }
     ensures { λ r. ⌜ r ≡ heldAmong (now (page .entry)) (now (ranges .entry)) (now (places .entry)) k ⌝ }
 {
-    let past = k as u32 + 1;
-    let found = find_place(ranges, places, 0, past, past);
+    let found = find_holder(ranges, places, k as u32);
     match found {
         Place::Missing => Held::Spoiled,
         Place::At(place) => {

@@ -1,13 +1,14 @@
 // Which live row of a page a lookup or an entry is after: the first one in key order, by low key and then by place, that fits.
 use crate::live::range_high;
 use crate::live::range_low;
+use crate::tile::holds_key;
 use crate::tile::lesser;
 ghost use mathlib.Core.Path.{_≡_};
 ghost use mathlib.Core.Bool.{_&&_};
-ghost use Prim.Native.Nat.{_≤_, _<_};
+ghost use Prim.Native.Nat.{_+_, _≤_, _<_};
 ghost use lib.ListN.{length};
 ghost use Rattle.tree.specs.Row.{rowLimit};
-ghost use Rattle.page.specs.Nearest.{fits, candidate, least, noRange, placeAt};
+ghost use Rattle.page.specs.Nearest.{fits, candidate, least, noRange, placeAt, holder, holderSum};
 
 // Where a search ends: at the row of a place, or nowhere.
 pub enum Place {
@@ -64,4 +65,43 @@ pub fn find_place(ranges: &[u32], places: &[u8], from: u32, below: u32, above: u
         return Place::Missing;
     }
     Place::At(places[best as usize % 256] as usize)
+}
+
+// 256 + where it is for a range that holds the key, else 0.
+fn holder(range: u32, at: usize, key: u32) -> u32
+    requires { ⌜ at < rowLimit ⌝ }
+    ensures { λ r. ⌜ r ≡ holder key at range ⌝ }
+{
+    if holds_key(range, key) {
+        return 256 + at as u32;
+    }
+    0
+}
+
+// These numbers added up: from 256 to 511 just where one range holds the key, and then it tells which.
+fn holder_sum(ranges: &[u32], key: u32) -> u32
+    requires { ⌜ length (now ranges) ≤ rowLimit ⌝ }
+    ensures { λ r. ⌜ r ≡ holderSum key 0 (now (ranges .entry)) ⌝ }
+{
+    let mut sum: u32 = 0;
+    let mut at: usize = 0;
+    while at < ranges.len() {
+        sum += holder(ranges[at], at, key);
+        at += 1;
+    }
+    sum
+}
+
+// The place of the first row in key order that holds the key. In a tested page one row does, and needs no comparison with others.
+pub fn find_holder(ranges: &[u32], places: &[u8], key: u32) -> Place
+    requires { ⌜ length (now ranges) ≤ rowLimit ⌝ }
+    requires { ⌜ length (now places) ≡ length (now ranges) ⌝ }
+    requires { ⌜ key < 65536 ⌝ }
+    ensures { λ r. ⌜ r ≡ placeAt (now (places .entry)) (least 0 (key + 1) (key + 1) 0 (now (ranges .entry))) ⌝ }
+{
+    let sum = holder_sum(ranges, key);
+    if sum / 256 == 1 {
+        return Place::At(places[sum as usize % 256] as usize);
+    }
+    find_place(ranges, places, 0, key + 1, key + 1)
 }

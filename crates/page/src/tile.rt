@@ -57,7 +57,7 @@ fn is_empty(range: u32) -> bool
     range_high(range) <= range_low(range)
 }
 
-fn holds_key(range: u32, key: u32) -> bool
+pub fn holds_key(range: u32, key: u32) -> bool
     ensures { λ r. ⌜ r ≡ holdsKey key range ⌝ }
 {
     range_low(range) <= key && key < range_high(range)

@@ -31,9 +31,11 @@ is-held-requires c κs =
     let a = c .before .before .before .before .before .args in
     let noted = c .before .note-lows .result in (
       search needs,
-      (search needs,
-      λ e. may-hold (a .high) (a .ranges .now) (a .low) (omega arith)
-      (noted-may-stop (a .high) (a .ranges .now) noted (a .low) (search needs) (c .before .note-lows .ensures) e)),
+      (
+        search needs,
+        λ e. may-hold (a .high) (a .ranges .now) (a .low) (omega arith)
+            (noted-may-stop (a .high) (a .ranges .now) noted (a .low) (search needs) (c .before .note-lows .ensures) e),
+      ),
     )
 
 slice-aggregate-each-goes-on : tie.Need-slice-aggregate-each-goes-on
