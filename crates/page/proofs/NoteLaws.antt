@@ -1,5 +1,5 @@
 -- The notes of the tile test: in every slot stands a key at which a range may stop.
-use Prim.Native.Nat.{ℕ, zero, suc, _%_, _<_}
+use Prim.Native.Nat.{ℕ, zero, suc, _+_, _%_, _<_}
 use native.Mathlib.Omega.{arith}
 use mathlib.Core.Path.{_≡_, refl, sym, ap, _∙_}
 use mathlib.Core.Bool.{Bool, true, false, _||_}
@@ -9,8 +9,8 @@ use lib.ListN.{length, getD, replicate}
 use borrow.Author.Tests.{leb-false, ltb-true, eqb-true, le-leb, lt-ltb, eq-eqb, ne-eqb}
 use Rattle.tree.proofs.Lists.{All, all-at, count-at}
 use Rattle.page.specs.LiveRows.{rangeLow, rangeHigh, count}
-use Rattle.page.specs.TileTest.{isEmpty, holdsKey, goesOn, slots, mayStop, Noted}
-use Rattle.page.proofs.TileLaws.{some-holder}
+use Rattle.page.specs.TileTest.{isEmpty, holdsKey, goesOn, stopsWell, slots, mayStop, Noted, Passed}
+use Rattle.page.proofs.TileLaws.{some-holder, every-on}
 
 or-second : (a b : Bool) → b ≡ true → (a || b) ≡ true
 or-second true b e = refl
@@ -63,3 +63,14 @@ module _ (high : ℕ) (ranges : List ℕ) where
       → mayStop high ranges key ≡ true
   noted-may-stop noted key l all e =
       ap (mayStop high ranges) (sym e) ∙ all-at (λ (q : ℕ). mayStop high ranges q ≡ true) noted (key % slots) 0 all (omega arith)
+
+-- Passing over a stop that is noted
+pub pass-none : (ranges noted : List ℕ) (from : ℕ) → Passed ranges noted from from
+pass-none ranges noted from low high all = refl
+
+pub pass-noted : (ranges noted : List ℕ) (from at : ℕ) → length noted ≡ slots → at < length ranges → Passed ranges noted from at
+    → getD noted (rangeHigh (getD ranges at 0) % slots) 0 ≡ rangeHigh (getD ranges at 0) → Passed ranges noted from (at + 1)
+pass-noted ranges noted from at l inside passed here low high all =
+    let stop = rangeHigh (getD ranges at 0) in
+    passed low high all
+    ∙ every-on (stopsWell low high ranges) ranges at inside (may-go-on high ranges low stop (noted-may-stop high ranges noted stop l all here))

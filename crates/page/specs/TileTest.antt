@@ -4,6 +4,7 @@ use mathlib.Core.Path.{_≡_}
 use mathlib.Core.List.{List, [], _∷_}
 use mathlib.Core.Bool.{Bool, true, cond, _&&_, _||_}
 use lib.Dec.{leb, ltb, eqb}
+use lib.ListN.{drop}
 use Rattle.words.specs.Lists.{All}
 use Rattle.page.specs.LiveRows.{rangeLow, rangeHigh, sumBy, count}
 
@@ -58,3 +59,10 @@ mayStop high ranges q = eqb q high || ltb 0 (count (holdsKey q) ranges)
 -- In every slot stands such a key
 abbrev pub Noted : ℕ → List ℕ → List ℕ → Type 0
 Noted high ranges noted = All (λ (q : ℕ). mayStop high ranges q ≡ true) noted
+
+-- Stops that are noted may be passed over: whatever the page's range, if it has these notes, the ranges from one place on go on where those from
+-- a later place do
+abbrev pub Passed : List ℕ → List ℕ → ℕ → ℕ → Type 0
+Passed ranges noted from to =
+    (low high : ℕ) → Noted high ranges noted
+    → every (stopsWell low high ranges) (drop from ranges) ≡ every (stopsWell low high ranges) (drop to ranges)

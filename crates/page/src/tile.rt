@@ -10,7 +10,7 @@ ghost use lib.ListN.{length, getD};
 ghost use lib.Dec.{ltb, eqb};
 ghost use Rattle.tree.specs.Row.{rowLimit};
 ghost use Rattle.page.specs.LiveRows.{sumBy, count};
-ghost use Rattle.page.specs.TileTest.{lesser, larger, isEmpty, holdsKey, clipped, spanned, goesOn, every, stopsWell, tiles, slots, Noted};
+ghost use Rattle.page.specs.TileTest.{lesser, larger, isEmpty, holdsKey, clipped, spanned, goesOn, every, stopsWell, tiles, slots, Noted, Passed};
 
 // Keys are noted in so many slots.
 const SLOTS: usize = 512;
@@ -150,15 +150,10 @@ fn is_held(ranges: &[u32], noted: &[u16], key: u32) -> bool
 }
 
 // Whether a key at which a range stops lies outside the range low to high or is held.
-fn goes_on(ranges: &[u32], noted: &[u16], key: u32, low: u16, high: u16) -> bool
+fn goes_on(ranges: &[u32], key: u32, low: u16, high: u16) -> bool
     requires { ⌜ length (now ranges) ≤ rowLimit ⌝ }
-    requires { ⌜ length (now noted) ≡ slots ⌝ }
-    requires { ⌜ Noted high (now ranges) (now noted) ⌝ }
     ensures { λ r. ⌜ r ≡ goesOn low high (now (ranges .entry)) key ⌝ }
 {
-    if is_noted(noted, key) {
-        return true;
-    }
     if key <= low as u32 {
         return true;
     }
@@ -168,20 +163,38 @@ fn goes_on(ranges: &[u32], noted: &[u16], key: u32, low: u16, high: u16) -> bool
     0 < count_holders(ranges, key)
 }
 
+// The first range from a place on that stops at a key which is not noted, or how many ranges there are. Most stops are noted, so this loop does
+// nothing else.
+fn next_unnoted(ranges: &[u32], noted: &[u16], from: usize) -> usize
+    requires { ⌜ length (now ranges) ≤ rowLimit ⌝ }
+    requires { ⌜ length (now noted) ≡ slots ⌝ }
+    requires { ⌜ from ≤ length (now ranges) ⌝ }
+    ensures { λ r. ⌜ from ≤ r ⌝ }
+    ensures { λ r. ⌜ r ≤ length (now (ranges .entry)) ⌝ }
+    ensures { λ r. ⌜ Passed (now (ranges .entry)) (now (noted .entry)) from r ⌝ }
+{
+    let mut at = from;
+    while at < ranges.len() {
+        if !is_noted(noted, range_high(ranges[at])) {
+            return at;
+        }
+        at += 1;
+    }
+    at
+}
+
 fn each_goes_on(ranges: &[u32], noted: &[u16], low: u16, high: u16) -> bool
     requires { ⌜ length (now ranges) ≤ rowLimit ⌝ }
     requires { ⌜ length (now noted) ≡ slots ⌝ }
     requires { ⌜ Noted high (now ranges) (now noted) ⌝ }
     ensures { λ r. ⌜ r ≡ every (stopsWell low high (now (ranges .entry))) (now (ranges .entry)) ⌝ }
 {
-    let mut at: usize = 0;
+    let mut at = next_unnoted(ranges, noted, 0);
     while at < ranges.len() {
-        let stop = range_high(ranges[at]);
-        if goes_on(ranges, noted, stop, low, high) {
-            at += 1;
-        } else {
+        if !goes_on(ranges, range_high(ranges[at]), low, high) {
             return false;
         }
+        at = next_unnoted(ranges, noted, at + 1);
     }
     true
 }
