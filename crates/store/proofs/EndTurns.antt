@@ -45,7 +45,7 @@ ended-length number tick [] = refl
 ended-length zero tick (p ∷ passes) = refl
 ended-length (suc number) tick (p ∷ passes) = ap suc (ended-length number tick passes)
 
-open-inside : (number : ℕ) (passes : List Pass) → isOpen (getD passes number noPass) ≡ true → number < length passes
+pub open-inside : (number : ℕ) (passes : List Pass) → isOpen (getD passes number noPass) ≡ true → number < length passes
 open-inside number [] e = absurd (no e)
   where
     no : false ≡ true → ⊥

@@ -1,0 +1,125 @@
+// "the first refusal of these papers, in their order, 20 and 26 to 28 left out, that its arguments and the book meet", or 0.
+use crate::list::open_count;
+use crate::list::pass_at;
+use crate::types::Asked;
+use crate::types::Call;
+use crate::types::ListedPass;
+use crate::types::PassBook;
+ghost use mathlib.Core.Path.{_≡_};
+ghost use Prim.Native.Nat.{_*_, _≤_};
+ghost use lib.ListN.{length};
+ghost use Rattle.store.specs.Refusals.{firstMet};
+ghost use Rattle.store.specs.Book.{Book, startGrounds, endGrounds, questionGrounds, lookupGrounds, bookRefusal};
+ghost use Rattle.pass_book.specs.PassList.{passOf, bookIn};
+ghost use Rattle.pass_book.specs.BookCalls.{callOf, askedCall};
+ghost use Rattle.pass_book.specs.Grounds.{passGrounds};
+
+fn start_refusal(passes: &[u32], book: PassBook, tick: u32, key: u32, weight: u32) -> u8
+    requires { ⌜ book .started * 4 ≤ length (now passes) ⌝ }
+    ensures { λ r. ⌜ r ≡ firstMet (startGrounds (bookIn (now (passes .entry)) book) tick key weight) ⌝ }
+{
+    if 30000 <= key {
+        return 1;
+    }
+    if weight == 0 {
+        return 3;
+    }
+    if 10000 < weight {
+        return 3;
+    }
+    if tick == words::OPEN {
+        return 4;
+    }
+    if tick < book.last {
+        return 21;
+    }
+    let open = open_count(passes, book.started);
+    if 64 <= open {
+        return 24;
+    }
+    if 1000000 <= book.started {
+        return 25;
+    }
+    0
+}
+
+// The grounds of an end that its pass decides.
+fn pass_refusal(pass: ListedPass, tick: u32) -> u8
+    ensures { λ r. ⌜ r ≡ firstMet (passGrounds (passOf pass) tick) ⌝ }
+{
+    if pass.end == words::OPEN {
+        if tick == pass.start {
+            return 23;
+        }
+        return 0;
+    }
+    22
+}
+
+fn end_refusal(passes: &[u32], book: PassBook, tick: u32, number: u32) -> u8
+    requires { ⌜ book .started * 4 ≤ length (now passes) ⌝ }
+    ensures { λ r. ⌜ r ≡ firstMet (endGrounds (bookIn (now (passes .entry)) book) tick number) ⌝ }
+{
+    if tick == words::OPEN {
+        return 4;
+    }
+    if tick < book.last {
+        return 21;
+    }
+    if book.started <= number {
+        return 22;
+    }
+    pass_refusal(pass_at(passes, number), tick)
+}
+
+fn question_refusal(k1: u32, k2: u32, t1: u32, t2: u32) -> u8
+    ensures { λ r. ⌜ r ≡ firstMet (questionGrounds k1 k2 t1 t2) ⌝ }
+{
+    if 30000 <= k1 {
+        return 1;
+    }
+    if 30000 < k2 {
+        return 1;
+    }
+    if k2 <= k1 {
+        return 2;
+    }
+    if t2 <= t1 {
+        return 5;
+    }
+    0
+}
+
+fn lookup_refusal(t: u32, k: u32) -> u8
+    ensures { λ r. ⌜ r ≡ firstMet (lookupGrounds t k) ⌝ }
+{
+    if 30000 <= k {
+        return 1;
+    }
+    if t == words::OPEN {
+        return 4;
+    }
+    0
+}
+
+fn asked_refusal(asked: Asked) -> u8
+    ensures { λ r. ⌜ ((b : Book) → r ≡ bookRefusal b (askedCall asked)) ⌝ }
+{
+    match asked {
+        Asked::Question { k1, k2, t1, t2 } => question_refusal(k1, k2, t1, t2),
+        Asked::LookupStarts { t, k } => lookup_refusal(t, k),
+        Asked::LookupEnds { t, k } => lookup_refusal(t, k),
+    }
+}
+
+pub fn refusal(passes: &[u32], book: PassBook, call: Call) -> u8
+    requires { ⌜ book .started * 4 ≤ length (now passes) ⌝ }
+    ensures { λ r. ⌜ r ≡ bookRefusal (bookIn (now (passes .entry)) book) (callOf call) ⌝ }
+{
+    match call {
+        Call::Open => 0,
+        Call::Start { tick, key, weight } => start_refusal(passes, book, tick, key, weight),
+        Call::End { tick, number } => end_refusal(passes, book, tick, number),
+        Call::Ask(asked) => asked_refusal(asked),
+    }
+}

@@ -1,0 +1,36 @@
+// What the book takes and gives.
+use store::Answer;
+
+// A pass as the list has it, in four numbers. Its end is 4,294,967,295 while it is open.
+pub struct ListedPass {
+    pub key: u32,
+    pub weight: u32,
+    pub start: u32,
+    pub end: u32,
+}
+
+// The last tick, and how many passes started; the passes themselves are in the lent list.
+pub struct PassBook {
+    pub last: u32,
+    pub started: u32,
+}
+
+// The calls that only read, and so are answered with totals or refused.
+pub enum Asked {
+    Question { k1: u32, k2: u32, t1: u32, t2: u32 },
+    LookupStarts { t: u32, k: u32 },
+    LookupEnds { t: u32, k: u32 },
+}
+
+pub enum Call {
+    Open,
+    Start { tick: u32, key: u32, weight: u32 },
+    End { tick: u32, number: u32 },
+    Ask(Asked),
+}
+
+// What the book says to a call, with no page opened, and what it holds afterwards.
+pub struct Turn {
+    pub answer: Answer,
+    pub book: PassBook,
+}
