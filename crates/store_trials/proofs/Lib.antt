@@ -1,4 +1,3 @@
--- Laws for the list of passes and the comparison of answers.
+-- Laws of the comparison of answers.
 pub mod Tests
-pub mod Totals
 pub mod SameFields

@@ -1,4 +1,2 @@
--- What the list of passes says, and when two answers are the same, as definitions.
-pub mod Passes
-pub mod Grounds
+-- When two answers are the same, as definitions.
 pub mod Answers

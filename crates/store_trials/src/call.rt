@@ -1,21 +1,9 @@
-// The six calls of the store as values, so that one and the same call is made on the store and put to the list of passes.
+// A call of the book made on the store.
 use calls::Reply;
+use pass_book::Asked;
+use pass_book::Call;
 use store::Answer;
 use store::Head;
-
-// The calls that only read, and so are answered with totals or refused.
-pub enum Asked {
-    Question { k1: u32, k2: u32, t1: u32, t2: u32 },
-    LookupStarts { t: u32, k: u32 },
-    LookupEnds { t: u32, k: u32 },
-}
-
-pub enum Call {
-    Open,
-    Start { tick: u32, key: u32, weight: u32 },
-    End { tick: u32, number: u32 },
-    Ask(Asked),
-}
 
 fn ask(
     head: Head,

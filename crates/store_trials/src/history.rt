@@ -1,27 +1,58 @@
-// A history: calls made on a store and put to the list of passes, and their answers compared.
-use crate::book::Book;
-use crate::call::Call;
+// A history: calls made on a store and put to the book, and their answers compared.
 use crate::counts::Counts;
 use crate::counts::refusal_of;
 use crate::counts::same;
 use crate::left_behind::head_agrees;
-use crate::listing::after;
-use crate::listing::wanted;
-use crate::next::next_call;
 use crate::outcome::Outcome;
 use crate::outcome::made;
 use crate::paths::height;
-use crate::shape::Shape;
+use pass_book::Call;
+use pass_book::PassBook;
+use pass_book::book_turn;
+use random_calls::NUMBERS;
+use random_calls::PASSES;
+use random_calls::Shape;
+use random_calls::next_call;
 use store::Answer;
 use store::Head;
-ghost use Prim.Native.Nat.{_*_, _≤_};
-ghost use lib.ListN.{length};
+ghost use Prim.Native.Nat.{_≤_, _<_};
 
-// Where a history has come to: the head for the next call, the book, and what was compared.
+// Where a history has come to: the head, the book, what was compared, and the next call.
 pub struct Run {
     pub head: Head,
-    pub book: Book,
+    pub book: PassBook,
     pub counts: Counts,
+    pub call: Call,
+}
+
+// A book with a place for one pass more. A full one is opened anew: then the call is an opening.
+fn with_room(book: PassBook) -> PassBook
+    ensures { λ r. ⌜ r .started < 2000 ⌝ }
+{
+    if book.started < PASSES {
+        return book;
+    }
+    PassBook {
+        last: 0,
+        started: 0,
+    }
+}
+
+// The book's answer with the pages opened, which are the store's to say.
+fn with_pages(answer: Answer, opened: u32) -> Answer {
+    let Answer::Totals {
+        count,
+        sum,
+        pages: _,
+    } = answer
+    else {
+        return answer;
+    };
+    Answer::Totals {
+        count,
+        sum,
+        pages: opened,
+    }
 }
 
 // Whether an answer is one after which the lent words are as before: a refusal, or totals.
@@ -57,33 +88,51 @@ fn judged(counts: Counts, outcome: Outcome, said: Answer, agrees: bool) -> Count
         .judged(words_kept(said, outcome.unchanged))
 }
 
-// A call is made on the store and put to the list.
+// A call that was made on the store is put to the book. Then the next one is drawn.
+fn put_to_book(
+    run: Run,
+    outcome: Outcome,
+    passes: &mut [u32; NUMBERS],
+    random: &mut u64,
+    shape: Shape,
+    anew: u32,
+) -> Run
+    requires { ⌜ 1 ≤ anew ⌝ }
+{
+    let hints = outcome.hints;
+    let call = run.call;
+    let turn = book_turn(passes, with_room(run.book), call, hints.lacking);
+    let book = turn.book;
+    let answer = turn.answer;
+    let said = with_pages(answer, hints.pages);
+    let head = outcome.head;
+    let agrees = head_agrees(head, passes, book);
+    Run {
+        head,
+        book,
+        counts: judged(run.counts, outcome, said, agrees),
+        call: next_call(random, shape, anew, passes, book),
+    }
+}
+
+// One turn: the next call is made on the store and put to the book.
 fn turn(
     run: Run,
     start_table: &mut [u64],
     start_roots: &mut [u64],
     end_table: &mut [u64],
     end_roots: &mut [u64],
-    passes: &mut [u32],
-    call: Call,
+    passes: &mut [u32; NUMBERS],
+    random: &mut u64,
+    shape: Shape,
+    anew: u32,
 ) -> Run
-    requires { ⌜ run .book .started * 4 ≤ length (now passes) ⌝ }
-    ensures { λ r. ⌜ r .book .started * 4 ≤ length (now (passes .entry)) ⌝ }
+    requires { ⌜ 1 ≤ anew ⌝ }
 {
     let head = run.head;
-    let book = run.book;
-    let counts = run.counts;
+    let call = run.call;
     let outcome = made(head, start_table, start_roots, end_table, end_roots, call);
-    let hints = outcome.hints;
-    let said = wanted(passes, book, call, hints);
-    let next = after(passes, book, call, said);
-    let after_head = outcome.head;
-    let agrees = head_agrees(after_head, passes, next);
-    Run {
-        head: after_head,
-        book: next,
-        counts: judged(counts, outcome, said, agrees),
-    }
+    put_to_book(run, outcome, passes, random, shape, anew)
 }
 
 // So many turns. The first opens the store, over memory that may hold anything, and once in `anew` turns it is opened anew.
@@ -92,7 +141,7 @@ pub fn history(
     start_roots: &mut [u64],
     end_table: &mut [u64],
     end_roots: &mut [u64],
-    passes: &mut [u32],
+    passes: &mut [u32; NUMBERS],
     random: &mut u64,
     shape: Shape,
     anew: u32,
@@ -102,10 +151,13 @@ pub fn history(
 {
     let mut run = Run {
         head: head::opened_head(),
-        book: Book::opened(),
+        book: PassBook {
+            last: 0,
+            started: 0,
+        },
         counts: Counts::none(),
+        call: Call::Open,
     };
-    let mut call = Call::Open;
     let mut left = turns;
     while 0 < left {
         run = turn(
@@ -115,9 +167,10 @@ pub fn history(
             end_table,
             end_roots,
             passes,
-            call,
+            random,
+            shape,
+            anew,
         );
-        call = next_call(random, shape, anew, passes, run.book);
         left -= 1;
     }
     let starts = height(start_table, start_roots, run.head.starts.roots);

@@ -1,10 +1,12 @@
 // What a call leaves beside its answer: the head, and the words that are lent.
-use crate::book::Book;
-use crate::book::pass_of;
+use pass_book::PassBook;
+use pass_book::open_count;
+use pass_book::pass_at;
+use random_calls::NUMBERS;
+use random_calls::PASSES;
 use store::Head;
 use store::OpenPass;
-ghost use Prim.Native.Nat.{_*_, _≤_};
-ghost use lib.ListN.{length};
+ghost use Prim.Native.Nat.{_≤_};
 
 // "unused places zero".
 fn is_unused(open: OpenPass) -> bool {
@@ -21,16 +23,16 @@ fn is_unused(open: OpenPass) -> bool {
 }
 
 // Whether a place of the head has an open pass of the list, with a number not below `least`.
-fn is_listed(open: OpenPass, least: u32, passes: &[u32], book: Book) -> bool
-    requires { ⌜ book .started * 4 ≤ length (now passes) ⌝ }
+fn is_listed(open: OpenPass, least: u32, passes: &[u32; NUMBERS], started: u32) -> bool
+    requires { ⌜ started ≤ 2000 ⌝ }
 {
     if open.number < least {
         return false;
     }
-    if book.started <= open.number {
+    if started <= open.number {
         return false;
     }
-    let pass = pass_of(passes, open.number);
+    let pass = pass_at(passes, open.number);
     if pass.key != open.key {
         return false;
     }
@@ -40,29 +42,35 @@ fn is_listed(open: OpenPass, least: u32, passes: &[u32], book: Book) -> bool
     if pass.start != open.start {
         return false;
     }
-    pass.end == 4294967295
+    pass.end == words::OPEN
 }
 
 // Whether a place has what it should: an open pass below the number of open ones, zeros from there on.
-fn place_agrees(open: OpenPass, used: bool, least: u32, passes: &[u32], book: Book) -> bool
-    requires { ⌜ book .started * 4 ≤ length (now passes) ⌝ }
+fn place_agrees(
+    open: OpenPass,
+    used: bool,
+    least: u32,
+    passes: &[u32; NUMBERS],
+    started: u32,
+) -> bool
+    requires { ⌜ started ≤ 2000 ⌝ }
 {
     if used {
-        return is_listed(open, least, passes, book);
+        return is_listed(open, least, passes, started);
     }
     is_unused(open)
 }
 
 // Whether the head's places have the list's open passes, in order of opening. Their numbers rise and they are as many as the list has open,
 // so none is left out.
-fn places_agree(head: Head, passes: &[u32], book: Book) -> bool
-    requires { ⌜ book .started * 4 ≤ length (now passes) ⌝ }
+fn places_agree(head: Head, passes: &[u32; NUMBERS], started: u32) -> bool
+    requires { ⌜ started ≤ 2000 ⌝ }
 {
     let mut place: usize = 0;
     let mut least: u32 = 0;
     while place < 64 {
         let open = head.passes[place];
-        if !place_agrees(open, place < book.open as usize, least, passes, book) {
+        if !place_agrees(open, place < head.count as usize, least, passes, started) {
             return false;
         }
         least = std::num::wrapping_add_u32(open.number, 1);
@@ -72,26 +80,28 @@ fn places_agree(head: Head, passes: &[u32], book: Book) -> bool
 }
 
 // Whether the head has the last tick, the number started and the open passes of the list.
-pub fn head_agrees(head: Head, passes: &[u32], book: Book) -> bool
-    requires { ⌜ book .started * 4 ≤ length (now passes) ⌝ }
-{
+pub fn head_agrees(head: Head, passes: &[u32; NUMBERS], book: PassBook) -> bool {
+    let started = book.started;
+    if PASSES < started {
+        return false;
+    }
     if head.last != book.last {
         return false;
     }
-    if head.started != book.started {
+    if head.started != started {
         return false;
     }
-    if head.count != book.open {
+    if head.count != open_count(passes, started) {
         return false;
     }
-    places_agree(head, passes, book)
+    places_agree(head, passes, started)
 }
 
-// A number for the words of a slice and a number before them, another one for nearly every change of a word. A slice of more than eight
-// pages is passed over: there it would take too long after every call.
+// A number for the words of a slice and a number before them, another one for nearly every change of a word. A slice of the whole
+// memory is passed over: there it would take too long after every call.
 fn summed(slice: &[u64], before: u64) -> u64 {
     let mut sum = before % 2147483647;
-    if 2080 < slice.len() {
+    if 2260 < slice.len() {
         return sum;
     }
     let mut at: usize = 0;

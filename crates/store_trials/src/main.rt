@@ -1,66 +1,20 @@
-// Trials of the store: those of document 01's table that are not proved, further ones that tell wrong programs apart, and random histories
-// whose answers are compared with those of a plain list of passes. The program writes what was compared and what differed.
-mod answer_tables;
-mod book;
-mod by_hand;
+// Random histories of the store: calls of every kind, refused ones among them, whose answers are compared with those of the pass book. The program
+// writes what was compared and what differed.
 mod call;
 mod counts;
-mod edited;
-mod full_lookups;
-mod grounds;
-mod groups;
+mod group;
 mod history;
-mod inspection;
 mod left_behind;
-mod listing;
-mod next;
 mod outcome;
-mod page_tables;
 mod paths;
-mod progress;
-mod random;
-mod refused_calls;
 mod report;
-mod shape;
-mod spoiled_tables;
-mod step;
-mod steps;
-mod tables;
-mod trial;
 
 use counts::Counts;
-use groups::group;
+use group::group;
+use random_calls::NUMBERS;
 use report::say;
 use report::say_counts;
 use report::say_group;
-use report::say_trial;
-use trial::trial_on_part;
-ghost use Prim.Native.Nat.{_≤_};
-ghost use lib.ListN.{length};
-
-// Every trial, with a line for each.
-fn trials(
-    start_table: &mut [u64],
-    start_roots: &mut [u64],
-    end_table: &mut [u64],
-    end_roots: &mut [u64],
-) -> Counts
-    requires { ⌜ 3120 ≤ length (now «start_table») ⌝ }
-    requires { ⌜ 3120 ≤ length (now «end_table») ⌝ }
-    requires { ⌜ 12 ≤ length (now «start_roots») ⌝ }
-    requires { ⌜ 12 ≤ length (now «end_roots») ⌝ }
-{
-    let mut all = Counts::none();
-    let mut number: u32 = 0;
-    while number < 19 {
-        let counts = trial_on_part(start_table, start_roots, end_table, end_roots, number);
-        say_trial(number);
-        say_counts(counts);
-        all = all.plus(counts);
-        number += 1;
-    }
-    all
-}
 
 // Every group of histories, with a line for each.
 fn histories(
@@ -68,13 +22,8 @@ fn histories(
     start_roots: &mut [u64],
     end_table: &mut [u64],
     end_roots: &mut [u64],
-    passes: &mut [u32],
-) -> Counts
-    requires { ⌜ 3120 ≤ length (now «start_table») ⌝ }
-    requires { ⌜ 3120 ≤ length (now «end_table») ⌝ }
-    requires { ⌜ 12 ≤ length (now «start_roots») ⌝ }
-    requires { ⌜ 12 ≤ length (now «end_roots») ⌝ }
-{
+    passes: &mut [u32; NUMBERS],
+) -> Counts {
     let mut all = Counts::none();
     let mut number: u32 = 0;
     while number < 8 {
@@ -94,20 +43,14 @@ fn histories(
     all
 }
 
-// Tables of 160 pages, lists of 160 roots, and a list of 2,000 passes.
+// On tables of 160 pages and lists of 160 roots.
 fn main() {
     let mut start_table = [0u64; 41600];
     let mut start_roots = [0u64; 160];
     let mut end_table = [0u64; 41600];
     let mut end_roots = [0u64; 160];
-    let mut passes = [0u32; 8000];
-    let tried = trials(
-        &mut start_table,
-        &mut start_roots,
-        &mut end_table,
-        &mut end_roots,
-    );
-    let ran = histories(
+    let mut passes = [0u32; NUMBERS];
+    let all = histories(
         &mut start_table,
         &mut start_roots,
         &mut end_table,
@@ -115,5 +58,5 @@ fn main() {
         &mut passes,
     );
     say(b"all");
-    say_counts(tried.plus(ran));
+    say_counts(all);
 }

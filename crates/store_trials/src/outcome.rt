@@ -1,13 +1,12 @@
 // A call made on the store, and all that is seen of it.
-use crate::call::Call;
 use crate::call::make;
 use crate::counts::refusal_of;
 use crate::left_behind::memory_sum;
-use crate::listing::Hints;
 use crate::paths::height;
 use crate::paths::pages_opened;
 use crate::paths::word_at;
 use calls::Reply;
+use pass_book::Call;
 use store::Answer;
 use store::Head;
 use tree::TreeUse;
@@ -56,6 +55,13 @@ fn number_if(number: u8, holds: bool) -> u8 {
         return number;
     }
     0
+}
+
+// What the book is told of a call, since it cannot know it: the store's refusal where it is 27 or 28 and can be so, and the pages on the paths that
+// the call's lookups follow.
+pub struct Hints {
+    pub lacking: u8,
+    pub pages: u32,
 }
 
 // The hints for a call, by the tree that it writes or the lookups that it makes.

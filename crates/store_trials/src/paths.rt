@@ -1,5 +1,5 @@
 // Pages opened, by the words that the store holds: the lengths of the paths of a question's or a lookup's lookups.
-use crate::call::Asked;
+use pass_book::Asked;
 use store::Head;
 ghost use Prim.Native.Nat.{_≤_};
 

@@ -23,31 +23,6 @@ pub fn say_counts(counts: Counts) {
     say(b"\n");
 }
 
-// The title of a trial, by its number.
-pub fn say_trial(number: u32) {
-    match number {
-        0 => say(b"trial of first answers"),
-        1 => say(b"trial of ranges and the order of refusals"),
-        2 => say(b"trial of 64 open passes"),
-        3 => say(b"trial of starts at rising ticks"),
-        4 => say(b"trial of bands across a split"),
-        5 => say(b"trial of overflows within one tick"),
-        6 => say(b"trial of 40 and 41 live rows"),
-        7 => say(b"trial of seven pages made by one start"),
-        8 => say(b"trial of seven pages with six left"),
-        9 => say(b"trial of seven pages with no root entry left"),
-        10 => say(b"trial of a level 3 root that is too full"),
-        11 => say(b"trial of rows that hang over a page's range"),
-        12 => say(b"trial of a spoiled root"),
-        13 => say(b"trial of two rows of one low key at an overflow"),
-        14 => say(b"trial of 40 and 41 live rows in three pages"),
-        15 => say(b"trial of a root list of one entry"),
-        16 => say(b"trial of heads that do not fit"),
-        17 => say(b"trial of an opening without a page"),
-        _ => say(b"trial of an opening without a place for a root"),
-    }
-}
-
 // The title of a group of histories, by its number.
 pub fn say_group(number: u32) {
     match number {

@@ -7,11 +7,11 @@ use Rattle.store_trials.proofs.left_behind.places_agree.Statement.{stat
 use Rattle.store_trials.proofs.left_behind.places_agree.Tie as tie
 
 abbrev Inv-loop : tie.InvT-loop
-Inv-loop passes book head place₀ least₀ place least =
+Inv-loop passes started head place₀ least₀ place least =
     (place ≤ 64) × (length (head .passes) ≡ 64)
 
 abbrev μ-loop : tie.MeasureT-loop
-μ-loop passes book head place₀ least₀ place least = 64 - place
+μ-loop passes started head place₀ least₀ place least = 64 - place
 
 loop-holds : tie.Need-loop-holds Inv-loop μ-loop
 loop-holds c = (search needs, search (needs, length-mapped))

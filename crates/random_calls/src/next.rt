@@ -1,0 +1,139 @@
+// Random histories: the next call, by the history's shape and what the list holds.
+use crate::list::NUMBERS;
+use crate::list::PASSES;
+use crate::list::open_number;
+use crate::random::draw;
+use crate::random::one_in;
+use crate::refused_calls::odd_call;
+use crate::shape::Shape;
+use crate::shape::key;
+use crate::shape::tick;
+use pass_book::Asked;
+use pass_book::Call;
+use pass_book::PassBook;
+use pass_book::open_count;
+ghost use mathlib.Core.Path.{_≡_};
+ghost use Prim.Native.Nat.{_≤_, _<_, min, max};
+
+fn start_call(random: &mut u64, shape: Shape, book: PassBook) -> Call {
+    let keys = shape.keys;
+    let pace = shape.pace;
+    let at = tick(random, pace, book.last);
+    let of = key(random, keys, book.started);
+    Call::Start {
+        tick: at,
+        key: of,
+        weight: 1 + draw(random, 10000),
+    }
+}
+
+// An open pass ends, most often one of the oldest: in a swarm only those started at an earlier tick.
+fn end_call(random: &mut u64, shape: Shape, passes: &[u32; NUMBERS], book: PassBook) -> Call
+    requires { ⌜ book .started ≤ 2000 ⌝ }
+{
+    let pace = shape.pace;
+    let at = tick(random, pace, book.last);
+    let most = 1 + draw(random, 40);
+    let before = draw(random, most);
+    let open = open_count(passes, book.started);
+    Call::End {
+        tick: at,
+        number: open_number(passes, book.started, before % (1 + open % 65)),
+    }
+}
+
+// A key to ask for.
+fn asked_key(random: &mut u64, shape: Shape, book: PassBook) -> u32
+    ensures { λ r. ⌜ r < 30000 ⌝ }
+{
+    let keys = shape.keys;
+    let number = draw(random, 1 + book.started % 10000);
+    match draw(random, 8) {
+        0 => 0,
+        1 => 29999,
+        2 => draw(random, 30000),
+        3 => draw(random, 30000),
+        4 => 1,
+        _ => key(random, keys, number),
+    }
+}
+
+// A tick to ask for: past, present or later.
+fn asked_tick(random: &mut u64, last: u32) -> u32 {
+    match draw(random, 8) {
+        0 => 0,
+        1 => 4294967295 - draw(random, 3),
+        2 => last,
+        3 => std::num::wrapping_add_u32(last, draw(random, 100)),
+        4 => std::num::wrapping_sub_u32(last, draw(random, 100)),
+        _ => draw(random, last % 4294967295 + 1),
+    }
+}
+
+// The lower of two numbers.
+fn lower(a: u32, b: u32) -> u32
+    ensures { λ r. ⌜ r ≡ min a b ⌝ }
+{
+    if a < b {
+        return a;
+    }
+    b
+}
+
+// The higher of two numbers.
+fn higher(a: u32, b: u32) -> u32
+    ensures { λ r. ⌜ r ≡ max a b ⌝ }
+{
+    if a < b {
+        return b;
+    }
+    a
+}
+
+fn question_call(random: &mut u64, shape: Shape, book: PassBook) -> Call {
+    let one_key = asked_key(random, shape, book);
+    let other_key = asked_key(random, shape, book);
+    let one_tick = asked_tick(random, book.last);
+    let other_tick = asked_tick(random, book.last);
+    Call::Ask(Asked::Question {
+        k1: lower(one_key, other_key),
+        k2: std::num::wrapping_add_u32(higher(one_key, other_key), 1),
+        t1: lower(one_tick, other_tick),
+        t2: std::num::wrapping_add_u32(higher(one_tick, other_tick), 1),
+    })
+}
+
+fn lookup_call(random: &mut u64, shape: Shape, book: PassBook) -> Call {
+    let t = asked_tick(random, book.last);
+    let k = asked_key(random, shape, book);
+    if one_in(random, 2) {
+        return Call::Ask(Asked::LookupStarts { t, k });
+    }
+    Call::Ask(Asked::LookupEnds { t, k })
+}
+
+// The next call. Once in `anew` times, and where the list has no room for another pass, it is an opening anew; now and then it is one to be
+// refused.
+pub fn next_call(
+    random: &mut u64,
+    shape: Shape,
+    anew: u32,
+    passes: &[u32; NUMBERS],
+    book: PassBook,
+) -> Call
+    requires { ⌜ 1 ≤ anew ⌝ }
+{
+    if PASSES <= book.started {
+        return Call::Open;
+    }
+    if one_in(random, anew) {
+        return Call::Open;
+    }
+    match draw(random, 100) {
+        0..=3 => odd_call(random, book),
+        4..=45 => start_call(random, shape, book),
+        46..=84 => end_call(random, shape, passes, book),
+        85..=92 => lookup_call(random, shape, book),
+        _ => question_call(random, shape, book),
+    }
+}
