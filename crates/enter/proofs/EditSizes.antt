@@ -14,8 +14,8 @@ use Rattle.tree.proofs.PageCodec.{put-length, put-before}
 use Rattle.words.specs.declared.value.Value.{Value}
 use Rattle.words.specs.Value.{zero}
 use Rattle.tree.specs.Fresh.{newRow}
-use Rattle.page.specs.declared.search.Place.{Place}
-use Rattle.page.specs.declared.search.Place.the-variants.{At, Missing}
+use Rattle.ranges.specs.declared.search.Place.{Place}
+use Rattle.ranges.specs.declared.search.Place.the-variants.{At, Missing}
 use Rattle.tree.specs.RowSteps.{gained, cutAt, linkedTo}
 use Rattle.tree.specs.declared.types.Became.{Became}
 use Rattle.tree.specs.declared.types.Became.the-variants.{Stays, Copied, Halved}

@@ -4,11 +4,12 @@ use native.Mathlib.Omega.{arith}
 use mathlib.Core.Path.{_≡_, refl, sym, ap, _∙_}
 use mathlib.Core.List.{List}
 use Rattle.tree.specs.declared.types.Row.{Row}
-use Rattle.page.specs.declared.search.Place.the-variants.{At, Missing}
+use Rattle.ranges.specs.declared.search.Place.the-variants.{At, Missing}
 use Rattle.tree.specs.Row.{word, rowsOf, rowIn}
 use Rattle.tree.specs.KeyOrder.{Placed}
 use Rattle.tree.specs.TrueValue.{Search, none, one}
-use Rattle.page.specs.Survey.{placeFound, surveyOf, isAround, startsFrom}
+use Rattle.ranges.specs.Nearest.{placeFound}
+use Rattle.live.specs.Survey.{surveyOf, isAround, startsFrom}
 use Rattle.split.specs.declared.done.Done.{Done}
 use Rattle.tree.specs.Tree.{Tree, pageAt}
 use Rattle.tree.specs.RowSteps.{Point, rowAround}

@@ -21,8 +21,8 @@ use Rattle.tree.specs.declared.types.TreeUse.{TreeUse}
 use Rattle.tree.specs.declared.types.Became.{Became}
 use Rattle.tree.specs.declared.types.Became.the-variants.{Stays, Copied, Halved}
 use Rattle.tree.proofs.PageCodec.{put-length}
-use Rattle.page.specs.declared.search.Place.{Place}
-use Rattle.page.specs.declared.search.Place.the-variants.{At, Missing}
+use Rattle.ranges.specs.declared.search.Place.{Place}
+use Rattle.ranges.specs.declared.search.Place.the-variants.{At, Missing}
 use Rattle.enter.specs.declared.edits.Change.{Change}
 use Rattle.enter.specs.declared.edits.Change.the-variants.{Leaf, Lowest, Above}
 use Rattle.enter.specs.PageEdits.{replaceWords, gainWords, linkWords, changeWords, Within, ChangeWithin}

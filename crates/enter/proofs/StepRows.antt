@@ -14,7 +14,8 @@ use Rattle.tree.specs.declared.types.Row.{Row}
 use Rattle.tree.specs.Row.{word, rowAt, rowStart, rowsOf, headerWords, live, rowIn}
 use Rattle.tree.specs.KeyOrder.{Placed, keyOrder}
 use Rattle.tree.specs.TrueValue.{Search, none, one, first}
-use Rattle.page.specs.Survey.{placeFound, isAround, startsFrom}
+use Rattle.ranges.specs.Nearest.{placeFound}
+use Rattle.live.specs.Survey.{isAround, startsFrom}
 use Rattle.tree.specs.Edit.{ended, bornAt, appendRow, withRows}
 use Rattle.tree.specs.Fresh.{newRow}
 use Rattle.tree.proofs.Places.{AtPlace, order-places}

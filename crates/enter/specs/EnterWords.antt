@@ -6,9 +6,9 @@ use mathlib.Core.Bool.{true, cond}
 use lib.ListN.{length, take}
 use lib.Dec.{leb}
 use Rattle.words.specs.declared.value.Value.{Value}
-use Rattle.page.specs.declared.search.Place.{Place}
+use Rattle.ranges.specs.declared.search.Place.{Place}
 use Rattle.tree.specs.Row.{word, rowsOf, rowLimit, pageWords}
-use Rattle.page.specs.Survey.{surveyOf}
+use Rattle.live.specs.Survey.{surveyOf}
 use Rattle.page.specs.Entries.{orderSize}
 use Rattle.tree.specs.Fresh.{zeros}
 use Rattle.tree.specs.declared.types.TreeUse.{TreeUse}

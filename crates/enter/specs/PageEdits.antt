@@ -6,8 +6,8 @@ use lib.Dec.{eqb}
 use Rattle.words.specs.declared.value.Value.{Value}
 use Rattle.words.specs.Value.{zero}
 use Rattle.tree.specs.declared.types.Row.{Row}
-use Rattle.page.specs.declared.search.Place.{Place}
-use Rattle.page.specs.declared.search.Place.the-variants.{At, Missing}
+use Rattle.ranges.specs.declared.search.Place.{Place}
+use Rattle.ranges.specs.declared.search.Place.the-variants.{At, Missing}
 use Rattle.tree.specs.Row.{rowIn}
 use Rattle.tree.specs.Edit.{putRow, endRow, appendRow, bornAt}
 use Rattle.tree.specs.Fresh.{newRow}

@@ -1,7 +1,7 @@
 // The steps of an entry on the words of one page.
-use page::Place;
 use page::born_at;
 use page::gained_row;
+use ranges::Place;
 use tree::Became;
 use tree::Child;
 use tree::Row;

@@ -2,7 +2,7 @@
 use crate::edits::Change;
 use crate::edits::change_words;
 use page::Page;
-use page::Place;
+use ranges::Place;
 use split::Done;
 use split::split_page;
 use tree::Became;
@@ -140,7 +140,7 @@ fn enter_leaf(
 {
     let from = page * Page::WORDS;
     let to = from + Page::WORDS;
-    let survey = page::survey_page(&table[from..to], t, k);
+    let survey = live::survey_page(&table[from..to], t, k);
     let inner = survey.inner;
     let gain = survey.gain;
     let leaf = Change::Leaf {
@@ -173,7 +173,7 @@ pub fn enter_from(
     }
     let from = at * Page::WORDS;
     let to = from + Page::WORDS;
-    let survey = page::survey_page(&table[from..to], t, k);
+    let survey = live::survey_page(&table[from..to], t, k);
     let inner = survey.inner;
     let gain = survey.gain;
     let Place::At(place) = inner else {

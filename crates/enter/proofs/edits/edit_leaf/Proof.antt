@@ -1,7 +1,7 @@
 use mathlib.Core.Path.{ap, sym, _∙_}
 use native.Mathlib.Omega.{arith}
 use Rattle.enter.specs.PageEdits.{leafWords}
-use Rattle.page.specs.declared.search.Place.{Place}
+use Rattle.ranges.specs.declared.search.Place.{Place}
 use borrow.Author.Needs.{needs}
 use Rattle.enter.proofs.edits.edit_leaf.Statement.{statement}
 use Rattle.enter.proofs.edits.edit_leaf.Tie as tie
