@@ -19,7 +19,7 @@ use Rattle.tree.specs.RowSteps.{Point, rowAround, rowFrom, gainRows, leafRows, 
 use Rattle.tree.specs.declared.types.Became.{Became}
 use Rattle.tree.specs.Overflow.{Written, finishPage}
 use Rattle.tree.specs.Enter.{unwritten, enterFrom}
-use Rattle.enter.specs.PageEdits.{leafWords, gainWords, linkWords}
+use Rattle.row_steps.specs.PageEdits.{leafWords, gainWords, linkWords}
 use Rattle.enter.specs.EnterWords.{loaded, madeSo, settled, CanSettle, CanEnter, DoneAs, leafEdited, gainEdited, linkEdited}
 use Rattle.enter.proofs.SettleLaws.{settled-is-finished}
 use Rattle.enter.proofs.StepRows.{Seen, found-seen, RowsFit, gain-is-with, leaf-is-with, link-is-with}

@@ -14,7 +14,7 @@ use Rattle.split.specs.declared.done.Done.{Done}
 use Rattle.tree.specs.Tree.{Tree, pageAt}
 use Rattle.tree.specs.RowSteps.{Point, rowAround}
 use Rattle.tree.specs.Enter.{enterFrom}
-use Rattle.enter.specs.PageEdits.{Within}
+use Rattle.row_steps.specs.PageEdits.{Within}
 use Rattle.enter.specs.EnterWords.{madeSo, settled, CanSettle, CanEnter, DoneAs, leafEdited, gainEdited, linkEdited}
 use Rattle.enter.proofs.StepRows.{Seen, found-seen, found-within}
 use Rattle.enter.proofs.EnterLaws.{inside, leaf-can, leaf-is, lowest-can, lowest-is, child-can, above-can, above-is, above-rows}

@@ -20,9 +20,9 @@ use Rattle.tree.specs.declared.types.Became.the-variants.{Stays}
 use Rattle.tree.specs.Enter.{enterFrom}
 use Rattle.tree.specs.Plan.{descentSound}
 use Rattle.tree.specs.Overflow.{Written, splitPage, copiedRows}
-use Rattle.enter.specs.declared.edits.Change.{Change}
-use Rattle.enter.specs.declared.edits.Change.the-variants.{Leaf, Lowest, Above}
-use Rattle.enter.specs.PageEdits.{changeWords}
+use Rattle.row_steps.specs.declared.steps.Change.{Change}
+use Rattle.row_steps.specs.declared.steps.Change.the-variants.{Leaf, Lowest, Above}
+use Rattle.row_steps.specs.PageEdits.{changeWords}
 
 -- The copy of a page has room for the 3 rows that one entry may append
 abbrev pub copyWords : ℕ

@@ -1,8 +1,8 @@
 // Entering a point: the descent calls itself on the child page, and each page is edited on the way back up.
-use crate::edits::Change;
-use crate::edits::change_words;
 use page::Page;
 use ranges::Place;
+use row_steps::Change;
+use row_steps::change_words;
 use split::Done;
 use split::split_page;
 use tree::Became;
@@ -15,7 +15,7 @@ ghost use lib.ListN.{length, take};
 ghost use Rattle.words.specs.Overwrite.{overwrite};
 ghost use Rattle.tree.specs.Row.{pageWords, rowLimit, rowStart, word};
 ghost use Rattle.tree.specs.Tree.{pageAt, putPage};
-ghost use Rattle.enter.specs.PageEdits.{ChangeWithin};
+ghost use Rattle.row_steps.specs.PageEdits.{ChangeWithin};
 ghost use Rattle.enter.specs.EnterWords.{loaded, copyWords, useOf, pointAt, settled, madeSo, changed, leafEdited, DoneAs, CanSettle, CanEnter};
 ghost use Rattle.tree.specs.Enter.{enterFrom};
 

@@ -12,7 +12,7 @@ use Rattle.live.specs.declared.survey.Survey.{Survey}
 use Rattle.ranges.specs.declared.search.Place.the-variants.{At}
 use Rattle.live.specs.Survey.{surveyOf}
 use Rattle.enter.specs.EnterWords.{useOf, pointAt, CanEnter, DoneAs, leafEdited, gainEdited, linkEdited}
-use Rattle.enter.specs.PageEdits.{Within}
+use Rattle.row_steps.specs.PageEdits.{Within}
 use Rattle.enter.proofs.CopyLaws.{part-is, part-length}
 use Rattle.enter.proofs.EnterLaws.{few-rows, inside}
 use Rattle.enter.proofs.EnterSteps.{Settles, gain-within, leaf-step, lowest-step, place-inside, child-step, above-step}

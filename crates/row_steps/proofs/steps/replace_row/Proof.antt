@@ -2,10 +2,10 @@ use borrow.Author.Tests.{eq-eqb, ne-eqb}
 use native.Mathlib.Omega.{arith}
 use mathlib.Core.Path.{ap₂, _∙_}
 use Rattle.tree.specs.Edit.{appendRow}
-use Rattle.enter.proofs.EditSizes.{end-room}
+use Rattle.row_steps.proofs.EditSizes.{end-room}
 use borrow.Author.Needs.{needs}
-use Rattle.enter.proofs.edits.replace_row.Statement.{statement}
-use Rattle.enter.proofs.edits.replace_row.Tie as tie
+use Rattle.row_steps.proofs.steps.replace_row.Statement.{statement}
+use Rattle.row_steps.proofs.steps.replace_row.Tie as tie
 
 put-row-requires : tie.Need-put-row-requires
 put-row-requires c κs = search needs

@@ -1,8 +1,8 @@
 use mathlib.Core.Path.{ap, sym, _∙_}
-use Rattle.enter.specs.PageEdits.{gainWords}
+use Rattle.row_steps.specs.PageEdits.{gainWords}
 use borrow.Author.Needs.{needs}
-use Rattle.enter.proofs.edits.gain_row.Statement.{statement}
-use Rattle.enter.proofs.edits.gain_row.Tie as tie
+use Rattle.row_steps.proofs.steps.gain_row.Statement.{statement}
+use Rattle.row_steps.proofs.steps.gain_row.Tie as tie
 
 enum-known-gain : tie.Need-enum-known-gain
 enum-known-gain c = search needs

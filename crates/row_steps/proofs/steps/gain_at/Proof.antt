@@ -1,6 +1,6 @@
 use borrow.Author.Needs.{needs}
-use Rattle.enter.proofs.edits.gain_at.Statement.{statement}
-use Rattle.enter.proofs.edits.gain_at.Tie as tie
+use Rattle.row_steps.proofs.steps.gain_at.Statement.{statement}
+use Rattle.row_steps.proofs.steps.gain_at.Tie as tie
 
 row-at-requires : tie.Need-row-at-requires
 row-at-requires c κs = search needs

@@ -1,8 +1,8 @@
 use native.Mathlib.Omega.{arith}
-use Rattle.enter.proofs.EditSizes.{replace-grown}
+use Rattle.row_steps.proofs.EditSizes.{replace-grown}
 use borrow.Author.Needs.{needs}
-use Rattle.enter.proofs.edits.cut_at.Statement.{statement}
-use Rattle.enter.proofs.edits.cut_at.Tie as tie
+use Rattle.row_steps.proofs.steps.cut_at.Statement.{statement}
+use Rattle.row_steps.proofs.steps.cut_at.Tie as tie
 
 row-at-requires : tie.Need-row-at-requires
 row-at-requires c κs = search needs

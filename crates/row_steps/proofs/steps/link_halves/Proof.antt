@@ -1,12 +1,12 @@
 use mathlib.Core.Path.{ap, ap₂, _∙_}
 use Rattle.tree.specs.Edit.{appendRow}
 use Rattle.tree.specs.Fresh.{newRow}
-use Rattle.enter.specs.PageEdits.{replaceWords}
+use Rattle.row_steps.specs.PageEdits.{replaceWords}
 use native.Mathlib.Omega.{arith}
-use Rattle.enter.proofs.EditSizes.{replace-grown}
+use Rattle.row_steps.proofs.EditSizes.{replace-grown}
 use borrow.Author.Needs.{needs}
-use Rattle.enter.proofs.edits.link_halves.Statement.{statement}
-use Rattle.enter.proofs.edits.link_halves.Tie as tie
+use Rattle.row_steps.proofs.steps.link_halves.Statement.{statement}
+use Rattle.row_steps.proofs.steps.link_halves.Tie as tie
 
 linked-row-requires : tie.Need-linked-row-requires
 linked-row-requires c κs = search needs

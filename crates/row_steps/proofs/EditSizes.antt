@@ -19,9 +19,9 @@ use Rattle.ranges.specs.declared.search.Place.the-variants.{At, Missing}
 use Rattle.tree.specs.RowSteps.{gained, cutAt, linkedTo}
 use Rattle.tree.specs.declared.types.Became.{Became}
 use Rattle.tree.specs.declared.types.Became.the-variants.{Stays, Copied, Halved}
-use Rattle.enter.specs.declared.edits.Change.{Change}
-use Rattle.enter.specs.declared.edits.Change.the-variants.{Leaf, Lowest, Above}
-use Rattle.enter.specs.PageEdits.{replaceWords, gainWords, linkWords, changeWords, Within, ChangeWithin}
+use Rattle.row_steps.specs.declared.steps.Change.{Change}
+use Rattle.row_steps.specs.declared.steps.Change.the-variants.{Leaf, Lowest, Above}
+use Rattle.row_steps.specs.PageEdits.{replaceWords, gainWords, linkWords, changeWords, Within, ChangeWithin}
 
 module _ (page : List ℕ) (r : Row) (room : rowStart (word page 1 + 1) ≤ length page) where
   put-fits : rowStart (word page 1) + rowWords ≤ length page

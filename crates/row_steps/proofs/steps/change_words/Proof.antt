@@ -1,9 +1,9 @@
 use native.Mathlib.Omega.{arith}
 use mathlib.Core.Path.{ap, sym, _∙_}
-use Rattle.enter.specs.PageEdits.{changeWords}
+use Rattle.row_steps.specs.PageEdits.{changeWords}
 use borrow.Author.Needs.{needs}
-use Rattle.enter.proofs.edits.change_words.Statement.{statement}
-use Rattle.enter.proofs.edits.change_words.Tie as tie
+use Rattle.row_steps.proofs.steps.change_words.Statement.{statement}
+use Rattle.row_steps.proofs.steps.change_words.Tie as tie
 
 enum-known-change : tie.Need-enum-known-change
 enum-known-change c = search needs

@@ -11,7 +11,7 @@ ghost use Prim.Native.Nat.{_+_, _≤_, _<_};
 ghost use lib.ListN.{length};
 ghost use Rattle.tree.specs.Row.{rowStart, rowWords, word};
 ghost use Rattle.tree.specs.RowSteps.{cutAt, linkedTo};
-ghost use Rattle.enter.specs.PageEdits.{replaceWords, gainWords, cutWords, leafWords, linkWords, changeWords, Within, ChangeWithin};
+ghost use Rattle.row_steps.specs.PageEdits.{replaceWords, gainWords, cutWords, leafWords, linkWords, changeWords, Within, ChangeWithin};
 
 // What an entry does to one page, by the places of rows that the survey of the page found: to a leaf, to a lowest page above the leaves, or
 // to a page above the lowest, whose row at `place` follows what the page below became.

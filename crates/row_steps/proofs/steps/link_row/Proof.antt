@@ -1,8 +1,8 @@
 use mathlib.Core.Path.{ap, sym, _∙_}
-use Rattle.enter.specs.PageEdits.{linkWords}
+use Rattle.row_steps.specs.PageEdits.{linkWords}
 use borrow.Author.Needs.{needs}
-use Rattle.enter.proofs.edits.link_row.Statement.{statement}
-use Rattle.enter.proofs.edits.link_row.Tie as tie
+use Rattle.row_steps.proofs.steps.link_row.Statement.{statement}
+use Rattle.row_steps.proofs.steps.link_row.Tie as tie
 
 enum-told : tie.Need-enum-told
 enum-told c = search needs

@@ -1,10 +1,10 @@
 use mathlib.Core.Path.{ap, sym, _∙_}
 use native.Mathlib.Omega.{arith}
-use Rattle.enter.specs.PageEdits.{leafWords}
+use Rattle.row_steps.specs.PageEdits.{leafWords}
 use Rattle.ranges.specs.declared.search.Place.{Place}
 use borrow.Author.Needs.{needs}
-use Rattle.enter.proofs.edits.edit_leaf.Statement.{statement}
-use Rattle.enter.proofs.edits.edit_leaf.Tie as tie
+use Rattle.row_steps.proofs.steps.edit_leaf.Statement.{statement}
+use Rattle.row_steps.proofs.steps.edit_leaf.Tie as tie
 
 enum-known-inner : tie.Need-enum-known-inner
 enum-known-inner c = search needs

@@ -3,11 +3,11 @@ use mathlib.Core.Path.{ap₂, _∙_}
 use mathlib.Core.List.{List}
 use Prim.Native.Nat.{ℕ}
 use Rattle.tree.specs.declared.types.Row.{Row}
-use Rattle.enter.specs.PageEdits.{linkWords}
-use Rattle.enter.proofs.EditSizes.{gain-grown}
+use Rattle.row_steps.specs.PageEdits.{linkWords}
+use Rattle.row_steps.proofs.EditSizes.{gain-grown}
 use borrow.Author.Needs.{needs}
-use Rattle.enter.proofs.edits.gain_and_link.Statement.{statement}
-use Rattle.enter.proofs.edits.gain_and_link.Tie as tie
+use Rattle.row_steps.proofs.steps.gain_and_link.Statement.{statement}
+use Rattle.row_steps.proofs.steps.gain_and_link.Tie as tie
 
 row-at-requires : tie.Need-row-at-requires
 row-at-requires c κs = search needs

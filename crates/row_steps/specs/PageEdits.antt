@@ -15,8 +15,8 @@ use Rattle.tree.specs.RowSteps.{gained, cutAt, linkedTo}
 use Rattle.tree.specs.declared.types.Child.{Child}
 use Rattle.tree.specs.declared.types.Became.{Became}
 use Rattle.tree.specs.declared.types.Became.the-variants.{Stays, Copied, Halved}
-use Rattle.enter.specs.declared.edits.Change.{Change}
-use Rattle.enter.specs.declared.edits.Change.the-variants.{Leaf, Lowest, Above}
+use Rattle.row_steps.specs.declared.steps.Change.{Change}
+use Rattle.row_steps.specs.declared.steps.Change.the-variants.{Leaf, Lowest, Above}
 
 -- A place that was found is one of the page's n rows
 abbrev pub Within : ℕ → Place → Type 0

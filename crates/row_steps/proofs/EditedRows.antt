@@ -15,7 +15,7 @@ use Rattle.tree.proofs.Lists.{all-set, all-append}
 use Rattle.tree.proofs.PageCodec.{Fits, row-fits, rows-fit, rows-length, with-length, with-count, with-rows}
 use Rattle.page.proofs.WithRows.{put-is-with, append-is-with, with-with}
 use Rattle.tree.specs.RowSteps.{replaceRow}
-use Rattle.enter.specs.PageEdits.{replaceWords}
+use Rattle.row_steps.specs.PageEdits.{replaceWords}
 
 -- A page with n rows before, and rows after
 pub append-to-with : (page : List ℕ) (rows : List Row) (r : Row) → All Fits rows → rowStart (length rows + 1) ≤ length page →
