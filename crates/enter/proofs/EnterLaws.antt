@@ -8,7 +8,8 @@ use Rattle.tree.specs.declared.types.Row.{Row}
 use Rattle.tree.specs.Row.{word, rowStart, rowsOf, pageWords, rowLimit, rowIn}
 use Rattle.tree.specs.KeyOrder.{Placed}
 use Rattle.tree.specs.TrueValue.{none, one}
-use Rattle.page.specs.Survey.{placeFound, isAround}
+use Rattle.ranges.specs.Nearest.{placeFound}
+use Rattle.live.specs.Survey.{isAround}
 use Rattle.tree.specs.Edit.{withRows}
 use Rattle.tree.specs.Fresh.{zeros}
 use Rattle.tree.proofs.PageCodec.{with-length, with-count}
@@ -18,7 +19,7 @@ use Rattle.tree.specs.RowSteps.{Point, rowAround, rowFrom, gainRows, leafRows, 
 use Rattle.tree.specs.declared.types.Became.{Became}
 use Rattle.tree.specs.Overflow.{Written, finishPage}
 use Rattle.tree.specs.Enter.{unwritten, enterFrom}
-use Rattle.enter.specs.PageEdits.{leafWords, gainWords, linkWords}
+use Rattle.row_steps.specs.PageEdits.{leafWords, gainWords, linkWords}
 use Rattle.enter.specs.EnterWords.{loaded, madeSo, settled, CanSettle, CanEnter, DoneAs, leafEdited, gainEdited, linkEdited}
 use Rattle.enter.proofs.SettleLaws.{settled-is-finished}
 use Rattle.enter.proofs.StepRows.{Seen, found-seen, RowsFit, gain-is-with, leaf-is-with, link-is-with}

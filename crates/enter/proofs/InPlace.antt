@@ -21,13 +21,13 @@ use Rattle.tree.specs.declared.types.TreeUse.{TreeUse}
 use Rattle.tree.specs.declared.types.Became.{Became}
 use Rattle.tree.specs.declared.types.Became.the-variants.{Stays, Copied, Halved}
 use Rattle.tree.proofs.PageCodec.{put-length}
-use Rattle.page.specs.declared.search.Place.{Place}
-use Rattle.page.specs.declared.search.Place.the-variants.{At, Missing}
-use Rattle.enter.specs.declared.edits.Change.{Change}
-use Rattle.enter.specs.declared.edits.Change.the-variants.{Leaf, Lowest, Above}
-use Rattle.enter.specs.PageEdits.{replaceWords, gainWords, linkWords, changeWords, Within, ChangeWithin}
+use Rattle.ranges.specs.declared.search.Place.{Place}
+use Rattle.ranges.specs.declared.search.Place.the-variants.{At, Missing}
+use Rattle.row_steps.specs.declared.steps.Change.{Change}
+use Rattle.row_steps.specs.declared.steps.Change.the-variants.{Leaf, Lowest, Above}
+use Rattle.row_steps.specs.PageEdits.{replaceWords, gainWords, linkWords, changeWords, Within, ChangeWithin}
 use Rattle.enter.specs.EnterWords.{settled, changed}
-use Rattle.enter.proofs.EditSizes.{end-room, replace-grown, gain-grown, change-grown}
+use Rattle.row_steps.proofs.EditSizes.{end-room, replace-grown, gain-grown, change-grown}
 use Rattle.enter.proofs.SettleLaws.{settled-stays, word-front, row-front}
 
 module _ (extra : List ℕ) where

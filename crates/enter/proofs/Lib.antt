@@ -1,6 +1,4 @@
--- Laws of entering a point: the edits of one page, the split, the descent, and the root list.
-pub mod EditSizes
-pub mod EditedRows
+-- Laws of entering a point: what becomes of one page, the split, the descent, and the root list.
 pub mod StepRows
 pub mod CopyLaws
 pub mod SettleLaws

@@ -14,7 +14,8 @@ use Rattle.tree.specs.declared.types.Row.{Row}
 use Rattle.tree.specs.Row.{word, rowAt, rowStart, rowsOf, headerWords, live, rowIn}
 use Rattle.tree.specs.KeyOrder.{Placed, keyOrder}
 use Rattle.tree.specs.TrueValue.{Search, none, one, first}
-use Rattle.page.specs.Survey.{placeFound, isAround, startsFrom}
+use Rattle.ranges.specs.Nearest.{placeFound}
+use Rattle.live.specs.Survey.{isAround, startsFrom}
 use Rattle.tree.specs.Edit.{ended, bornAt, appendRow, withRows}
 use Rattle.tree.specs.Fresh.{newRow}
 use Rattle.tree.proofs.Places.{AtPlace, order-places}
@@ -25,8 +26,8 @@ use Rattle.tree.specs.RowSteps.{Point, gained, cutAt, linkedTo, replaceRow, row
 use Rattle.tree.specs.declared.types.Child.{Child}
 use Rattle.tree.specs.declared.types.Became.{Became}
 use Rattle.tree.specs.declared.types.Became.the-variants.{Stays, Copied, Halved}
-use Rattle.enter.specs.PageEdits.{Within, replaceWords, gainWords, leafWords, linkWords}
-use Rattle.enter.proofs.EditedRows.{replace-is-with, replace-and-add, replaced-fits, replaced-length, replaced-most}
+use Rattle.row_steps.specs.PageEdits.{Within, replaceWords, gainWords, leafWords, linkWords}
+use Rattle.row_steps.proofs.EditedRows.{replace-is-with, replace-and-add, replaced-fits, replaced-length, replaced-most}
 
 -- A row that a search in the key order of a page finds: it stands at its place, and passes the test
 pub record Seen (t : ℕ) (page : List ℕ) (test : Placed → Bool) (x : Placed) : Type 0 where

@@ -6,9 +6,9 @@ use mathlib.Core.Bool.{true, cond}
 use lib.ListN.{length, take}
 use lib.Dec.{leb}
 use Rattle.words.specs.declared.value.Value.{Value}
-use Rattle.page.specs.declared.search.Place.{Place}
+use Rattle.ranges.specs.declared.search.Place.{Place}
 use Rattle.tree.specs.Row.{word, rowsOf, rowLimit, pageWords}
-use Rattle.page.specs.Survey.{surveyOf}
+use Rattle.live.specs.Survey.{surveyOf}
 use Rattle.page.specs.Entries.{orderSize}
 use Rattle.tree.specs.Fresh.{zeros}
 use Rattle.tree.specs.declared.types.TreeUse.{TreeUse}
@@ -20,9 +20,9 @@ use Rattle.tree.specs.declared.types.Became.the-variants.{Stays}
 use Rattle.tree.specs.Enter.{enterFrom}
 use Rattle.tree.specs.Plan.{descentSound}
 use Rattle.tree.specs.Overflow.{Written, splitPage, copiedRows}
-use Rattle.enter.specs.declared.edits.Change.{Change}
-use Rattle.enter.specs.declared.edits.Change.the-variants.{Leaf, Lowest, Above}
-use Rattle.enter.specs.PageEdits.{changeWords}
+use Rattle.row_steps.specs.declared.steps.Change.{Change}
+use Rattle.row_steps.specs.declared.steps.Change.the-variants.{Leaf, Lowest, Above}
+use Rattle.row_steps.specs.PageEdits.{changeWords}
 
 -- The copy of a page has room for the 3 rows that one entry may append
 abbrev pub copyWords : ℕ

@@ -1,4 +1,3 @@
 -- Entering a point as the code does it.
-pub mod PageEdits
 pub mod EnterWords
 pub mod EnterRoot

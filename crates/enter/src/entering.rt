@@ -1,8 +1,8 @@
 // Entering a point: the descent calls itself on the child page, and each page is edited on the way back up.
-use crate::edits::Change;
-use crate::edits::change_words;
 use page::Page;
-use page::Place;
+use ranges::Place;
+use row_steps::Change;
+use row_steps::change_words;
 use split::Done;
 use split::split_page;
 use tree::Became;
@@ -15,7 +15,7 @@ ghost use lib.ListN.{length, take};
 ghost use Rattle.words.specs.Overwrite.{overwrite};
 ghost use Rattle.tree.specs.Row.{pageWords, rowLimit, rowStart, word};
 ghost use Rattle.tree.specs.Tree.{pageAt, putPage};
-ghost use Rattle.enter.specs.PageEdits.{ChangeWithin};
+ghost use Rattle.row_steps.specs.PageEdits.{ChangeWithin};
 ghost use Rattle.enter.specs.EnterWords.{loaded, copyWords, useOf, pointAt, settled, madeSo, changed, leafEdited, DoneAs, CanSettle, CanEnter};
 ghost use Rattle.tree.specs.Enter.{enterFrom};
 
@@ -140,7 +140,7 @@ fn enter_leaf(
 {
     let from = page * Page::WORDS;
     let to = from + Page::WORDS;
-    let survey = page::survey_page(&table[from..to], t, k);
+    let survey = live::survey_page(&table[from..to], t, k);
     let inner = survey.inner;
     let gain = survey.gain;
     let leaf = Change::Leaf {
@@ -173,7 +173,7 @@ pub fn enter_from(
     }
     let from = at * Page::WORDS;
     let to = from + Page::WORDS;
-    let survey = page::survey_page(&table[from..to], t, k);
+    let survey = live::survey_page(&table[from..to], t, k);
     let inner = survey.inner;
     let gain = survey.gain;
     let Place::At(place) = inner else {

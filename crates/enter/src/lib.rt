@@ -1,5 +1,4 @@
 // Entering a planned point into one tree, in a lent page table and a lent root list.
-mod edits;
 mod entering;
 mod growing;
 

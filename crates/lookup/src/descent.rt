@@ -40,7 +40,7 @@ fn open_page(
     if page < used.pages {
         let from = page as usize * Page::WORDS;
         let to = from + Page::WORDS;
-        return page::read_page(&table[from..to], level, low, high, t, k);
+        return live::read_page(&table[from..to], level, low, high, t, k);
     }
     Held::Spoiled
 }

@@ -3,7 +3,7 @@
 use crate::descent::Top;
 use crate::descent::descend_from;
 use crate::descent::find_top;
-use page::HeldTwo;
+use live::HeldTwo;
 use page::Page;
 use tree::Held;
 use tree::Lookup;
@@ -63,7 +63,7 @@ fn open_page_for_two(
     if page < used.pages {
         let from = page as usize * Page::WORDS;
         let to = from + Page::WORDS;
-        return page::read_page_for_two(
+        return live::read_page_for_two(
             &table[from..to],
             level,
             low,

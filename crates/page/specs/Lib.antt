@@ -1,9 +1,3 @@
--- One page as the code has it: its live rows in arrays, what is read from them, their key order, a page as a value.
-pub mod LiveRows
-pub mod TileTest
-pub mod Nearest
-pub mod LiveHeld
-pub mod Tested
-pub mod Survey
+-- One page as the code has it: the key order of its live rows, a page as a value.
 pub mod Entries
 pub mod PageValue

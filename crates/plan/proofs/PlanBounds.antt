@@ -8,13 +8,14 @@ use lib.Dec.{leb, ltb, eqb}
 use lib.ListN.{length}
 use borrow.Author.Tests.{ltb-true}
 use Rattle.tree.specs.declared.types.Row.{Row}
-use Rattle.page.specs.declared.search.Place.{Place}
-use Rattle.page.specs.declared.search.Place.the-variants as place
+use Rattle.ranges.specs.declared.search.Place.{Place}
+use Rattle.ranges.specs.declared.search.Place.the-variants as place
 use Rattle.tree.specs.Row.{word, rowAt, rowStart, rowsOf, headerWords, live, rowLimit, copyLimit}
 use Rattle.tree.specs.KeyOrder.{Placed, keyOrder}
 use Rattle.tree.specs.TrueValue.{Search, none, one, first}
 use Rattle.tree.specs.PageTest.{soundAt}
-use Rattle.page.specs.Survey.{surveyOf, isAround, placeFound}
+use Rattle.ranges.specs.Nearest.{placeFound}
+use Rattle.live.specs.Survey.{surveyOf, isAround}
 use Rattle.page.proofs.EntryLaws.{Seated, order-seated}
 use Rattle.tree.proofs.Searches.{first-has, first-passes}
 use Rattle.page.proofs.PageReadings.{sound-few}

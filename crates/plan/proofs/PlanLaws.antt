@@ -12,7 +12,8 @@ use Rattle.tree.specs.Row.{word, rowsOf, headerWords, live, rowLimit, copyLimit
 use Rattle.tree.specs.KeyOrder.{Placed, keyOrder}
 use Rattle.tree.specs.TrueValue.{Search, none, one, first}
 use Rattle.tree.specs.PageTest.{soundAt}
-use Rattle.page.specs.Survey.{placeFound, startsFrom, isAround, surveyOf}
+use Rattle.ranges.specs.Nearest.{placeFound}
+use Rattle.live.specs.Survey.{startsFrom, isAround, surveyOf}
 use Rattle.tree.proofs.Lists.{count}
 use Rattle.page.proofs.EntryLaws.{Seated, order-seated}
 use Rattle.tree.proofs.Searches.{first-has}

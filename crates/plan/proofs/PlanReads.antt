@@ -7,15 +7,16 @@ use mathlib.Core.List.{List}
 use lib.ListN.{length}
 use borrow.Author.Tests.{eq-eqb, ne-eqb}
 use Rattle.tree.specs.declared.types.Row.{Row}
-use Rattle.page.specs.declared.search.Place.{Place}
-use Rattle.page.specs.declared.search.Place.the-variants as place
-use Rattle.page.specs.declared.survey.Survey.{Survey}
-use Rattle.page.specs.declared.survey.Surveyed.the-variants as surveyed
+use Rattle.ranges.specs.declared.search.Place.{Place}
+use Rattle.ranges.specs.declared.search.Place.the-variants as place
+use Rattle.live.specs.declared.survey.Survey.{Survey}
+use Rattle.live.specs.declared.survey.Surveyed.the-variants as surveyed
 use Rattle.tree.specs.Row.{word, rowAt, rowStart, rowWords, rowsOf, rowLimit, pageWords}
 use Rattle.tree.specs.KeyOrder.{Placed, keyOrder}
 use Rattle.tree.specs.TrueValue.{Search, none, one, first}
 use Rattle.tree.specs.PageTest.{soundAt}
-use Rattle.page.specs.Survey.{placeFound, startsFrom, isAround, surveyOf}
+use Rattle.ranges.specs.Nearest.{placeFound}
+use Rattle.live.specs.Survey.{startsFrom, isAround, surveyOf}
 use Rattle.page.proofs.PageReadings.{sound-few}
 use Rattle.plan.specs.declared.planning.Met.the-variants as met
 use Rattle.plan.specs.PlanSteps.{InWords, appended, countsOf, metAround, metSurvey, metWords}

@@ -7,12 +7,12 @@ use lib.ListN.{length}
 use lib.Dec.{leb, ltb, eqb}
 use Rattle.words.specs.Words.{birthOf}
 use Rattle.tree.specs.declared.types.Row.{Row}
-use Rattle.page.specs.declared.search.Place.{Place}
-use Rattle.page.specs.declared.search.Place.the-variants as place
-use Rattle.page.specs.declared.survey.Survey.{Survey}
+use Rattle.ranges.specs.declared.search.Place.{Place}
+use Rattle.ranges.specs.declared.search.Place.the-variants as place
+use Rattle.live.specs.declared.survey.Survey.{Survey}
 use Rattle.tree.specs.Row.{rowAt, rowStart, rowWords, rowLimit, copyLimit}
 use Rattle.tree.specs.PageTest.{soundAt}
-use Rattle.page.specs.Survey.{surveyOf}
+use Rattle.live.specs.Survey.{surveyOf}
 use Rattle.plan.specs.declared.planning.Counts.{Counts}
 use Rattle.plan.specs.declared.planning.Met.{Met}
 use Rattle.plan.specs.declared.planning.Met.the-variants as met

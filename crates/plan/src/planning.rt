@@ -1,9 +1,9 @@
 // The plan of an entry, made before anything is written: whether a spoiled page is met, how many pages the entry makes, and what it
 // does to the root list. Only counts of rows decide that, so the plan reads each page once and copies no row.
+use live::Surveyed;
 use lookup::find_root;
 use page::Page;
-use page::Place;
-use page::Surveyed;
+use ranges::Place;
 use tree::Plan;
 use tree::Root;
 use tree::RootChange;
@@ -67,7 +67,7 @@ fn meet_words(words: &[u64], level: u64, low: u16, high: u16, t: u32, k: u16) ->
     requires { ⌜ low < high ⌝ }
     ensures { λ r. ⌜ r ≡ metWords t k level low high (now (words .entry)) ⌝ }
 {
-    let surveyed = page::survey_sound(words, level, low, high, t, k);
+    let surveyed = live::survey_sound(words, level, low, high, t, k);
     let Surveyed::Sound(survey) = surveyed else {
         return Met::Spoiled;
     };

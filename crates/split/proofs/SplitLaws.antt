@@ -19,7 +19,7 @@ use Rattle.tree.specs.TrueValue.{totalWhere}
 use Rattle.tree.specs.Fresh.{freshPage}
 use Rattle.page.specs.Entries.{entryPlace}
 use Rattle.page.specs.PageValue.{pageRows, encodePage, emptyPage, withRow, noRows}
-use Rattle.page.proofs.LoopLaws.{drop-here}
+use Rattle.words.proofs.LoopLaws.{drop-here}
 use Rattle.tree.proofs.OrderTotals.{total-stored}
 use Rattle.tree.specs.RowSteps.{gained}
 use Rattle.tree.specs.Overflow.{gainFirst, totalOf}

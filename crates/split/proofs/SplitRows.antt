@@ -18,7 +18,7 @@ use Rattle.tree.proofs.Lists.{all-drop, map-take, map-drop}
 use Rattle.page.specs.PageValue.{encodePage, emptyPage}
 use Rattle.page.specs.Entries.{orderSize, entryOf, entryPlace, InPage}
 use Rattle.page.proofs.EntryLaws.{Seated, seated-place, order-seated}
-use Rattle.page.proofs.LoopLaws.{drop-here}
+use Rattle.words.proofs.LoopLaws.{drop-here}
 use Rattle.page.proofs.PageReadings.{in-page, entries-are}
 use Rattle.tree.specs.declared.types.TreeUse.{TreeUse}
 use Rattle.tree.specs.Tree.{putPage}

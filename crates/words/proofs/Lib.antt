@@ -1,4 +1,5 @@
--- Theorems about words and values.
+-- Theorems about words and values, and laws of loops.
 pub mod ValueLaws
 pub mod Measure
 pub mod OverwriteLaws
+pub mod LoopLaws

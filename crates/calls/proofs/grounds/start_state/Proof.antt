@@ -1,4 +1,4 @@
-use Rattle.page.proofs.Tests.{tests}
+use Rattle.tree.proofs.ReplacedRows.{tests}
 use Rattle.store.specs.Refusals.{firstMet}
 use borrow.Author.Needs.{needs}
 use Rattle.calls.proofs.grounds.start_state.Statement.{statement}

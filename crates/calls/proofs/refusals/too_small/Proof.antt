@@ -1,4 +1,4 @@
-use Rattle.page.proofs.Tests.{tests}
+use Rattle.tree.proofs.ReplacedRows.{tests}
 use borrow.Author.Needs.{needs}
 use Rattle.calls.proofs.refusals.too_small.Statement.{statement}
 use Rattle.calls.proofs.refusals.too_small.Tie as tie

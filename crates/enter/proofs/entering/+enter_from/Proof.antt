@@ -8,11 +8,11 @@ use Rattle.tree.specs.declared.types.Row.{Row}
 use Rattle.tree.specs.Tree.{Tree, pageAt}
 use Rattle.tree.specs.RowSteps.{Point}
 use Rattle.tree.specs.Enter.{enterFrom}
-use Rattle.page.specs.declared.survey.Survey.{Survey}
-use Rattle.page.specs.declared.search.Place.the-variants.{At}
-use Rattle.page.specs.Survey.{surveyOf}
+use Rattle.live.specs.declared.survey.Survey.{Survey}
+use Rattle.ranges.specs.declared.search.Place.the-variants.{At}
+use Rattle.live.specs.Survey.{surveyOf}
 use Rattle.enter.specs.EnterWords.{useOf, pointAt, CanEnter, DoneAs, leafEdited, gainEdited, linkEdited}
-use Rattle.enter.specs.PageEdits.{Within}
+use Rattle.row_steps.specs.PageEdits.{Within}
 use Rattle.enter.proofs.CopyLaws.{part-is, part-length}
 use Rattle.enter.proofs.EnterLaws.{few-rows, inside}
 use Rattle.enter.proofs.EnterSteps.{Settles, gain-within, leaf-step, lowest-step, place-inside, child-step, above-step}
@@ -25,7 +25,7 @@ use Rattle.enter.proofs.entering.+enter_from.Lts-enter_from as enter-fr
 use Rattle.enter.proofs.entering.enter_leaf.Reads as enter-leaf-reads
 use Rattle.enter.proofs.entering.change_page.Reads as change-page-reads
 use Rattle.page.proofs.row_at.Reads as row-at-reads
-use Rattle.page.proofs.survey_page.Reads as survey-page-reads
+use Rattle.live.proofs.survey_page.Reads as survey-page-reads
 use Rattle.enter.proofs.entering.+enter_from.{statement}
 use Rattle.enter.proofs.entering.+enter_from.Tie.{close}
 

@@ -8,7 +8,7 @@ use Rattle.tree.specs.Row.{word, pageWords}
 use Rattle.tree.specs.Tree.{pageAt}
 use Rattle.tree.specs.Overflow.{Written}
 use Rattle.tree.proofs.TableLaws.{page-length}
-use Rattle.enter.specs.PageEdits.{changeWords}
+use Rattle.row_steps.specs.PageEdits.{changeWords}
 use Rattle.enter.specs.EnterWords.{madeSo, changed}
 use Rattle.enter.proofs.CopyLaws.{part-is, part-back, page-count}
 use Rattle.enter.proofs.SettleLaws.{loaded-count, loaded-length}

@@ -2,7 +2,7 @@ use Prim.Native.Nat.{ℕ}
 use mathlib.Core.Path.{_≡_, ap, _∙_}
 use mathlib.Core.List.{List}
 use Rattle.tree.specs.Tree.{pageAt}
-use Rattle.page.specs.Survey.{surveyOf, isAround, startsFrom}
+use Rattle.live.specs.Survey.{surveyOf, isAround, startsFrom}
 use Rattle.enter.proofs.CopyLaws.{part-is, part-length}
 use Rattle.enter.proofs.StepRows.{found-within}
 use borrow.Author.Needs.{needs}

@@ -8,7 +8,7 @@ use Rattle.tree.specs.Edit.{bornAt}
 use Rattle.page.specs.declared.fresh.Page.{Page}
 use Rattle.page.specs.PageValue.{withRow, emptyPage}
 use Rattle.page.specs.Entries.{orderSize, entryPlace, InPage}
-use Rattle.page.proofs.LoopLaws.{all-here}
+use Rattle.words.proofs.LoopLaws.{all-here}
 use Rattle.split.specs.SplitWords.{between, copyOf, fillPage}
 use Rattle.split.proofs.SplitLaws.{fill-more, fill-none}
 use borrow.Author.Needs.{needs}

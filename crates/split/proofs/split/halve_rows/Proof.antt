@@ -11,7 +11,7 @@ use Rattle.page.specs.declared.fresh.Page.{Page}
 use Rattle.tree.specs.Row.{word, rowStart, rowWords, copyLimit, rowIn}
 use Rattle.page.specs.PageValue.{emptyPage, encodePage}
 use Rattle.page.specs.Entries.{orderSize, entryPlace}
-use Rattle.page.proofs.LoopLaws.{all-here}
+use Rattle.words.proofs.LoopLaws.{all-here}
 use Rattle.tree.specs.Tree.{putPage}
 use Rattle.tree.specs.Overflow.{lowerHalf}
 use Rattle.split.specs.SplitWords.{between, fillPage, addRows, gainPage, middleKey}

@@ -8,7 +8,7 @@ use Rattle.words.specs.declared.value.Value.{Value}
 use Rattle.words.specs.Value.{zero, plus}
 use Rattle.tree.specs.Row.{rowStart, rowWords, rowIn}
 use Rattle.page.specs.Entries.{entryPlace, InPage}
-use Rattle.page.proofs.LoopLaws.{all-here}
+use Rattle.words.proofs.LoopLaws.{all-here}
 use Rattle.split.specs.SplitWords.{between, addRows}
 use Rattle.split.proofs.SplitLaws.{add-more, add-none}
 use borrow.Author.Needs.{needs}

@@ -1,0 +1,3 @@
+-- Laws of the live rows in arrays: how they are listed, and that what is read from them is what the definitions say of a page.
+pub mod LiveLaws
+pub mod LiveReadings

@@ -1,0 +1,60 @@
+// Refusal 26, as far as one page's own words go.
+use crate::live::list_live;
+use page::Page;
+use ranges::tiles;
+ghost use mathlib.Core.Path.{_≡_};
+ghost use Prim.Native.Nat.{_<_};
+ghost use lib.ListN.{length};
+ghost use Rattle.tree.specs.Row.{pageWords, rowLimit};
+ghost use Rattle.tree.specs.PageTest.{headerFits};
+ghost use Rattle.live.specs.Tested.{TestedAs};
+
+// What the test of a page finds: a spoiled page, or a sound one with so many live rows.
+pub enum Tested {
+    Spoiled,
+    Sound(usize),
+}
+
+// Whether the page has the expected level and key range and from 1 to 64 rows.
+fn header_fits(page: &[u64], level: u64, low: u16, high: u16) -> bool
+    requires { ⌜ length (now page) ≡ pageWords ⌝ }
+    ensures { λ r. ⌜ r ≡ headerFits level low high (now (page .entry)) ⌝ }
+{
+    if page[0] != level {
+        return false;
+    }
+    if page[1] < 1 {
+        return false;
+    }
+    if (Page::ROWS as u64) < page[1] {
+        return false;
+    }
+    page[2] == words::key_range(low, high)
+}
+
+// Tests the page for 26 at t, its header and that its live rows hold each key of its range once, none of them empty.
+// Leaves the live rows of a sound page at the front of `ranges` and `places`.
+pub fn list_tested(
+    page: &[u64],
+    level: u64,
+    low: u16,
+    high: u16,
+    t: u32,
+    ranges: &mut [u32],
+    places: &mut [u8],
+) -> Tested
+    requires { ⌜ length (now page) ≡ pageWords ⌝ }
+    requires { ⌜ low < high ⌝ }
+    requires { ⌜ length (now ranges) ≡ rowLimit ⌝ }
+    requires { ⌜ length (now places) ≡ rowLimit ⌝ }
+    ensures { λ r. ⌜ TestedAs t level low high (now (page .entry)) (now (ranges .exit)) (now (places .exit)) r ⌝ }
+{
+    if header_fits(page, level, low, high) {
+        let rows = page[1] as usize;
+        let count = list_live(page, rows, t, ranges, places);
+        if tiles(&ranges[..count], low, high) {
+            return Tested::Sound(count);
+        }
+    }
+    Tested::Spoiled
+}

@@ -1,0 +1,26 @@
+-- The key ranges of rows, one number each, as the code keeps them in arrays, and numbers added up over such a list.
+use Prim.Native.Nat.{ℕ, _+_, _/_, _%_}
+use mathlib.Core.List.{List, foldr}
+use mathlib.Core.Bool.{Bool, cond}
+use Rattle.words.specs.Words.{keyRange}
+use Rattle.tree.specs.KeyOrder.{Placed}
+
+-- The key range of a row, as page word 2 has that of a page: "low key + 65,536 × high key"
+abbrev pub rangeOf : Placed → ℕ
+rangeOf x = keyRange (x .row .low) (x .row .high)
+
+abbrev pub rangeLow : ℕ → ℕ
+rangeLow e = e % 65536
+
+abbrev pub rangeHigh : ℕ → ℕ
+rangeHigh e = e / 65536
+
+abbrev pub placeIn : Placed → ℕ
+placeIn x = x .place
+
+-- A number added up over a list, and how many of its items pass a test
+abbrev pub sumBy : (ℕ → ℕ) → List ℕ → ℕ
+sumBy f xs = foldr (λ (x n : ℕ). f x + n) 0 xs
+
+abbrev pub count : (ℕ → Bool) → List ℕ → ℕ
+count test xs = sumBy (λ (x : ℕ). cond (test x) 1 0) xs
