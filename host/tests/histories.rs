@@ -9,7 +9,7 @@
 mod library;
 mod shapes;
 
-use library::{by_library, end_after, Answer, Call, Random, Store, PAGE_WORDS};
+use library::{by_library, Answer, Call, Random, Store, PAGE_WORDS};
 use shapes::{Keys, Pace, Shape};
 use std::collections::{BTreeMap, BTreeSet};
 
@@ -257,14 +257,13 @@ fn long_history(seed: u64, keys: Keys, pace: Pace, calls: u32, counts: &mut Coun
 }
 
 fn main() {
-    let rounds = std::env::args().nth(1).map_or(1, |rounds| rounds.parse().expect("ROUNDS is a number"));
-    end_after(60 * rounds);
+    let rounds: u64 = std::env::args().nth(1).map_or(1, |rounds| rounds.parse().expect("ROUNDS is a number"));
     let mut counts = Counts::default();
-    let histories = 1_600 * rounds as u64;
+    let histories = 1_600 * rounds;
     for seed in 0..histories {
         any_history(seed, &mut counts);
     }
-    for round in 0..rounds as u64 {
+    for round in 0..rounds {
         long_history(1_000_000 + round, Keys::Uniform, Pace::Slow, 60_000, &mut counts);
         long_history(2_000_000 + round, Keys::Strides, Pace::Swarms, 40_000, &mut counts);
         long_history(3_000_000 + round, Keys::Bands, Pace::Slow, 40_000, &mut counts);
@@ -273,7 +272,7 @@ fn main() {
     let seen: Vec<String> = counts.refusals.iter().filter(|seen| *seen.0 != 0).map(|(refusal, times)| format!("{refusal} × {times}")).collect();
     println!(
         "histories: {} histories, trees up to {} pages high, refusals {}: {} compared, {} differed",
-        histories + 4 * rounds as u64,
+        histories + 4 * rounds,
         counts.highest,
         seen.join(", "),
         counts.compared,

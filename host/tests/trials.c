@@ -291,7 +291,6 @@ static void hanging_rows(void)
 
 int main(void)
 {
-    alarm(60);
     first_answers();
     ranges();
     all_open();
