@@ -1,17 +1,22 @@
 //! How fast the library is, beside the port and a plain list of passes.
 //!
 //! The contenders make the same calls several times over, in turn. Of a call the best of its times counts, so that what else the machine does
-//! stays out of the figures; the mean and the slowest are over these. The time of reading the clock is subtracted.
+//! stays out of the figures; the mean and the slowest are over these. The time of reading the clock is subtracted. All of them must answer what
+//! the pass book answers, whose time is not taken.
 //!
 //! bench [LARGEST [RUNS]]: stores of up to so many passes; how often each contender makes the calls, 3 times where not said
 
+#[path = "../tests/book.rs"]
+mod book;
 #[path = "../tests/library.rs"]
 mod library;
 mod list;
 mod workload;
 
+use book::Book;
 use library::{by_library, by_port, Answer, Call, Store};
 use list::List;
+use port::Head;
 use std::hint::black_box;
 use std::time::Instant;
 use workload::{questions_past, questions_today, season, Question, SHAPES};
@@ -176,6 +181,20 @@ fn roomy_store(passes: u32) -> Store {
     Store::lent(pages, pages)
 }
 
+/// What the pass book answers to the questions after the calls.
+fn by_book(calls: &[Call], questions: [&[Question]; 2]) -> Vec<(u64, u64)> {
+    let mut book = Book::default();
+    let mut turn = |call| {
+        assert!(book.refusal(call) == 0, "the book refuses a call of the benchmark: {call:?}");
+        book.turn(call)
+    };
+    for &call in calls {
+        turn(call);
+    }
+    let answers = questions.concat().into_iter().map(|(k1, k2, t1, t2)| turn(Call::Question { k1, k2, t1, t2 }).totals);
+    answers.map(|totals| (totals.count, totals.sum)).collect()
+}
+
 /// One shape at one size. Returns the library's times.
 fn compare(shape: workload::Shape, name: &str, passes: u32, runs: u32, clock: f64) -> [Time; 4] {
     let calls = season(shape, passes);
@@ -191,12 +210,16 @@ fn compare(shape: workload::Shape, name: &str, passes: u32, runs: u32, clock: f6
         by_port.run(&mut port, &calls, [&today, &past]);
         by_list.run(&mut list, &calls, [&today[..few], &past[..few]]);
     }
-    let same = by_library.answers == by_port.answers
-        && by_library.answers[..few] == by_list.answers[..few]
-        && by_library.answers[QUESTIONS..][..few] == by_list.answers[few..];
-    assert!(same, "the answers differ");
+    let wanted = by_book(&calls, [&today[..few], &past[..few]]);
+    assert!(by_list.answers == wanted, "the list's answers are not the book's");
+    assert!(by_library.answers == by_port.answers, "the library's answers are not the port's");
+    assert!([&by_library.answers[..few], &by_library.answers[QUESTIONS..][..few]].concat() == wanted, "the library's answers are not the book's");
+    report(name, passes, &library.0.head, [&by_library, &by_port, &by_list], clock);
+    by_library.times(clock)
+}
 
-    let head = library.0.head;
+/// The figures of one shape at one size, by the library, the port and the list.
+fn report(name: &str, passes: u32, head: &Head, [by_library, by_port, by_list]: [&Figures; 3], clock: f64) {
     let pages = head.start_pages + head.end_pages;
     let bytes = (2_080 * pages as u64 + 8 * (head.start_roots + head.end_roots) as u64) as f64 / passes as f64;
     println!("\n{name}, {passes} passes: {bytes:.0} bytes a pass; {} pages and {} roots of starts", head.start_pages, head.start_roots);
@@ -214,7 +237,6 @@ fn compare(shape: workload::Shape, name: &str, passes: u32, runs: u32, clock: f6
             lib.mean / port.mean, list.mean / lib.mean
         );
     }
-    lib_times
 }
 
 fn main() {

@@ -1,4 +1,5 @@
-//! The plain list: every pass in arrays, added up on demand.
+//! The plain list: every pass in arrays, added up on demand as fast as a processor can. It is a contender of the benchmark and nothing else:
+//! what is right is said by the pass book (tests/book.rs), with which the benchmark compares it too.
 
 /// Passes as arrays, in order of their starts. Ends are kept as signed numbers in the same order, since the processor compares those faster;
 /// an open pass has the highest.

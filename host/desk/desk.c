@@ -150,8 +150,10 @@ int main(int count, char **arguments)
         return 2;
     }
     begin(arguments[1]);
-    while (fgets(line, sizeof line, stdin) != NULL)
+    while (fgets(line, sizeof line, stdin) != NULL) {
         obey(line);
+        fflush(stdout);
+    }
     fclose(ask);
     fclose(answer);
     return wait(NULL) < 0;

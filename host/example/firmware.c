@@ -154,13 +154,31 @@ static void on_end(uint32_t tick, uint32_t number)
     dropped++;
 }
 
-int main(void)
+/* A pass starts each tick, until something has come about. Firmware waits for nothing without end: 64 starts are enough for all that is waited
+ * for here, since no more passes can be open together. Returns the tick that comes next. */
+static uint32_t starts_until(int (*come_about)(void), const char *what, uint32_t tick, uint32_t first_key)
 {
-    uint32_t number = 0, first = 0, tick;
+    uint32_t number, heard;
+    for (heard = 0; !come_about() && heard < NIMBLESHALE_OPEN_PASSES; heard++)
+        on_start(tick++, first_key + heard, 10, &number);
+    if (!come_about())
+        printf("gave up after %u starts: %s\n", (unsigned)heard, what);
+    return tick;
+}
 
-    lend_memory(ROOTS);
-    if (!open_store())
-        return 1;
+static int all_are_open(void)
+{
+    return store.open >= NIMBLESHALE_OPEN_PASSES;
+}
+
+static int fourth_store_is_open(void)
+{
+    return stores_opened >= 4;
+}
+
+static void events(void)
+{
+    uint32_t number = 0, first = 0;
 
     printf("\nAn evening\n");
     on_start(100, 4500, 80, &first);
@@ -178,6 +196,11 @@ int main(void)
     on_start(200, 30000, 70, &number);
     on_start(200, 4500, 0, &number);
     on_end(210, 77);
+}
+
+static void full_stores(void)
+{
+    uint32_t number = 0, tick;
 
     printf("\nForty passes, one after the other: the page table of ends runs full\n");
     for (tick = 300; tick < 700; tick += 10)
@@ -185,15 +208,18 @@ int main(void)
             on_end(tick + 5, number);
 
     printf("\nPasses that never end\n");
-    for (; store.open < NIMBLESHALE_OPEN_PASSES; tick++)
-        on_start(tick, tick, 10, &number);
+    tick = starts_until(all_are_open, "fewer than 64 passes are open", tick, tick);
     on_start(tick, 5000, 10, &number);
 
     printf("\nA new store with too short a root list\n");
     lend_memory(2);
     open_store();
-    for (tick = 0; stores_opened < 4; tick++)
-        on_start(tick, 1000 + tick, 10, &number);
+    starts_until(fourth_store_is_open, "the root list did not run full", 0, 1000);
+}
+
+static void damaged_memory(void)
+{
+    uint32_t number = 0;
 
     printf("\nA damaged page\n");
     start_table[1] = 99;
@@ -207,7 +233,16 @@ int main(void)
     printf("\nA million passes\n");
     store.started = NIMBLESHALE_PASSES;
     on_start(2200, 4500, 80, &number);
+}
 
+int main(void)
+{
+    lend_memory(ROOTS);
+    if (!open_store())
+        return 1;
+    events();
+    full_stores();
+    damaged_memory();
     printf("\n%u stores opened, %u events dropped, %u memory faults\n", stores_opened, dropped, memory_faults);
     return 0;
 }

@@ -1,88 +1,19 @@
-//! Random histories against the pass book of document 01: a plain list of passes, added up on demand. Every answer of the library is
-//! compared with the book's; of the answers the book is told only whether one was 27 or 28.
+//! Random histories against the pass book of document 01 (book.rs). Every answer of the library is compared with the book's; of the answers
+//! the book is told only whether one was 27 or 28.
 //!
 //! Beside the book: 27 and 28 come exactly if the pages or the root entry lack, which a copy of the store with more room shows; a refused
 //! call changes nothing; pages opened are the pages on the paths; and the pages and the height of each tree keep to their bounds.
 //!
 //! histories [ROUNDS]
 
+mod book;
 mod library;
 mod shapes;
 
-use library::{by_library, end_after, Answer, Call, Random, Store, PAGE_WORDS};
+use book::Book;
+use library::{by_library, Answer, Call, Random, Store, PAGE_WORDS};
 use shapes::{Keys, Pace, Shape};
 use std::collections::{BTreeMap, BTreeSet};
-
-struct Pass {
-    key: u32,
-    weight: u32,
-    start: u32,
-    end: Option<u32>,
-}
-
-#[derive(Default)]
-struct Book {
-    last: u32,
-    passes: Vec<Pass>,
-    /// The numbers of the passes that are open
-    open: Vec<u32>,
-}
-
-impl Book {
-    /// "the first refusal of these papers, in their order, 20 and 26 to 28 left out, that its arguments and the book meet"
-    fn refusal(&self, call: Call) -> u8 {
-        let of = |grounds: &[(bool, u8)]| grounds.iter().find(|ground| ground.0).map_or(0, |ground| ground.1);
-        match call {
-            Call::Open => 0,
-            Call::Start { tick, key, weight } => of(&[
-                (key > 29_999, 1),
-                (weight == 0 || weight > 10_000, 3),
-                (tick == u32::MAX, 4),
-                (tick < self.last, 21),
-                (self.open.len() >= 64, 24),
-                (self.passes.len() >= 1_000_000, 25),
-            ]),
-            Call::End { tick, number } => {
-                let pass = self.passes.get(number as usize).filter(|pass| pass.end.is_none());
-                of(&[(tick == u32::MAX, 4), (tick < self.last, 21), (pass.is_none(), 22), (pass.is_some_and(|pass| pass.start == tick), 23)])
-            }
-            Call::Question { k1, k2, t1, t2 } => of(&[(k1 > 29_999 || k2 > 30_000, 1), (k1 >= k2, 2), (t1 >= t2, 5)]),
-            Call::LookupStarts { t, k } | Call::LookupEnds { t, k } => of(&[(k > 29_999, 1), (t == u32::MAX, 4)]),
-        }
-    }
-
-    /// What the book answers to a call that it does not refuse, and what it then holds.
-    fn turn(&mut self, call: Call) -> Answer {
-        let mut answer = Answer::unset(0);
-        let mut add = |passes: &[Pass], meets: &dyn Fn(&Pass) -> bool| {
-            (answer.totals.count, answer.totals.sum) = (0, 0);
-            for pass in passes.iter().filter(|pass| meets(pass)) {
-                answer.totals.count += 1;
-                answer.totals.sum += pass.weight as u64;
-            }
-        };
-        match call {
-            Call::Open => *self = Book::default(),
-            Call::Start { tick, key, weight } => {
-                answer.number = self.passes.len() as u32;
-                self.open.push(answer.number);
-                self.passes.push(Pass { key, weight, start: tick, end: None });
-                self.last = tick;
-            }
-            Call::End { tick, number } => {
-                self.passes[number as usize].end = Some(tick);
-                self.open.retain(|&other| other != number);
-                self.last = tick;
-            }
-            Call::Question { k1, k2, t1, t2 } => {
-                add(&self.passes, &|pass| k1 <= pass.key && pass.key < k2 && pass.start < t2 && pass.end.is_none_or(|end| end > t1))
-            }
-            Call::LookupStarts { t, k } => add(&self.passes, &|pass| pass.start <= t && pass.key <= k),
-            Call::LookupEnds { t, k } => add(&self.passes, &|pass| pass.end.is_some_and(|end| end <= t) && pass.key <= k),
-        }
-        answer
-    }
-}
 
 /// One tree of a store, as its words say.
 struct Tree<'a> {
@@ -257,14 +188,13 @@ fn long_history(seed: u64, keys: Keys, pace: Pace, calls: u32, counts: &mut Coun
 }
 
 fn main() {
-    let rounds = std::env::args().nth(1).map_or(1, |rounds| rounds.parse().expect("ROUNDS is a number"));
-    end_after(60 * rounds);
+    let rounds: u64 = std::env::args().nth(1).map_or(1, |rounds| rounds.parse().expect("ROUNDS is a number"));
     let mut counts = Counts::default();
-    let histories = 1_600 * rounds as u64;
+    let histories = 1_600 * rounds;
     for seed in 0..histories {
         any_history(seed, &mut counts);
     }
-    for round in 0..rounds as u64 {
+    for round in 0..rounds {
         long_history(1_000_000 + round, Keys::Uniform, Pace::Slow, 60_000, &mut counts);
         long_history(2_000_000 + round, Keys::Strides, Pace::Swarms, 40_000, &mut counts);
         long_history(3_000_000 + round, Keys::Bands, Pace::Slow, 40_000, &mut counts);
@@ -273,7 +203,7 @@ fn main() {
     let seen: Vec<String> = counts.refusals.iter().filter(|seen| *seen.0 != 0).map(|(refusal, times)| format!("{refusal} × {times}")).collect();
     println!(
         "histories: {} histories, trees up to {} pages high, refusals {}: {} compared, {} differed",
-        histories + 4 * rounds as u64,
+        histories + 4 * rounds,
         counts.highest,
         seen.join(", "),
         counts.compared,

@@ -200,12 +200,3 @@ impl Random {
         &items[self.below(items.len() as u32) as usize]
     }
 }
-
-extern "C" {
-    fn alarm(seconds: u32) -> u32;
-}
-
-/// Ends the program if it still runs after so many seconds: every call must end.
-pub fn end_after(seconds: u32) {
-    unsafe { alarm(seconds) };
-}

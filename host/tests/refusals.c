@@ -268,7 +268,6 @@ static void many_pages(void)
 
 int main(void)
 {
-    alarm(60);
     for (int call = 0; call < CALLS; call++) {
         int count = 0;
         while (orders[call][count] != 0)

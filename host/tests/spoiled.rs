@@ -7,7 +7,7 @@ mod library;
 mod made;
 mod shapes;
 
-use library::{by_library, by_port, end_after, Answer, Call, Random, Store, PAGE_WORDS};
+use library::{by_library, by_port, Answer, Call, Random, Store, PAGE_WORDS};
 use std::collections::BTreeMap;
 
 /// A call with keys and ticks that the store's own words name, or close to them.
@@ -60,11 +60,10 @@ fn near_tick(random: &mut Random, store: &Store) -> u32 {
 }
 
 fn main() {
-    let rounds = std::env::args().nth(1).map_or(1, |rounds| rounds.parse().expect("ROUNDS is a number"));
-    end_after(60 * rounds);
+    let rounds: u64 = std::env::args().nth(1).map_or(1, |rounds| rounds.parse().expect("ROUNDS is a number"));
     let (mut compared, mut differed, mut written, mut split) = (0u64, 0u64, 0u64, 0u64);
     let mut refusals: BTreeMap<u8, u64> = BTreeMap::new();
-    let stores = 12_000 * rounds as u64;
+    let stores = 12_000 * rounds;
     for seed in 0..stores {
         let mut random = Random(seed);
         let mut before = if random.one_in(3) { made::grown(&mut random) } else { made::random_trees(&mut random) };

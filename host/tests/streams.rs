@@ -2,28 +2,28 @@
 //!
 //! streams PROGRAM STREAMS
 
-use std::io::Write;
+use std::io::{Read, Write};
 use std::process::{Command, ExitCode, Stdio};
-use std::time::{Duration, Instant};
-
-/// A program that has not ended by then never will.
-const PATIENCE: Duration = Duration::from_secs(60);
 
 fn bytes_of(hex: &str) -> Vec<u8> {
     let digits = if hex == "-" { "" } else { hex };
     (0..digits.len() / 2).map(|at| u8::from_str_radix(&digits[2 * at..2 * at + 2], 16).expect("a stream is hexadecimal")).collect()
 }
 
-/// What the program writes for an input, or nothing if it fails or does not end.
-fn written(program: &str, input: Vec<u8>) -> Option<Vec<u8>> {
+/// What the program writes for an input, or nothing if it fails. At most so many bytes are read: then the program is ended, and fails.
+fn written(program: &str, input: Vec<u8>, most: usize) -> Option<Vec<u8>> {
     let mut child = Command::new(program).stdin(Stdio::piped()).stdout(Stdio::piped()).spawn().ok()?;
     let mut stdin = child.stdin.take()?;
     // The program may stop reading before the input ends, so a write that fails is no fault.
     let writer = std::thread::spawn(move || drop(stdin.write_all(&input)));
-    let begun = Instant::now();
-    let output = child.wait_with_output().ok()?;
+    let mut output = Vec::new();
+    let read = child.stdout.take()?.take(most as u64).read_to_end(&mut output);
+    if output.len() == most {
+        child.kill().ok()?;
+    }
+    let status = child.wait().ok()?;
     writer.join().ok()?;
-    (output.status.success() && begun.elapsed() < PATIENCE).then_some(output.stdout)
+    (read.is_ok() && status.success()).then_some(output)
 }
 
 fn main() -> ExitCode {
@@ -39,7 +39,7 @@ fn main() -> ExitCode {
         let wanted = bytes_of(output);
         compared += 1;
         bytes += wanted.len();
-        if written(program, bytes_of(input)) != Some(wanted) {
+        if written(program, bytes_of(input), wanted.len() + 1) != Some(wanted) {
             differed += 1;
             println!("differs: {name}");
         }

@@ -1,304 +1,469 @@
-/* The table of trials of document 01, and further trials that tell wrong programs apart: what the calls answer, and what the pages hold. */
+/* Runs the trials of host/trials over the library: each step of each file, on memory that ends right before a page that may not be touched.
+ * Every answer and everything that is looked at is compared. host/trials/README.md says what a step is; the tables of forms have all of them.
+ *
+ * trials FILE.. */
 #define _DEFAULT_SOURCE
 #include "lent.h"
 
-static unsigned long compared, differed;
+#define UNTOUCHED 0xa5a5a5a5u
+#define OPEN_END 4294967295u
+#define SHOWN 50
+#define MOST_WORDS 16
 
-static void expect(const char *trial, uint64_t found, uint64_t wanted)
+static unsigned long trials, calls, compared, differed;
+
+/* The step that is at hand, for messages: its file, its line, its text, and which of its calls, where it makes several. */
+static const char *file_name;
+static unsigned long line_number, turn;
+static char text[256];
+
+/* The trial that is at hand, if one is: its store, whether memory is lent to it yet, and what was compared before it began. */
+static int is_begun, is_lent;
+static struct nimbleshale_store store;
+static unsigned long compared_before;
+
+/* A step that cannot be taken. */
+static void fault(const char *what)
+{
+    printf("%s:%lu: %s: %s\n", file_name, line_number, what, text);
+    exit(2);
+}
+
+static void say_number(uint64_t number)
+{
+    if (number == UNTOUCHED)
+        printf("nothing");
+    else
+        printf("%llu", (unsigned long long)number);
+}
+
+static void expect(const char *what, uint64_t found, uint64_t wanted)
 {
     compared++;
-    if (found != wanted) {
-        differed++;
-        printf("differs: %s: %llu, not %llu\n", trial, (unsigned long long)found, (unsigned long long)wanted);
+    if (found == wanted)
+        return;
+    if (++differed > SHOWN)
+        return;
+    printf("differs: %s:%lu: %s: ", file_name, line_number, text);
+    if (turn > 0)
+        printf("call %lu, ", turn);
+    printf("%s: found ", what);
+    say_number(found);
+    printf(", wanted ");
+    say_number(wanted);
+    printf("\n");
+}
+
+/* The calls, with how many arguments each has. */
+enum call { OPEN, START, END, QUESTION, LOOKUP_STARTS, LOOKUP_ENDS };
+
+static const size_t arguments[] = {0, 3, 2, 4, 2, 2};
+
+/* What a call answers. A result that it does not give stays as it was. */
+struct answer {
+    uint8_t refusal;
+    uint32_t number;
+    struct nimbleshale_totals totals;
+};
+
+static const struct answer no_result = {0, UNTOUCHED, {UNTOUCHED, UNTOUCHED, UNTOUCHED}};
+
+static struct answer make(enum call call, const uint32_t *given)
+{
+    struct answer found = no_result;
+    switch (call) {
+    case OPEN: found.refusal = nimbleshale_open_store(&store); break;
+    case START: found.refusal = nimbleshale_record_start(&store, given[0], given[1], given[2], &found.number); break;
+    case END: found.refusal = nimbleshale_record_end(&store, given[0], given[1]); break;
+    case QUESTION: found.refusal = nimbleshale_ask(&store, given[0], given[1], given[2], given[3], &found.totals); break;
+    case LOOKUP_STARTS: found.refusal = nimbleshale_look_up_starts(&store, given[0], given[1], &found.totals); break;
+    case LOOKUP_ENDS: found.refusal = nimbleshale_look_up_ends(&store, given[0], given[1], &found.totals); break;
+    }
+    return found;
+}
+
+/* Makes a call and compares all that it answers. One that is refused, or only reads, must leave the head and every word as they were. */
+static void try_call(enum call call, const uint32_t *given, const struct answer *wanted)
+{
+    uint64_t before = digest_store(&store);
+    struct answer found = make(call, given);
+    calls++;
+    expect("refusal", found.refusal, wanted->refusal);
+    expect("number", found.number, wanted->number);
+    expect("count", found.totals.count, wanted->totals.count);
+    expect("sum", found.totals.sum, wanted->totals.sum);
+    expect("pages opened", found.totals.pages, wanted->totals.pages);
+    if (wanted->refusal != 0 || call >= QUESTION)
+        expect("digest of head and memory", digest_store(&store), before);
+}
+
+/* A call with its arguments, and then what it answers. */
+static void try_accepted(enum call call, const uint32_t *numbers)
+{
+    const uint32_t *results = numbers + arguments[call];
+    struct answer wanted = no_result;
+    if (call == START)
+        wanted.number = results[0];
+    if (call >= QUESTION) {
+        wanted.totals.count = results[0];
+        wanted.totals.sum = results[1];
+        wanted.totals.pages = results[2];
+    }
+    try_call(call, numbers, &wanted);
+}
+
+static void try_refused(enum call call, const uint32_t *numbers)
+{
+    struct answer wanted = no_result;
+    wanted.refusal = (uint8_t)numbers[arguments[call]];
+    if (numbers[arguments[call]] == 0 || numbers[arguments[call]] > 255)
+        fault("no number of a refusal");
+    try_call(call, numbers, &wanted);
+}
+
+/* starts N tick T by D key K by S: of weight 100 */
+static void try_starts(const uint32_t *n)
+{
+    for (turn = 1; turn <= n[0]; turn++) {
+        uint32_t at = (uint32_t)turn - 1;
+        uint32_t numbers[4] = {n[1] + at * n[2], n[3] + at * n[4], 100, store.started};
+        try_accepted(START, numbers);
     }
 }
 
-static void expect_totals(const char *trial, uint8_t refusal, const struct nimbleshale_totals *totals, uint64_t count, uint64_t sum,
-                          uint32_t pages)
+/* scattered N tick T by D point P: the key is the point times 7,919 modulo 30,000, the weight is the point */
+static void try_scattered(const uint32_t *n)
 {
-    expect(trial, refusal, 0);
-    expect(trial, totals->count, count);
-    expect(trial, totals->sum, sum);
-    expect(trial, totals->pages, pages);
-}
-
-/* An opened store with room for 12 pages and 12 roots a tree. */
-static void begin(struct nimbleshale_store *store)
-{
-    lend_store(store, NIMBLESHALE_TABLE_WORDS(12), 12, NIMBLESHALE_TABLE_WORDS(12), 12);
-    expect("opening", nimbleshale_open_store(store), 0);
-}
-
-static uint8_t start(struct nimbleshale_store *store, uint32_t tick, uint32_t key)
-{
-    uint32_t number;
-    return nimbleshale_record_start(store, tick, key, 100, &number);
-}
-
-/* So many starts from a tick on, one each tick or all at one, at keys 1, 2, 3 and on. */
-static void starts(struct nimbleshale_store *store, uint32_t tick, uint32_t step, uint32_t first_key, uint32_t count)
-{
-    uint32_t at;
-    for (at = 0; at < count; at++)
-        expect("starts", start(store, tick + step * at, first_key + at), 0);
-}
-
-static uint64_t start_word(const struct nimbleshale_store *store, uint32_t page, uint32_t word)
-{
-    return store->start_table[NIMBLESHALE_TABLE_WORDS(page) + word];
-}
-
-static void first_answers(void)
-{
-    struct nimbleshale_store store;
-    struct nimbleshale_totals totals;
-    uint32_t number;
-    uint8_t refusal;
-    begin(&store);
-    refusal = nimbleshale_look_up_starts(&store, 7, 29999, &totals);
-    expect_totals("P2", refusal, &totals, 0, 0, 1);
-    refusal = nimbleshale_look_up_ends(&store, 0, 0, &totals);
-    expect_totals("P2", refusal, &totals, 0, 0, 1);
-    expect("P1", nimbleshale_record_start(&store, 10, 4500, 100, &number), 0);
-    expect("P1", number, 0);
-    expect("P1", nimbleshale_record_start(&store, 20, 2200, 50, &number), 0);
-    expect("P1", number, 1);
-    expect("P1", nimbleshale_record_end(&store, 30, 0), 0);
-    refusal = nimbleshale_ask(&store, 4000, 5000, 30, 40, &totals);
-    expect_totals("P1", refusal, &totals, 0, 0, 4);
-    refusal = nimbleshale_ask(&store, 0, 30000, 25, 26, &totals);
-    expect_totals("P1", refusal, &totals, 2, 150, 2);
-    expect("P1", nimbleshale_record_end(&store, 30, 0), 22);
-    refusal = nimbleshale_ask(&store, 4000, 5000, 29, 30, &totals);
-    expect_totals("P6", refusal, &totals, 1, 100, 4);
-    refusal = nimbleshale_ask(&store, 4000, 5000, 0, 10, &totals);
-    expect_totals("a start at t2", refusal, &totals, 0, 0, 4);
-    refusal = nimbleshale_ask(&store, 4000, 5000, 0, 11, &totals);
-    expect_totals("a start before t2", refusal, &totals, 1, 100, 4);
-    refusal = nimbleshale_ask(&store, 4501, 30000, 0, 4294967295u, &totals);
-    expect_totals("the last tick of all", refusal, &totals, 0, 0, 4);
-    give_back_store(&store);
-}
-
-static void ranges(void)
-{
-    struct nimbleshale_store store;
-    uint32_t number;
-    begin(&store);
-    expect("P3", start(&store, 5, 29999), 0);
-    expect("P3", start(&store, 5, 30000), 1);
-    expect("a key wider than 16 bits", start(&store, 5, 65536), 1);
-    expect("P4", nimbleshale_record_start(&store, 5, 1, 1, &number), 0);
-    expect("P4", nimbleshale_record_start(&store, 5, 1, 10000, &number), 0);
-    expect("P4", nimbleshale_record_start(&store, 5, 1, 0, &number), 3);
-    expect("P4", nimbleshale_record_start(&store, 5, 1, 10001, &number), 3);
-    expect("a weight wider than 16 bits", nimbleshale_record_start(&store, 5, 1, 65537, &number), 3);
-    expect("P5", start(&store, 5, 7), 0);
-    expect("P5", start(&store, 4, 7), 21);
-    expect("P7", nimbleshale_record_end(&store, 5, 0), 23);
-    expect("P7", nimbleshale_record_end(&store, 6, 0), 0);
-    give_back_store(&store);
-    begin(&store);
-    expect("P8", start(&store, 0, 0), 0);
-    expect("P8", start(&store, 0, 0), 0);
-    expect("P8", start_word(&store, 0, 1), 1);
-    expect("P8", start_word(&store, 0, 6), 2);
-    expect("P8", start_word(&store, 0, 7), 200);
-    give_back_store(&store);
-}
-
-static void all_open(void)
-{
-    struct nimbleshale_store store;
-    begin(&store);
-    starts(&store, 1, 1, 1, 64);
-    expect("64 open", start(&store, 65, 1), 24);
-    expect("one ends", nimbleshale_record_end(&store, 65, 10), 0);
-    expect("one place free", start(&store, 65, 1), 0);
-    expect("closed up", store.passes[10].number, 11);
-    expect("the newest in the last place", store.passes[63].number, 64);
-    give_back_store(&store);
-}
-
-static void pages_at_rising_ticks(void)
-{
-    struct nimbleshale_store store;
-    begin(&store);
-    starts(&store, 1, 1, 1, 31);
-    expect("31 starts", start_word(&store, 0, 1), 63);
-    expect("31 starts", store.start_pages, 1);
-    starts(&store, 32, 1, 32, 1);
-    expect("the 32nd", store.start_pages, 2);
-    expect("the 32nd", start_word(&store, 1, 1), 33);
-    expect("the page that overflowed keeps its words", start_word(&store, 0, 1), 63);
-    expect("the 32nd", store.start_roots, 2);
-    starts(&store, 33, 1, 33, 15);
-    expect("the 47th", start_word(&store, 1, 1), 63);
-    starts(&store, 48, 1, 48, 1);
-    expect("the 48th", store.start_pages, 5);
-    expect("the 48th", start_word(&store, 2, 1), 25);
-    expect("the 48th", start_word(&store, 3, 1), 24);
-    expect("the 48th", start_word(&store, 4, 0), 1);
-    expect("the 48th", start_word(&store, 4, 1), 2);
-    expect("the 48th", store.start_roots, 3);
-    expect("step 6", start_word(&store, 3, 6), 25);
-    give_back_store(&store);
-}
-
-static void pages_at_one_tick(void)
-{
-    struct nimbleshale_store store;
-    begin(&store);
-    starts(&store, 0, 0, 1, 64);
-    expect("64 starts at tick 0", store.start_pages, 4);
-    expect("64 starts at tick 0", start_word(&store, 1, 1), 33);
-    expect("64 starts at tick 0", start_word(&store, 2, 1), 32);
-    expect("the root born at the same tick is replaced", store.start_roots, 1);
-    expect("the root born at the same tick is replaced", store.start_list[0], (uint64_t)3 << 32);
-    give_back_store(&store);
-    begin(&store);
-    starts(&store, 1, 0, 1, 39);
-    expect("40 live rows", start_word(&store, 0, 1), 41);
-    for (uint32_t tick = 2; tick <= 25; tick++)
-        expect("a row gains", start(&store, tick, 1), 0);
-    expect("40 live rows go to one page", store.start_pages, 2);
-    expect("40 live rows go to one page", start_word(&store, 1, 1), 40);
-    give_back_store(&store);
-    begin(&store);
-    starts(&store, 1, 0, 1, 40);
-    for (uint32_t tick = 2; tick <= 24; tick++)
-        expect("a row gains", start(&store, tick, 1), 0);
-    expect("41 live rows go to two pages", store.start_pages, 4);
-    expect("41 live rows go to two pages", start_word(&store, 1, 1), 21);
-    expect("41 live rows go to two pages", start_word(&store, 2, 1), 20);
-    give_back_store(&store);
-}
-
-/* Writes the header of a page by hand. */
-static void write_header(uint64_t *table, uint32_t page, uint64_t level, uint64_t rows, uint64_t low, uint64_t high)
-{
-    uint64_t *words = table + NIMBLESHALE_TABLE_WORDS(page);
-    words[0] = level;
-    words[1] = rows;
-    words[2] = low + 65536 * high;
-    words[3] = 0;
-}
-
-/* Writes a row by hand, born at 0 and open, with the same count and sum. */
-static void write_row(uint64_t *table, uint32_t page, uint32_t place, uint64_t low, uint64_t high, uint64_t child, uint64_t value)
-{
-    uint64_t *row = table + NIMBLESHALE_TABLE_WORDS(page) + 4 + 4 * place;
-    row[0] = low + 65536 * high + (child << 32);
-    row[1] = (uint64_t)4294967295u << 32;
-    row[2] = value;
-    row[3] = value;
-}
-
-/* A page by hand with 64 live rows over the keys 0 to `high`: the first one over `first` keys and with a child, the others over one key
- * each, but for the last. */
-static void write_full_page(uint64_t *table, uint32_t page, uint64_t level, uint64_t first, uint64_t child, uint64_t high)
-{
-    write_header(table, page, level, 64, 0, high);
-    write_row(table, page, 0, 0, first, child, 1);
-    for (uint32_t row = 1; row < 64; row++)
-        write_row(table, page, row, first + row - 1, row == 63 ? high : first + row, 0, 1);
-}
-
-/* A store by hand, four pages high at keys below 128, each page with 64 rows. Of the root's rows only one is live: more than 40 would have
- * to go to two pages. A start at tick 1, key 3 makes seven pages: two of the leaf, two on each level above, one of the root. */
-static void write_full_store(struct nimbleshale_store *store, size_t pages, size_t roots)
-{
-    lend_store(store, NIMBLESHALE_TABLE_WORDS(pages), roots, NIMBLESHALE_TABLE_WORDS(1), 1);
-    expect("opening", nimbleshale_open_store(store), 0);
-    store->start_pages = 4;
-    write_header(store->start_table, 0, 3, 64, 0, 30000);
-    write_row(store->start_table, 0, 0, 0, 30000, 1, 1);
-    write_full_page(store->start_table, 1, 2, 191, 2, 30000);
-    write_full_page(store->start_table, 2, 1, 128, 3, 191);
-    write_header(store->start_table, 3, 0, 64, 0, 128);
-    for (uint32_t row = 0; row < 64; row++)
-        write_row(store->start_table, 3, row, 2 * row, 2 * row + 2, 0, 1);
-}
-
-static void seven_pages(void)
-{
-    struct nimbleshale_store store;
-    struct nimbleshale_totals totals;
-    uint8_t refusal;
-    write_full_store(&store, 10, 2);
-    expect("six pages left", start(&store, 1, 3), 27);
-    give_back_store(&store);
-    write_full_store(&store, 11, 1);
-    expect("no root entry left", start(&store, 1, 3), 28);
-    give_back_store(&store);
-    write_full_store(&store, 11, 2);
-    /* All keys of the root in 64 live rows: spoiled comes before too few pages. */
-    write_full_page(store.start_table, 0, 3, 29000, 1, 30000);
-    store.start_table[NIMBLESHALE_TABLE_WORDS(1) + 2] = (uint64_t)29000 << 16;
-    write_row(store.start_table, 1, 63, 253, 29000, 0, 1);
-    expect("a level 3 root into two pages", start(&store, 1, 3), 26);
-    give_back_store(&store);
-    write_full_store(&store, 11, 2);
-    expect("seven pages", start(&store, 1, 3), 0);
-    expect("seven pages", store.start_pages, 11);
-    expect("the new root", store.start_roots, 2);
-    expect("the new root", store.start_list[1], 1 + ((uint64_t)10 << 32));
-    for (uint32_t key = 0; key < 128; key++) {
-        refusal = nimbleshale_look_up_starts(&store, 0, key, &totals);
-        expect_totals("the past of a full store", refusal, &totals, 4 + key / 2, 4 + key / 2, 4);
-        refusal = nimbleshale_look_up_starts(&store, 1, key, &totals);
-        expect_totals("a full store", refusal, &totals, 4 + key / 2 + (key >= 3), 4 + key / 2 + (key >= 3 ? 100 : 0), 4);
+    for (turn = 1; turn <= n[0]; turn++) {
+        uint32_t at = (uint32_t)turn - 1, point = n[3] + at;
+        uint32_t numbers[4] = {n[1] + at * n[2], point % 30000 * 7919 % 30000, point, store.started};
+        try_accepted(START, numbers);
     }
-    give_back_store(&store);
 }
 
-/* Live rows that hang over the page's range or lie beside it are served. */
-static void hanging_rows(void)
+/* lookups starts N tick T key K by S = COUNT SUM PAGES by M */
+static void try_lookups(const uint32_t *n)
 {
-    struct nimbleshale_store store;
-    struct nimbleshale_totals totals;
-    uint8_t refusal;
-    begin(&store);
-    store.start_pages = 4;
-    write_header(store.start_table, 0, 1, 3, 0, 30000);
-    write_row(store.start_table, 0, 0, 0, 100, 1, 100000);
-    write_row(store.start_table, 0, 1, 100, 200, 2, 0);
-    write_row(store.start_table, 0, 2, 200, 30000, 3, 0);
-    write_header(store.start_table, 2, 0, 5, 100, 200);
-    write_row(store.start_table, 2, 0, 150, 300, 0, 1);
-    write_row(store.start_table, 2, 1, 50, 60, 0, 10);
-    write_row(store.start_table, 2, 2, 50, 150, 0, 100);
-    write_row(store.start_table, 2, 3, 20, 30, 0, 1000);
-    write_row(store.start_table, 2, 4, 200, 201, 0, 10000);
-    refusal = nimbleshale_look_up_starts(&store, 1, 120, &totals);
-    expect_totals("a row of the same low key beside the range", refusal, &totals, 101100, 101100, 2);
-    refusal = nimbleshale_look_up_starts(&store, 1, 160, &totals);
-    expect_totals("lower rows beside the range", refusal, &totals, 101111, 101111, 2);
-    expect("a child that is not there", nimbleshale_look_up_starts(&store, 1, 99, &totals), 26);
-    expect("a start among hanging rows", start(&store, 1, 160), 0);
-    expect("a start among hanging rows", start_word(&store, 2, 1), 7);
-    expect("a start among hanging rows", start_word(&store, 2, 24), 150 + 65536 * 160);
-    expect("a start among hanging rows", start_word(&store, 2, 28), 160 + 65536 * 300);
-    expect("a start above all rows of the range", start(&store, 1, 199), 0);
-    write_row(store.start_table, 2, 3, 20, 20, 0, 1000);
-    expect("an empty live row beside the range", nimbleshale_look_up_starts(&store, 1, 160, &totals), 26);
-    expect("an empty live row at an earlier tick", nimbleshale_look_up_starts(&store, 0, 160, &totals), 26);
-    store.start_table[NIMBLESHALE_TABLE_WORDS(2) + 17] = 0;
-    refusal = nimbleshale_look_up_starts(&store, 0, 160, &totals);
-    expect_totals("a row that is not live may hold anything", refusal, &totals, 100111, 100111, 2);
-    give_back_store(&store);
+    for (turn = 1; turn <= n[0]; turn++) {
+        uint32_t at = (uint32_t)turn - 1;
+        uint32_t numbers[5] = {n[1], n[2] + at * n[3], n[4] + at * n[7], n[5] + at * n[7], n[6]};
+        try_accepted(LOOKUP_STARTS, numbers);
+    }
 }
 
-int main(void)
+/* A word of a page, or of a row of it, in the table of starts. */
+static uint64_t *page_word(uint32_t page, uint32_t word)
 {
-    alarm(60);
-    first_answers();
-    ranges();
-    all_open();
-    pages_at_rising_ticks();
-    pages_at_one_tick();
-    seven_pages();
-    hanging_rows();
-    printf("trials: %lu compared, %lu differed\n", compared, differed);
-    return differed != 0;
+    if (page >= store.start_table_length / NIMBLESHALE_PAGE_WORDS)
+        fault("no such page");
+    return store.start_table + NIMBLESHALE_TABLE_WORDS(page) + word;
+}
+
+static uint64_t *row_word(uint32_t page, uint32_t place, uint32_t word)
+{
+    if (place >= 64)
+        fault("no such row");
+    return page_word(page, 4 + 4 * place + word);
+}
+
+static struct nimbleshale_pass *pass_at(uint32_t place)
+{
+    if (place >= NIMBLESHALE_OPEN_PASSES)
+        fault("no such place");
+    return &store.passes[place];
+}
+
+/* What is looked at. */
+
+static void see_used(const uint32_t *n)
+{
+    expect("pages used", store.start_pages, n[0]);
+    expect("roots used", store.start_roots, n[1]);
+}
+
+static void see_level(const uint32_t *n)
+{
+    expect("level", *page_word(n[0], 0), n[1]);
+}
+
+static void see_rows(const uint32_t *n)
+{
+    expect("rows", *page_word(n[0], 1), n[1]);
+}
+
+static void see_row(const uint32_t *n)
+{
+    uint64_t keys = *row_word(n[0], n[1], 0);
+    expect("low key", keys % 65536, n[2]);
+    expect("high key", keys / 65536 % 65536, n[3]);
+    expect("child", keys >> 32, n[4]);
+}
+
+static void see_value(const uint32_t *n)
+{
+    expect("count", *row_word(n[0], n[1], 2), n[2]);
+    expect("sum", *row_word(n[0], n[1], 3), n[3]);
+}
+
+static void see_root(const uint32_t *n)
+{
+    if (n[0] >= store.start_list_length)
+        fault("no such root entry");
+    expect("birth", store.start_list[n[0]] % 4294967296u, n[1]);
+    expect("page", store.start_list[n[0]] >> 32, n[2]);
+}
+
+static void see_pass(const uint32_t *n)
+{
+    const struct nimbleshale_pass *pass = pass_at(n[0]);
+    expect("number", pass->number, n[1]);
+    expect("key", pass->key, n[2]);
+    expect("weight", pass->weight, n[3]);
+    expect("start", pass->start, n[4]);
+}
+
+/* What is written by hand. */
+
+static void write_used(const uint32_t *n)
+{
+    store.start_pages = n[0];
+    store.start_roots = n[1];
+}
+
+/* A page's header: page, level, rows, low key, high key. It is born at 0. */
+static void write_page(const uint32_t *n)
+{
+    *page_word(n[0], 0) = n[1];
+    *page_word(n[0], 1) = n[2];
+    *page_word(n[0], 2) = n[3] + ((uint64_t)n[4] << 16);
+    *page_word(n[0], 3) = 0;
+}
+
+static void write_life(const uint32_t *n)
+{
+    *row_word(n[0], n[1], 1) = n[2] + ((uint64_t)n[3] << 32);
+}
+
+/* A row, born at 0 and open, with the same count and sum: page, place, low key, high key, child, value. */
+static void write_row(const uint32_t *n)
+{
+    const uint32_t life[4] = {n[0], n[1], 0, OPEN_END};
+    *row_word(n[0], n[1], 0) = n[2] + ((uint64_t)n[3] << 16) + ((uint64_t)n[4] << 32);
+    *row_word(n[0], n[1], 2) = n[5];
+    *row_word(n[0], n[1], 3) = n[5];
+    write_life(life);
+}
+
+/* A page of 64 live rows of value 1: page, level, low key, high key, where the first row stops, its child. The other rows have one key each,
+ * but for the last. */
+static void write_full(const uint32_t *n)
+{
+    const uint32_t header[5] = {n[0], n[1], 64, n[2], n[3]}, first[6] = {n[0], 0, n[2], n[4], n[5], 1};
+    uint32_t place;
+    write_page(header);
+    write_row(first);
+    for (place = 1; place < 64; place++) {
+        const uint32_t low = n[4] + place - 1, row[6] = {n[0], place, low, place == 63 ? n[3] : low + 1, 0, 1};
+        write_row(row);
+    }
+}
+
+/* A leaf of 64 live rows of value 1 over two keys each. */
+static void write_pairs(const uint32_t *n)
+{
+    const uint32_t header[5] = {n[0], 0, 64, 0, 128};
+    uint32_t place;
+    write_page(header);
+    for (place = 0; place < 64; place++) {
+        const uint32_t row[6] = {n[0], place, 2 * place, 2 * place + 2, 0, 1};
+        write_row(row);
+    }
+}
+
+static void write_last(const uint32_t *n)
+{
+    store.last = n[0];
+}
+
+static void write_started(const uint32_t *n)
+{
+    store.started = n[0];
+}
+
+static void write_open(const uint32_t *n)
+{
+    store.open = n[0];
+}
+
+static void write_pass(const uint32_t *n)
+{
+    struct nimbleshale_pass *pass = pass_at(n[0]);
+    pass->number = n[1];
+    pass->key = n[2];
+    pass->weight = n[3];
+    pass->start = n[4];
+}
+
+/* memory PAGES ROOTS: for each tree */
+static void lend_memory(const uint32_t *n)
+{
+    if (is_lent || !is_begun || n[0] > 1000 || n[1] > 1000)
+        fault("no memory can be lent");
+    lend_store(&store, NIMBLESHALE_TABLE_WORDS(n[0]), n[1], NIMBLESHALE_TABLE_WORDS(n[0]), n[1]);
+    is_lent = 1;
+}
+
+/* Every step: its words, with # for a number, and what it does. First the calls. */
+static const struct {
+    const char *words;
+    enum call call;
+    void (*obey)(enum call, const uint32_t *);
+} call_forms[] = {
+    {"open", OPEN, try_accepted},
+    {"open refused #", OPEN, try_refused},
+    {"start # # # = #", START, try_accepted},
+    {"start # # # refused #", START, try_refused},
+    {"end # #", END, try_accepted},
+    {"end # # refused #", END, try_refused},
+    {"question # # # # = # # #", QUESTION, try_accepted},
+    {"question # # # # refused #", QUESTION, try_refused},
+    {"lookup starts # # = # # #", LOOKUP_STARTS, try_accepted},
+    {"lookup starts # # refused #", LOOKUP_STARTS, try_refused},
+    {"lookup ends # # = # # #", LOOKUP_ENDS, try_accepted},
+    {"lookup ends # # refused #", LOOKUP_ENDS, try_refused},
+};
+
+static const struct {
+    const char *words;
+    void (*obey)(const uint32_t *);
+} other_forms[] = {
+    {"memory # #", lend_memory},
+    {"starts # tick # by # key # by #", try_starts},
+    {"scattered # tick # by # point #", try_scattered},
+    {"lookups starts # tick # key # by # = # # # by #", try_lookups},
+    {"used # #", see_used},
+    {"level # = #", see_level},
+    {"rows # = #", see_rows},
+    {"row # # = # # child #", see_row},
+    {"value # # = # #", see_value},
+    {"root # = # #", see_root},
+    {"pass # = # # # #", see_pass},
+    {"write used # #", write_used},
+    {"write page # level # rows # range # #", write_page},
+    {"write row # # keys # # child # value #", write_row},
+    {"write life # # from # to #", write_life},
+    {"write full # level # range # # first # child #", write_full},
+    {"write pairs #", write_pairs},
+    {"write last #", write_last},
+    {"write started #", write_started},
+    {"write open #", write_open},
+    {"write pass # # # # #", write_pass},
+};
+
+static int number_of(const char *word, uint32_t *number)
+{
+    size_t length = strlen(word);
+    unsigned long long value = strtoull(word, NULL, 10);
+    *number = (uint32_t)value;
+    return length <= 10 && strspn(word, "0123456789") == length && value <= 4294967295u;
+}
+
+/* Whether the words of a line are those of a form, with its numbers. */
+static int matches(const char *form, char **words, size_t count, uint32_t *numbers)
+{
+    size_t at = 0, length;
+    for (; *form != '\0'; at++, form += length, form += *form == ' ') {
+        length = strcspn(form, " ");
+        if (at == count)
+            return 0;
+        if (*form == '#' ? !number_of(words[at], numbers++) : strlen(words[at]) != length || strncmp(words[at], form, length) != 0)
+            return 0;
+    }
+    return at == count;
+}
+
+static void obey(char **words, size_t count)
+{
+    uint32_t numbers[MOST_WORDS];
+    size_t at;
+    turn = 0;
+    if (!is_lent && strcmp(words[0], "memory") != 0)
+        fault("no memory is lent yet");
+    for (at = 0; at < sizeof call_forms / sizeof *call_forms; at++)
+        if (matches(call_forms[at].words, words, count, numbers)) {
+            call_forms[at].obey(call_forms[at].call, numbers);
+            return;
+        }
+    for (at = 0; at < sizeof other_forms / sizeof *other_forms; at++)
+        if (matches(other_forms[at].words, words, count, numbers)) {
+            other_forms[at].obey(numbers);
+            return;
+        }
+    fault("no such step");
+}
+
+/* A trial that ends gives its memory back, and must have compared something. */
+static void end_trial(void)
+{
+    if (is_begun && compared == compared_before)
+        fault("the trial before this line compares nothing");
+    if (is_lent)
+        give_back_store(&store);
+    is_begun = is_lent = 0;
+}
+
+static void take_line(void)
+{
+    char copy[sizeof text], *words[MOST_WORDS], *word;
+    size_t count = 0;
+    memcpy(copy, text, sizeof text);
+    word = strtok(copy, " \t");
+    if (word == NULL || word[0] == '#')
+        return;
+    if (strcmp(word, "trial") == 0) {
+        if (strtok(NULL, " \t") == NULL)
+            fault("a trial without a title");
+        end_trial();
+        trials++;
+        is_begun = 1;
+        compared_before = compared;
+        return;
+    }
+    for (; word != NULL; word = strtok(NULL, " \t")) {
+        if (count == MOST_WORDS)
+            fault("too many words");
+        words[count++] = word;
+    }
+    obey(words, count);
+}
+
+static void run_file(const char *name)
+{
+    FILE *file = fopen(name, "r");
+    if (file == NULL) {
+        perror(name);
+        exit(2);
+    }
+    file_name = name;
+    for (line_number = 1; fgets(text, sizeof text, file) != NULL; line_number++) {
+        size_t length = strcspn(text, "\r\n");
+        if (text[length] == '\0' && !feof(file))
+            fault("too long a line");
+        text[length] = '\0';
+        take_line();
+    }
+    strcpy(text, "end of the file");
+    end_trial();
+    fclose(file);
+}
+
+int main(int count, char **names)
+{
+    int at;
+    /* What was found shall be seen even if a call crashes. */
+    setvbuf(stdout, NULL, _IOLBF, 0);
+    for (at = 1; at < count; at++)
+        run_file(names[at]);
+    printf("trials: %lu trials, %lu calls: %lu compared, %lu differed\n", trials, calls, compared, differed);
+    return trials == 0 || compared == 0 || differed != 0;
 }

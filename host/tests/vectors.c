@@ -262,7 +262,6 @@ int main(int count, char **names)
 {
     if (count != 3)
         return 2;
-    alarm(60);
     try_traces(opened(names[1]));
     try_streams(opened(names[2]));
     printf(": %lu compared, %lu differed\n", compared, differed);
