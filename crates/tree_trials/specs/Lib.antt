@@ -1,2 +1,0 @@
--- What the tests of the program say.
-pub mod Room
