@@ -15,11 +15,11 @@ use Rattle.store.specs.Refusals.{firstMet}
 use Rattle.store.specs.Answers.{Answered}
 use Rattle.store.specs.Writing.{pointOf, passOf, isMissing, endPoint, endRefusal, endedStore, endPass}
 use Rattle.store.proofs.RefusalLaws.{none-met}
-use Rattle.calls.specs.Grounds.{endInput, headGrounds}
-use Rattle.calls.proofs.Earlier.{neither}
-use Rattle.calls.proofs.HeadFacts.{fits-head}
-use Rattle.calls.proofs.FoundPasses.{found-facts}
-use Rattle.calls.proofs.RefusalParts.{endEarly, endHead, endEntry, end-parts}
+use Rattle.refusals.specs.Grounds.{endInput, headGrounds}
+use Rattle.refusals.proofs.Earlier.{neither}
+use Rattle.refusals.proofs.HeadFacts.{fits-head}
+use Rattle.refusals.proofs.FoundPasses.{found-facts}
+use Rattle.refusals.proofs.RefusalParts.{endEarly, endHead, endEntry, end-parts}
 use Rattle.calls.proofs.Outcomes.{refusedAs, is-refused, is-done}
 use Rattle.calls.proofs.PlannedEntries.{planned}
 

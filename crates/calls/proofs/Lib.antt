@@ -1,14 +1,4 @@
--- Laws of the calls.
--- Refusals, in the parts that the code tests
-pub mod Earlier
-pub mod HeadFacts
-pub mod InputFacts
-pub mod FoundPasses
-pub mod RefusalParts
-pub mod OpeningParts
-pub mod StartParts
-pub mod EndParts
--- Answers
+-- Laws of what the calls answer and hand back.
 pub mod Outcomes
 pub mod RepliesAs
 pub mod LookupAnswers

@@ -10,12 +10,12 @@ use Rattle.store.specs.Head.{Store}
 use Rattle.store.specs.Refusals.{firstMet}
 use Rattle.store.specs.Answers.{Answered}
 use Rattle.store.specs.Reading.{valueOf, pagesOf, totals, lookupIn}
-use Rattle.calls.specs.Grounds.{earlier, lookupInput, headGrounds}
+use Rattle.refusals.specs.Grounds.{earlier, lookupInput, headGrounds}
+use Rattle.refusals.proofs.Earlier.{by-first, by-second, neither}
+use Rattle.refusals.proofs.HeadFacts.{HeadFacts, fits-head}
+use Rattle.refusals.proofs.InputFacts.{lookup-input-facts}
+use Rattle.refusals.proofs.RefusalParts.{lookupEarly, lookup-parts}
 use Rattle.calls.specs.Bands.{answerOf}
-use Rattle.calls.proofs.Earlier.{by-first, by-second, neither}
-use Rattle.calls.proofs.HeadFacts.{HeadFacts, fits-head}
-use Rattle.calls.proofs.InputFacts.{lookup-input-facts}
-use Rattle.calls.proofs.RefusalParts.{lookupEarly, lookup-parts}
 use Rattle.calls.proofs.Outcomes.{is-refused, is-done}
 
 module _ (s : Store) (t k : ℕ) {input early : ℕ} (of-input : input ≡ firstMet (lookupInput t k))

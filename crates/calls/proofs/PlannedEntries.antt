@@ -15,7 +15,7 @@ use Rattle.enter.specs.EnterRoot.{Planned}
 use Rattle.store.specs.Refusals.{firstMet}
 use Rattle.store.specs.Writing.{entryGrounds}
 use Rattle.store.proofs.TreesTook.{HasRoom, EntryCase, entry-case}
-use Rattle.calls.proofs.HeadFacts.{UseFacts}
+use Rattle.refusals.proofs.HeadFacts.{UseFacts}
 
 module _ (tree : Tree) (p : Point) (fit : UseFacts tree) where
   roomy : (made : ℕ) → made ≤ pagesLeft tree → (tree .used .pages + made) * pageWords ≤ length (tree .table)

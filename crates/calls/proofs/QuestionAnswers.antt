@@ -11,12 +11,12 @@ use Rattle.store.specs.Head.{Store, startsTree, endsTree}
 use Rattle.store.specs.Refusals.{firstMet}
 use Rattle.store.specs.Answers.{Answered}
 use Rattle.store.specs.Reading.{totals, Four, fourLookups, fourSpoiled, fourValue, fourPages, questionOf, askQuestion}
-use Rattle.calls.specs.Grounds.{earlier, questionInput, headGrounds}
+use Rattle.refusals.specs.Grounds.{earlier, questionInput, headGrounds}
+use Rattle.refusals.proofs.Earlier.{by-first, by-second, neither}
+use Rattle.refusals.proofs.HeadFacts.{HeadFacts, fits-head}
+use Rattle.refusals.proofs.InputFacts.{BandFacts, question-input-facts}
+use Rattle.refusals.proofs.RefusalParts.{questionEarly, question-parts}
 use Rattle.calls.specs.Bands.{without, inBand, answerOf}
-use Rattle.calls.proofs.Earlier.{by-first, by-second, neither}
-use Rattle.calls.proofs.HeadFacts.{HeadFacts, fits-head}
-use Rattle.calls.proofs.InputFacts.{BandFacts, question-input-facts}
-use Rattle.calls.proofs.RefusalParts.{questionEarly, question-parts}
 use Rattle.calls.proofs.Outcomes.{is-refused, is-done}
 use Rattle.calls.proofs.BandLaws.{totalOf, bands-are}
 

@@ -9,11 +9,11 @@ use Rattle.store.specs.Head.{Store, startsTree, openLimit, passLimit}
 use Rattle.store.specs.Refusals.{firstMet}
 use Rattle.store.specs.Answers.{Answered}
 use Rattle.store.specs.Writing.{pointOf, startRefusal, startedStore, startPass}
-use Rattle.calls.specs.Grounds.{startInput, headGrounds}
-use Rattle.calls.proofs.Earlier.{neither}
-use Rattle.calls.proofs.HeadFacts.{fits-head}
-use Rattle.calls.proofs.InputFacts.{start-input-facts, start-state-facts}
-use Rattle.calls.proofs.RefusalParts.{startEarly, startHead, startEntry, start-parts}
+use Rattle.refusals.specs.Grounds.{startInput, headGrounds}
+use Rattle.refusals.proofs.Earlier.{neither}
+use Rattle.refusals.proofs.HeadFacts.{fits-head}
+use Rattle.refusals.proofs.InputFacts.{start-input-facts, start-state-facts}
+use Rattle.refusals.proofs.RefusalParts.{startEarly, startHead, startEntry, start-parts}
 use Rattle.calls.proofs.Outcomes.{refusedAs, is-refused, is-done}
 use Rattle.calls.proofs.PlannedEntries.{planned}
 

@@ -1,4 +1,3 @@
--- What the calls say of what they are lent and hand back, and the definitions cut where the code cuts them.
+-- What the calls that write hand back, and a question cut where the code cuts it.
 pub mod Replies
-pub mod Grounds
 pub mod Bands

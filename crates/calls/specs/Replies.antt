@@ -1,21 +1,11 @@
--- What a call is handed, as a store, and what it hands back.
+-- What a call that writes hands back.
 use Prim.Native.Nat.{ℕ}
 use mathlib.Core.Path.{_≡_}
 use mathlib.Core.List.{List}
 use Rattle.store.specs.declared.types.Head.{Head}
 use Rattle.store.specs.declared.types.Answer.the-variants.{Refused}
-use Rattle.store.specs.Head.{Lent, Store}
 use Rattle.store.specs.Answers.{Answered}
 use Rattle.calls.specs.declared.types.Reply.{Reply}
-
--- The lent slices: page table and root list of the starts, then of the ends
-abbrev pub lentOf : List ℕ → List ℕ → List ℕ → List ℕ → Lent
-lentOf startTable startRoots endTable endRoots =
-    record { startTable = startTable; startRoots = startRoots; endTable = endTable; endRoots = endRoots }
-
--- With a head
-abbrev pub storeOf : Head → List ℕ → List ℕ → List ℕ → List ℕ → Store
-storeOf head startTable startRoots endTable endRoots = record { head = head; lent = lentOf startTable startRoots endTable endRoots }
 
 -- "A refusal returns its number and no other field"
 abbrev pub refusedReply : ℕ → Head → Reply

@@ -1,8 +1,6 @@
 // The calls of the store: opening, start, end, question and the lookup of each tree. None of them asks anything of what it is handed.
-mod grounds;
 mod opening;
 mod reading;
-mod refusals;
 mod types;
 mod writing;
 

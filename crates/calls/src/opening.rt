@@ -1,7 +1,7 @@
 // Opening a store: an empty tree of starts, an empty tree of ends, and a head that says so.
-use crate::refusals::opening_refusal;
 use crate::types::Reply;
 use page::Page;
+use refusals::opening_refusal;
 use split::put_page;
 use store::Answer;
 use store::Head;
@@ -11,8 +11,9 @@ ghost use Prim.Native.Nat.{_≤_};
 ghost use lib.ListN.{length};
 ghost use Rattle.tree.specs.Row.{pageWords};
 ghost use Rattle.tree.specs.Grown.{openedTree};
+ghost use Rattle.store.specs.Head.{storeOf};
 ghost use Rattle.store.specs.Writing.{openStore};
-ghost use Rattle.calls.specs.Replies.{storeOf, RepliedAs};
+ghost use Rattle.calls.specs.Replies.{RepliedAs};
 
 // Page 0, a leaf with one row of value zero over all keys, born at 0, and the first root entry, which is for it. No other word changes.
 fn open_tree(table: &mut [u64], roots: &mut [u64])

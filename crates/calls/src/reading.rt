@@ -1,10 +1,10 @@
 // The calls that only read: the lookup of each tree, and the question, which is made of lookups.
-use crate::grounds::lookup_input;
-use crate::grounds::question_input;
-use crate::refusals::head_refusal;
 use lookup::find_root;
 use lookup::lookup_at;
 use lookup::lookup_two_at;
+use refusals::head_refusal;
+use refusals::lookup_input;
+use refusals::question_input;
 use store::Answer;
 use store::Head;
 use tree::Lookup;
@@ -14,8 +14,8 @@ ghost use Prim.Native.Nat.{_*_, _≤_, _<_};
 ghost use lib.ListN.{length};
 ghost use Rattle.words.specs.Words.{keyLimit};
 ghost use Rattle.tree.specs.Row.{pageWords};
+ghost use Rattle.store.specs.Head.{storeOf};
 ghost use Rattle.store.specs.Reading.{pagesOf, askQuestion, lookUpStarts, lookUpEnds};
-ghost use Rattle.calls.specs.Replies.{storeOf};
 ghost use Rattle.calls.specs.Bands.{without, inBand, answerOf};
 
 // A lookup's totals, or 26 where it met a spoiled page.

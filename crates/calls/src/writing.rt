@@ -1,19 +1,20 @@
 // The calls that enter a point: a start into the tree of starts, an end into the tree of ends. Nothing is written before every refusal is
 // ruled out, and then nothing can go wrong.
-use crate::refusals::end_refusal;
-use crate::refusals::start_refusal;
 use crate::types::Reply;
 use enter::enter;
 use head::ended_head;
 use head::find_pass;
 use head::started_head;
+use refusals::end_refusal;
+use refusals::start_refusal;
 use store::Answer;
 use store::FoundPass;
 use store::Head;
 use words::Value;
 ghost use mathlib.Core.Path.{_≡_};
+ghost use Rattle.store.specs.Head.{storeOf};
 ghost use Rattle.store.specs.Writing.{pointOf, startPass, endPass};
-ghost use Rattle.calls.specs.Replies.{storeOf, RepliedAs};
+ghost use Rattle.calls.specs.Replies.{RepliedAs};
 
 // What a pass of a weight adds to a tree: a count of 1, and the weight.
 fn one_pass(weight: u32) -> Value

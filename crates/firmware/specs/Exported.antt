@@ -5,9 +5,8 @@ use mathlib.Core.List.{List}
 use lib.ListN.{length}
 use Rattle.store.specs.declared.types.Answer.{Answer}
 use Rattle.store.specs.declared.types.Answer.the-variants.{Refused, Opened, Started, Ended, Totals}
-use Rattle.store.specs.Head.{Store}
+use Rattle.store.specs.Head.{Store, storeOf}
 use Rattle.store.specs.Answers.{refusalOf, Answered}
-use Rattle.calls.specs.Replies.{storeOf}
 use Rattle.firmware.specs.Heads.{Fields, passNumbers, headOf, fieldsOf, numbersOf}
 
 -- The four lent slices of a store, page table and root list of the starts, then of the ends

@@ -75,7 +75,8 @@ pub fn ended_head(mut head: Head, used: TreeUse, tick: u32, place: usize) -> Hea
         head.passes[at] = later;
         at += 1;
     }
-    head.passes[last] = no_pass();
+    let empty = no_pass();
+    head.passes[last] = empty;
     head.last = tick;
     head.count = count;
     head.ends = used;

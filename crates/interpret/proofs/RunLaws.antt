@@ -9,14 +9,14 @@ use borrow.Author.Tests.{lt-ltb, le-ltb}
 use Rattle.words.specs.Overwrite.{overwrite}
 use Rattle.store.specs.declared.types.Head.{Head}
 use Rattle.store.specs.declared.types.Answer.{Answer}
-use Rattle.store.specs.Head.{Store}
+use Rattle.store.specs.Head.{Store, storeOf}
 use Rattle.store.specs.Answers.{Answered, unlessRefused}
 use Rattle.store.specs.Reading.{fourLookups, questionRefusal, askQuestion}
 use Rattle.store.specs.Writing.{startPass, endPass}
 use Rattle.store.specs.Calls.{Call, start, end, question, perform}
 use Rattle.store.proofs.Turns.{asksAs}
 use Rattle.calls.specs.declared.types.Reply.{Reply}
-use Rattle.calls.specs.Replies.{storeOf, RepliedAs}
+use Rattle.calls.specs.Replies.{RepliedAs}
 use Rattle.command.specs.Bytes.{operand}
 use Rattle.command.specs.Stream as stream
 use Rattle.command.specs.Stream.{Kind, unknown, command, startCommand, endCommand, questionCommand, kindOf, written, unknownCommand, cutShort, stops, answers, runKind, runOne}

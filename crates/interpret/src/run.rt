@@ -10,7 +10,7 @@ ghost use mathlib.Core.List.{[], _∷_};
 ghost use Prim.Native.Nat.{_≤_};
 ghost use lib.ListN.{length};
 ghost use Rattle.words.specs.Overwrite.{overwrite};
-ghost use Rattle.calls.specs.Replies.{storeOf};
+ghost use Rattle.store.specs.Head.{storeOf};
 ghost use Rattle.command.specs.Stream.{command, kindOf, operandBytes, startCommand, endCommand, questionCommand, runKind, runOne};
 ghost use Rattle.interpret.specs.Runs.{longestAnswer, RanAs};
 

@@ -18,10 +18,19 @@ pub record Lent : Type 0 where
   pub endTable : List ℕ
   pub endRoots : List ℕ
 
+-- From the page table and the root list of the starts, then of the ends
+abbrev pub lentOf : List ℕ → List ℕ → List ℕ → List ℕ → Lent
+lentOf startTable startRoots endTable endRoots =
+    record { startTable = startTable; startRoots = startRoots; endTable = endTable; endRoots = endRoots }
+
 -- What a call is handed and what it leaves
 pub record Store : Type 0 where
   pub head : Head
   pub lent : Lent
+
+-- From a head and these four
+abbrev pub storeOf : Head → List ℕ → List ℕ → List ℕ → List ℕ → Store
+storeOf head startTable startRoots endTable endRoots = record { head = head; lent = lentOf startTable startRoots endTable endRoots }
 
 abbrev pub startsTree : Store → Tree
 startsTree s = record { table = s .lent .startTable; roots = s .lent .startRoots; used = s .head .starts }

@@ -1,5 +1,5 @@
-// The store, two trees and a head, as definitions and theorems: this crate has the types that they speak of and no function. The crates `head`
-// and `calls` have the code.
+// The store, two trees and a head, as definitions and theorems: this crate has the types that they speak of and no function. The crates `head`,
+// `refusals` and `calls` have the code.
 mod types;
 
 pub use types::Answer;

@@ -262,7 +262,7 @@ module _ (measure : Value → ℕ) (m : Measure measure) (tree : Tree) (points :
 -- A tree just opened
 module _ (table roots : List ℕ) (room : 260 ≤ length table) (list : 1 ≤ length roots) where
   first-whole : length firstPage ≡ 260
-  first-whole = fresh-length 0 0 keyLimit 0 (newRow 0 0 keyLimit 0 value.zero ∷ []) (omega arith)
+  first-whole = fresh-length _ _ _ _ _ (omega arith)
 
   opened-table : pageAt (openedTree table roots .table) 0 ≡ firstPage
   opened-table = put-same table 0 firstPage (omega arith) first-whole

@@ -41,6 +41,7 @@ pub mod GrownStates
 pub mod View
 pub mod ReplaceViews
 pub mod Searches
+pub mod OneGain
 pub mod RowViews
 pub mod RowBounds
 pub mod PageViews

@@ -37,6 +37,7 @@ use Rattle.tree.proofs.RowCounts.{one-start}
 use Rattle.tree.proofs.OrderedSlots.{entriesOf, ordered-is}
 use Rattle.tree.proofs.View.{viewRows, placedEntry, order-view}
 use Rattle.tree.proofs.ReplaceViews.{replace-view, none-replaced}
+use Rattle.tree.proofs.OneGain.{none-gains}
 use Rattle.tree.proofs.Searches.{first-has, first-passes, mapSearch, first-map, inside, from, holding, holding-some, inside-some}
 use Rattle.tree.proofs.Searches.{inside-none, from-here, from-last, from-next}
 
@@ -178,9 +179,8 @@ module _ (measure : Value → ℕ) (m : Measure measure) {A : Type 0} (P : ℕ �
 
   gain-none : (mm : ℕ) → rowFrom p rows ≡ none → sumLive (p .tick) (λ e. onlyIf (eqb (e .low) mm) 1) (viewRows measure rows) ≡ 0
       → viewRows measure (gainRows p rows) ≡ replaced (p .tick) mm (plusAmount (measure (p .value))) noneFurther (viewRows measure rows)
-  unfolding gainRows
   gain-none mm e h =
-      ap (λ (s : Search Placed). viewRows measure (gainIn p rows s)) e
+      ap (viewRows measure) (none-gains p rows e)
       ∙ sym (none-replaced (p .tick) mm (plusAmount (measure (p .value))) noneFurther (viewRows measure rows) h)
 
   -- The model's fields of the slot

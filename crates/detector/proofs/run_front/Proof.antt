@@ -1,7 +1,7 @@
 use mathlib.Core.Path.{sym}
 use lib.ListN.{take}
 use lib.Seq.{length-take-le}
-use Rattle.calls.specs.Replies.{storeOf}
+use Rattle.store.specs.Head.{storeOf}
 use Rattle.interpret.proofs.OutputLength.{ran-fits}
 use borrow.Author.Needs.{needs}
 use Rattle.detector.proofs.run_front.Statement.{statement}

@@ -1,7 +1,6 @@
 use mathlib.Core.Path.{refl, sym, _∙_}
-use Rattle.store.specs.Head.{Store}
+use Rattle.store.specs.Head.{Store, storeOf}
 use Rattle.store.proofs.OpeningTurns.{takes}
-use Rattle.calls.specs.Replies.{storeOf}
 use Rattle.calls.proofs.RepliesAs.{replied, refused-reply}
 use Rattle.calls.proofs.OpeningReplies.{opening-refused, opening-done}
 use borrow.Author.Needs.{needs}

@@ -1,9 +1,8 @@
 use native.Mathlib.Omega.{arith}
 use mathlib.Core.Path.{ap, _∙_}
 use Rattle.tree.specs.Lookup.{lookup}
-use Rattle.store.specs.Head.{Store, endsTree}
+use Rattle.store.specs.Head.{Store, endsTree, storeOf}
 use Rattle.store.specs.Reading.{lookUpEnds}
-use Rattle.calls.specs.Replies.{storeOf}
 use Rattle.calls.specs.Bands.{answerOf}
 use Rattle.calls.proofs.LookupAnswers.{lookup-refused, lookup-head, lookup-key, lookup-answered}
 use borrow.Author.Needs.{needs}

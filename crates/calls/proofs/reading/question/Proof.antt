@@ -1,8 +1,7 @@
 use Prim.Native.Nat.{_-_}
 use native.Mathlib.Omega.{arith}
 use mathlib.Core.Path.{ap, ap₂, _∙_}
-use Rattle.store.specs.Head.{Store, startsTree, endsTree}
-use Rattle.calls.specs.Replies.{storeOf}
+use Rattle.store.specs.Head.{Store, startsTree, endsTree, storeOf}
 use Rattle.calls.specs.Bands.{without, answerOf}
 use Rattle.calls.proofs.BandLaws.{band-few}
 use Rattle.calls.proofs.QuestionAnswers.{question-refused, question-head, question-band, question-answered}

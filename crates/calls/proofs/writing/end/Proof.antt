@@ -2,9 +2,8 @@ use native.Mathlib.Omega.{arith}
 use mathlib.Core.Path.{refl, ap, sym, _∙_}
 use Rattle.tree.specs.declared.types.TreeUse.{TreeUse}
 use Rattle.store.specs.declared.types.FoundPass.the-variants.{At}
-use Rattle.store.specs.Head.{Store}
+use Rattle.store.specs.Head.{Store, storeOf}
 use Rattle.store.specs.Writing.{endedHead}
-use Rattle.calls.specs.Replies.{storeOf}
 use Rattle.calls.proofs.RepliesAs.{replied, refused-reply}
 use Rattle.calls.proofs.EndReplies.{end-accepted, end-refused, end-done}
 use borrow.Author.Needs.{needs}

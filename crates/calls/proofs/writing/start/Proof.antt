@@ -1,9 +1,8 @@
 use native.Mathlib.Omega.{arith}
 use mathlib.Core.Path.{refl, ap, sym, _∙_}
 use Rattle.tree.specs.declared.types.TreeUse.{TreeUse}
-use Rattle.store.specs.Head.{Store}
+use Rattle.store.specs.Head.{Store, storeOf}
 use Rattle.store.specs.Writing.{startedHead}
-use Rattle.calls.specs.Replies.{storeOf}
 use Rattle.calls.proofs.RepliesAs.{replied, refused-reply}
 use Rattle.calls.proofs.StartReplies.{start-accepted, start-refused, start-done}
 use borrow.Author.Needs.{needs}

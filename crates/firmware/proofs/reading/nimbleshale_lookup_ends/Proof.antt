@@ -1,7 +1,7 @@
 use mathlib.Core.Path.{refl, ap, _∙_}
 use Rattle.store.specs.declared.types.Head.{Head}
+use Rattle.store.specs.Head.{storeOf}
 use Rattle.store.specs.Reading.{lookUpEnds}
-use Rattle.calls.specs.Replies.{storeOf}
 use Rattle.firmware.proofs.ExportedLaws.{told}
 use borrow.Author.Needs.{needs}
 use Rattle.firmware.proofs.reading.nimbleshale_lookup_ends.Statement.{statement}

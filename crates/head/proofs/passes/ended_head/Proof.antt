@@ -61,11 +61,11 @@ loop-again c = let a = c .before .before .before .args in
 no-pass-requires : tie.Need-no-pass-requires Inv-loop μ-loop
 no-pass-requires c κs = search needs
 
-mul-t20 : tie.Need-mul-t20 Inv-loop μ-loop
-mul-t20 c = search needs
+mul-empty : tie.Need-mul-empty Inv-loop μ-loop
+mul-empty c = search needs
 
-element-set-from-head : tie.Need-element-set-from-head Inv-loop μ-loop
-element-set-from-head c = search needs
+element-set-from-empty : tie.Need-element-set-from-empty Inv-loop μ-loop
+element-set-from-empty c = search needs
 
 returns : tie.Need-returns Inv-loop μ-loop
 returns c = λ pass. let a = c .before .before .before .args in
@@ -93,6 +93,6 @@ ended-head-spec =
     loop-less
     loop-again
     no-pass-requires
-    mul-t20
-    element-set-from-head
+    mul-empty
+    element-set-from-empty
     returns)

@@ -1,0 +1,2 @@
+-- The refusal lists cut where the code cuts them.
+pub mod Grounds

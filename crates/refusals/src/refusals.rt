@@ -1,0 +1,172 @@
+// The refusal lists: the number of the first ground that is met, or 0. What a ground reads is looked at only where no earlier one is met,
+// since only then may it be trusted: the head after 20, the open passes and the trees after that. The plan, which opens pages, comes last.
+use crate::grounds::end_input;
+use crate::grounds::start_input;
+use crate::grounds::start_state;
+use head::find_pass;
+use head::head_fits;
+use page::Page;
+use store::FoundPass;
+use store::Head;
+use tree::Plan;
+use tree::RootChange;
+use tree::TreeUse;
+ghost use mathlib.Core.Path.{_≡_};
+ghost use mathlib.Core.List.{[], _∷_};
+ghost use lib.Dec.{leb};
+ghost use Prim.Native.Nat.{_≤_};
+ghost use Rattle.tree.specs.Tree.{wholePages, pagesLeft, pageLimit};
+ghost use Rattle.store.specs.Head.{lentOf, storeOf};
+ghost use Rattle.store.specs.Refusals.{_gives_, firstMet};
+ghost use Rattle.store.specs.Writing.{entryGrounds, tooSmall, openingRefusal, startRefusal, endRefusal};
+ghost use Rattle.refusals.specs.Grounds.{earlier, headGrounds};
+
+// Whether a table has no room for a page, or a list none for a root.
+fn too_small(table: &[u64], roots: &[u64]) -> bool
+    ensures { λ r. ⌜ r ≡ tooSmall (now (table .entry)) (now (roots .entry)) ⌝ }
+{
+    if table.len() < Page::WORDS {
+        return true;
+    }
+    roots.len() < 1
+}
+
+// The refusal of an opening. Both trees are tested before either is written.
+pub fn opening_refusal(
+    start_table: &[u64],
+    start_roots: &[u64],
+    end_table: &[u64],
+    end_roots: &[u64],
+) -> u8
+    ensures { λ r. ⌜ r ≡ openingRefusal (lentOf (now («start_table» .entry)) (now («start_roots» .entry)) (now («end_table» .entry)) (now («end_roots» .entry))) ⌝ }
+{
+    if too_small(start_table, start_roots) {
+        return 8;
+    }
+    if too_small(end_table, end_roots) {
+        return 8;
+    }
+    0
+}
+
+// 20, unless the input calls for a refusal already.
+pub fn head_refusal(
+    head: Head,
+    start_table: &[u64],
+    start_roots: &[u64],
+    end_table: &[u64],
+    end_roots: &[u64],
+    input: u8,
+) -> u8
+    ensures { λ r. ⌜ r ≡ earlier input (firstMet (headGrounds (storeOf head (now («start_table» .entry)) (now («start_roots» .entry)) (now («end_table» .entry)) (now («end_roots» .entry))))) ⌝ }
+{
+    if input != 0 {
+        return input;
+    }
+    if head_fits(head, start_table, start_roots, end_table, end_roots) {
+        return 0;
+    }
+    20
+}
+
+// The pages that are left to a tree: the whole pages of its table, at most 1,000,000 of them, less those in use.
+fn pages_left(table: &[u64], used: TreeUse) -> usize
+    requires { ⌜ used .pages ≤ wholePages (now table) ⌝ }
+    requires { ⌜ used .pages ≤ pageLimit ⌝ }
+    ensures { λ r. ⌜ r ≡ pagesLeft (record { table = now (table .entry); roots = []; used = used }) ⌝ }
+{
+    let most = TreeUse::PAGE_LIMIT as usize;
+    let whole = table.len() / Page::WORDS;
+    if whole < most {
+        return whole - used.pages as usize;
+    }
+    most - used.pages as usize
+}
+
+// 28, for an entry that adds a root to a list of so many places.
+fn list_refusal(places: usize, used: u32) -> u8
+    ensures { λ r. ⌜ r ≡ firstMet (leb places used gives 28 ∷ []) ⌝ }
+{
+    if places <= used as usize {
+        return 28;
+    }
+    0
+}
+
+// 26, 27 and 28: what the plan of an entry says of the pages met, of the pages left and of the root list.
+fn entry_refusal(table: &[u64], roots: &[u64], used: TreeUse, plan: Plan) -> u8
+    requires { ⌜ used .pages ≤ wholePages (now table) ⌝ }
+    requires { ⌜ used .pages ≤ pageLimit ⌝ }
+    ensures { λ r. ⌜ r ≡ firstMet (entryGrounds (record { table = now (table .entry); roots = now (roots .entry); used = used }) plan) ⌝ }
+{
+    let Plan::Ready { made, root } = plan else {
+        return 26;
+    };
+    if pages_left(table, used) < made as usize {
+        return 27;
+    }
+    match root {
+        RootChange::Kept => 0,
+        RootChange::Added => list_refusal(roots.len(), used.roots),
+        RootChange::Replaced => 0,
+    }
+}
+
+// The refusal of a start.
+pub fn start_refusal(
+    head: Head,
+    start_table: &[u64],
+    start_roots: &[u64],
+    end_table: &[u64],
+    end_roots: &[u64],
+    tick: u32,
+    key: u32,
+    weight: u32,
+) -> u8
+    ensures { λ r. ⌜ r ≡ startRefusal (storeOf head (now («start_table» .entry)) (now («start_roots» .entry)) (now («end_table» .entry)) (now («end_roots» .entry))) tick key weight ⌝ }
+{
+    let input = start_input(tick, key, weight);
+    let early = head_refusal(head, start_table, start_roots, end_table, end_roots, input);
+    if early != 0 {
+        return early;
+    }
+    let state = start_state(head.last, head.count, head.started, tick);
+    if state != 0 {
+        return state;
+    }
+    let used = head.starts;
+    let plan = plan::plan(start_table, start_roots, used, tick, key as u16);
+    entry_refusal(start_table, start_roots, used, plan)
+}
+
+// The refusal of an end. The pass gives the key of the point to plan.
+pub fn end_refusal(
+    head: Head,
+    start_table: &[u64],
+    start_roots: &[u64],
+    end_table: &[u64],
+    end_roots: &[u64],
+    tick: u32,
+    number: u32,
+) -> u8
+    ensures { λ r. ⌜ r ≡ endRefusal (storeOf head (now («start_table» .entry)) (now («start_roots» .entry)) (now («end_table» .entry)) (now («end_roots» .entry))) tick number ⌝ }
+{
+    let input = end_input(tick);
+    let early = head_refusal(head, start_table, start_roots, end_table, end_roots, input);
+    if early != 0 {
+        return early;
+    }
+    if tick < head.last {
+        return 21;
+    }
+    let found = find_pass(head, number);
+    let FoundPass::At { place: _, pass } = found else {
+        return 22;
+    };
+    if tick == pass.start {
+        return 23;
+    }
+    let used = head.ends;
+    let plan = plan::plan(end_table, end_roots, used, tick, pass.key as u16);
+    entry_refusal(end_table, end_roots, used, plan)
+}
