@@ -1,23 +1,15 @@
-// Random histories of the store: calls of every kind, refused ones among them, whose answers are compared with those of the pass book. The program
-// writes what was compared and what differed.
-mod call;
-mod counts;
-mod group;
-mod history;
-mod left_behind;
-mod outcome;
-mod paths;
+// Random histories of the store against the pass book. The program writes what was compared and what differed.
 mod report;
 
-use counts::Counts;
-use group::group;
+use histories::Counts;
+use histories::group_of;
 use random_calls::NUMBERS;
 use report::say;
 use report::say_counts;
 use report::say_group;
 
 // Every group of histories, with a line for each.
-fn histories(
+fn run_groups(
     start_table: &mut [u64],
     start_roots: &mut [u64],
     end_table: &mut [u64],
@@ -27,7 +19,7 @@ fn histories(
     let mut all = Counts::none();
     let mut number: u32 = 0;
     while number < 8 {
-        let counts = group(
+        let counts = group_of(
             start_table,
             start_roots,
             end_table,
@@ -50,7 +42,7 @@ fn main() {
     let mut end_table = [0u64; 41600];
     let mut end_roots = [0u64; 160];
     let mut passes = [0u32; NUMBERS];
-    let all = histories(
+    let all = run_groups(
         &mut start_table,
         &mut start_roots,
         &mut end_table,

@@ -1,5 +1,5 @@
 // What the program writes.
-use crate::counts::Counts;
+use histories::Counts;
 use libc::STDOUT_FILENO;
 
 pub fn say(text: &[u8]) {

@@ -1,0 +1,58 @@
+use mathlib.Core.Path.{ap, sym}
+use Rattle.histories.specs.Answers.{fieldsOf}
+use borrow.Author.Needs.{needs}
+use Rattle.histories.proofs.counts.fields_of.Statement.{statement}
+use Rattle.histories.proofs.counts.fields_of.Tie as tie
+
+enum-known-answer : tie.Need-enum-known-answer
+enum-known-answer c = search needs
+
+cast-t8 : tie.Need-cast-t8
+cast-t8 c = search needs
+
+enum-told : tie.Need-enum-told
+enum-told c = search needs
+
+enum-known-answer-2 : tie.Need-enum-known-answer-2
+enum-known-answer-2 c = search needs
+
+cast-t9 : tie.Need-cast-t9
+cast-t9 c = search needs
+
+enum-told-2 : tie.Need-enum-told-2
+enum-told-2 c = search needs
+
+enum-known-answer-3 : tie.Need-enum-known-answer-3
+enum-known-answer-3 c = search needs
+
+returns : tie.Need-returns
+returns c = sym (ap fieldsOf (c .before .answer .given .1))
+
+returns-2 : tie.Need-returns-2
+returns-2 c = sym (ap fieldsOf (c .enum-told .given .1))
+
+returns-3 : tie.Need-returns-3
+returns-3 c = sym (ap fieldsOf (c .before .answer2 .given .1))
+
+returns-4 : tie.Need-returns-4
+returns-4 c = sym (ap fieldsOf (c .enum-told2 .given .1))
+
+returns-5 : tie.Need-returns-5
+returns-5 c = sym (ap fieldsOf (c .before .answer3 .given .1))
+
+pub fields-of-spec : {M : Type 1} → statement M
+fields-of-spec =
+    tie.close
+    (tie.spec
+    enum-known-answer
+    cast-t8
+    enum-told
+    enum-known-answer-2
+    cast-t9
+    enum-told-2
+    enum-known-answer-3
+    returns
+    returns-2
+    returns-3
+    returns-4
+    returns-5)
