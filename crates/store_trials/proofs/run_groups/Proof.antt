@@ -36,8 +36,8 @@ group-of-requires : tie.Need-group-of-requires Inv-loop μ-loop
 group-of-requires c κs = search needs
 
 -- src/main.rt:43:9
-say-group-of-requires : tie.Need-say-group-of-requires Inv-loop μ-loop
-say-group-of-requires c κs = search needs
+say-group-requires : tie.Need-say-group-requires Inv-loop μ-loop
+say-group-requires c κs = search needs
 
 -- src/main.rt:44:9
 say-counts-requires : tie.Need-say-counts-requires Inv-loop μ-loop
@@ -88,7 +88,7 @@ run-groups-spec =
     none-requires
     loop-holds
     group-of-requires
-    say-group-of-requires
+    say-group-requires
     say-counts-requires
     plus-requires
     add-number
