@@ -30,7 +30,7 @@ use Rattle.tree.specs.Enter.{Entered, enterAbove, enterBelow, enterFrom, withRo
 use Rattle.tree.specs.Plan.{soundBelow, descentSound, topMustSplit, planRoot, plan, enteredRoot, enter}
 use Rattle.split.specs.declared.done.Done.{Done}
 use Rattle.enter.specs.EnterWords.{useOf, CanEnter, DoneAs}
-use Rattle.lookup.proofs.LookupLaws.{level-in-table}
+use Rattle.tree.proofs.TableLaws.{level-in-table}
 use Rattle.enter.proofs.EnterFacts.{enter-facts}
 use Rattle.enter.specs.EnterRoot.{rootTree, CanPut, RootPut, Planned, EnteredAs}
 

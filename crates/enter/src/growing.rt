@@ -1,8 +1,8 @@
 // Entering a point into a tree: from the root for its tick down, and what a root overflow does to the root list.
 use crate::entering::COPY_WORDS;
 use crate::entering::enter_from;
-use lookup::find_root;
 use page::Page;
+use roots::find_root;
 use split::put_page;
 use split::taken_page;
 use tree::Became;

@@ -1,5 +1,3 @@
--- Laws of the root search and of the lookup.
-pub mod RootSearch
+-- Laws of the lookup.
 pub mod LookupLaws
 pub mod HeldRanges
-pub mod TogetherLaws

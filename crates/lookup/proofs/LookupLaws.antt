@@ -27,6 +27,7 @@ use Rattle.tree.specs.declared.types.Lookup.{Lookup}
 use Rattle.tree.specs.declared.types.Lookup.the-variants.{Spoiled, Found}
 use Rattle.tree.specs.Tree.{Tree, pageAt, levelOf, topLevel, rootAt, rootInUse}
 use Rattle.tree.specs.Lookup.{plusPage, withBelow, lookupPage, lookupFrom, lookupRoot, lookup}
+use Rattle.tree.proofs.TableLaws.{level-in-table}
 use Rattle.lookup.specs.declared.descent.Top.{Top}
 use Rattle.lookup.specs.declared.descent.Top.the-variants as top
 use Rattle.lookup.specs.Descent.{onward, opened, below, lookupHeld, topOf, lookupTop, TopFits}
@@ -125,13 +126,6 @@ from-roots table used a b t k zero low high page = refl
 from-roots table used a b t k (suc l) low high page =
     ap (lookupPage (record { table = table; roots = b; used = used }) t k (suc l) low high page)
     (λ i. λ (row : Row). from-roots table used a b t k l (row .low) (row .high) (row .child) i)
-
--- The level of a page, read from the table
-pub level-in-table : (table : List ℕ) (page : ℕ) → levelOf table page ≡ word table (page * pageWords)
-level-in-table table page =
-    getD-take pageWords (drop (page * pageWords) table) 0 0 (omega arith)
-    ∙ getD-drop (page * pageWords) table 0 0
-    ∙ ap (word table) (omega arith)
 
 -- Nor does it from a root that is known
 root-roots : (table : List ℕ) (used : TreeUse) (a b : List ℕ) (t k : ℕ) (root : Root)

@@ -1,3 +1,2 @@
 -- The lookup of one tree as the code makes it.
 pub mod Descent
-pub mod Together

@@ -1,6 +1,6 @@
 // The lookup of one tree: from the root for the tick down to a leaf, the true values of the rows that hold (t, k) added on the way.
-use crate::roots::find_root;
 use page::Page;
+use roots::find_root;
 use tree::Held;
 use tree::Lookup;
 use tree::Root;

@@ -24,8 +24,8 @@ use Rattle.tree.specs.Overflow.{Written}
 use Rattle.tree.specs.Enter.{Entered, enteredAs, enterFrom, enterRoot}
 use Rattle.tree.specs.Plan.{isHalved, topMustSplit, descentSound, planRoot, plan}
 use Rattle.plan.specs.PlanSteps.{planTop, planFrom}
-use Rattle.lookup.proofs.RootSearch.{root-none}
-use Rattle.lookup.proofs.LookupLaws.{level-in-table}
+use Rattle.roots.proofs.RootSearch.{root-none}
+use Rattle.tree.proofs.TableLaws.{level-in-table}
 use Rattle.plan.proofs.PlanLaws.{partsIn, outcome, join-tests, plan-from-is}
 
 -- What the root's own plan makes of the whole

@@ -1,9 +1,9 @@
 // The plan of an entry, made before anything is written: whether a spoiled page is met, how many pages the entry makes, and what it
 // does to the root list. Only counts of rows decide that, so the plan reads each page once and copies no row.
 use live::Surveyed;
-use lookup::find_root;
 use page::Page;
 use ranges::Place;
+use roots::find_root;
 use tree::Plan;
 use tree::Root;
 use tree::RootChange;

@@ -8,7 +8,8 @@ use lib.ListN.{length, take, drop, getD, length-take, length-drop}
 use lib.Seq.{length-take-le, take-at, drop-at, getD-take, getD-drop, ext-getD}
 use Rattle.words.specs.Overwrite.{overwrite}
 use Rattle.words.proofs.OverwriteLaws.{overwrite-length, word-before, word-behind}
-use Rattle.tree.specs.Tree.{pageAt, putPage}
+use Rattle.tree.specs.Row.{word, pageWords}
+use Rattle.tree.specs.Tree.{pageAt, putPage, levelOf}
 
 -- The length of a page that lies in the table
 pub page-length : (table : List ℕ) (page : ℕ) → page * 260 + 260 ≤ length table → length (pageAt table page) ≡ 260
@@ -53,3 +54,10 @@ module _ (table : List ℕ) (page : ℕ) (words : List ℕ) (fits : page * 260 +
           ∙ getD-drop (other * 260) (putPage table page words) i 0
           ∙ in-table i small
           ∙ sym (getD-take 260 (drop (other * 260) table) i 0 small ∙ getD-drop (other * 260) table i 0)
+
+-- The level of a page, read from the table
+pub level-in-table : (table : List ℕ) (page : ℕ) → levelOf table page ≡ word table (page * pageWords)
+level-in-table table page =
+    getD-take pageWords (drop (page * pageWords) table) 0 0 (omega arith)
+    ∙ getD-drop (page * pageWords) table 0 0
+    ∙ ap (word table) (omega arith)

@@ -17,7 +17,7 @@ use Rattle.enter.proofs.growing.enter.Reads as reads
 use Rattle.enter.proofs.growing.enter.Lts as lts
 use Rattle.enter.proofs.entering.enter_from.Reads as enter-from-reads
 use Rattle.enter.proofs.growing.put_root.Reads as put-root-reads
-use Rattle.lookup.proofs.find_root.Reads as find-root-reads
+use Rattle.roots.proofs.find_root.Reads as find-root-reads
 use Rattle.page.proofs.fresh.Page.two_row_root.Reads as two-row-root-reads
 use Rattle.split.proofs.put_page.Reads as put-page-reads
 use Rattle.split.proofs.taken_page.Reads as taken-page-reads

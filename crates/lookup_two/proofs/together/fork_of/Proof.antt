@@ -1,7 +1,7 @@
 use mathlib.Core.Path.{refl}
 use borrow.Author.Needs.{needs}
-use Rattle.lookup.proofs.together.fork_of.Statement.{statement}
-use Rattle.lookup.proofs.together.fork_of.Tie as tie
+use Rattle.lookup_two.proofs.together.fork_of.Statement.{statement}
+use Rattle.lookup_two.proofs.together.fork_of.Tie as tie
 
 returns : tie.Need-returns
 returns c = search needs

@@ -1,9 +1,9 @@
 use mathlib.Core.List.{[]}
 use borrow.Author.Needs.{needs}
 use Rattle.tree.specs.Tree.{Tree}
 use Rattle.lookup.proofs.LookupLaws.{opens, opens-not}
-use Rattle.lookup.proofs.together.open_page_for_two.Statement.{statement}
-use Rattle.lookup.proofs.together.open_page_for_two.Tie as tie
+use Rattle.lookup_two.proofs.together.open_page_for_two.Statement.{statement}
+use Rattle.lookup_two.proofs.together.open_page_for_two.Tie as tie
 
 mul-from : tie.Need-mul-from
 mul-from c = search needs

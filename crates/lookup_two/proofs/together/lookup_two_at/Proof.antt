@@ -1,10 +1,10 @@
 use mathlib.Core.Path.{sym, _∙_}
 use mathlib.Core.List.{[]}
 use Rattle.tree.specs.Tree.{Tree}
 use Rattle.lookup.proofs.LookupLaws.{from-top, top-fits}
 use borrow.Author.Needs.{needs}
-use Rattle.lookup.proofs.together.lookup_two_at.Statement.{statement}
-use Rattle.lookup.proofs.together.lookup_two_at.Tie as tie
+use Rattle.lookup_two.proofs.together.lookup_two_at.Statement.{statement}
+use Rattle.lookup_two.proofs.together.lookup_two_at.Tie as tie
 
 find-top-requires : tie.Need-find-top-requires
 find-top-requires c κs = search needs

@@ -1,9 +1,9 @@
 // The lookups of two keys at one tick from one root. Both paths begin at the root page and often have the next ones in common: a page that
 // both have is tested once, as long as they stay together.
-use crate::descent::Top;
-use crate::descent::descend_from;
-use crate::descent::find_top;
 use live::HeldTwo;
+use lookup::Top;
+use lookup::descend_from;
+use lookup::find_top;
 use page::Page;
 use tree::Held;
 use tree::Lookup;
@@ -19,8 +19,8 @@ ghost use Rattle.words.specs.Words.{keyLimit};
 ghost use Rattle.tree.specs.Row.{pageWords};
 ghost use Rattle.tree.specs.Tree.{topLevel};
 ghost use Rattle.tree.specs.Lookup.{lookupFrom, lookupRoot};
 ghost use Rattle.lookup.specs.Descent.{opened};
-ghost use Rattle.lookup.specs.Together.{ForkAs};
+ghost use Rattle.lookup_two.specs.Together.{ForkAs};
 
 // Two keys to look up at one tick.
 struct Keys {

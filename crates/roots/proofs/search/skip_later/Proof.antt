@@ -4,10 +4,10 @@ use mathlib.Core.Path.{_≡_, ap, sym, _∙_}
 use lib.ListN.{length, take}
 use borrow.Author.Tests.{not-false}
 use Rattle.tree.specs.Tree.{rootFor}
-use Rattle.lookup.proofs.RootSearch.{root-skip}
+use Rattle.roots.proofs.RootSearch.{root-skip}
 use borrow.Author.Needs.{needs}
-use Rattle.lookup.proofs.roots.skip_later.Statement.{statement}
-use Rattle.lookup.proofs.roots.skip_later.Tie as tie
+use Rattle.roots.proofs.search.skip_later.Statement.{statement}
+use Rattle.roots.proofs.search.skip_later.Tie as tie
 
 abbrev Inv-loop : tie.InvT-loop
 Inv-loop roots used t left₀ left = (left ≤ length roots) × (rootFor t (take left roots) ≡ rootFor t (take used roots))

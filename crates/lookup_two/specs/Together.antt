@@ -5,8 +5,8 @@ use Rattle.words.specs.declared.value.Value.{Value}
 use Rattle.tree.specs.declared.types.Row.{Row}
 use Rattle.tree.specs.declared.types.Held.{Held}
 use Rattle.tree.specs.declared.types.Held.the-variants.{Found}
-use Rattle.lookup.specs.declared.together.Fork.{Fork}
-use Rattle.lookup.specs.declared.together.Fork.the-variants.{Shared, Apart}
+use Rattle.lookup_two.specs.declared.together.Fork.{Fork}
+use Rattle.lookup_two.specs.declared.together.Fork.the-variants.{Shared, Apart}
 
 -- A row was found that has the child and the key range of another
 abbrev pub LeadsAs : Row → Held → Value → Type 0

@@ -6,9 +6,9 @@ use lib.ListN.{length, take, getD}
 use Rattle.words.specs.Words.{birthOf}
 use Rattle.tree.specs.declared.types.Root.the-variants.{At}
 use Rattle.tree.specs.Tree.{rootFor}
-use Rattle.lookup.proofs.RootSearch.{root-none, root-hit, root-miss}
-use Rattle.lookup.proofs.roots.walk_roots.Statement.{statement}
-use Rattle.lookup.proofs.roots.walk_roots.Tie as tie
+use Rattle.roots.proofs.RootSearch.{root-none, root-hit, root-miss}
+use Rattle.roots.proofs.search.walk_roots.Statement.{statement}
+use Rattle.roots.proofs.search.walk_roots.Tie as tie
 
 -- The root among the entries left is the root asked for
 abbrev Inv-loop : tie.InvT-loop

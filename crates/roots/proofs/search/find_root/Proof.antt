@@ -1,7 +1,7 @@
 use mathlib.Core.Path.{_∙_}
 use borrow.Author.Needs.{needs}
-use Rattle.lookup.proofs.roots.find_root.Statement.{statement}
-use Rattle.lookup.proofs.roots.find_root.Tie as tie
+use Rattle.roots.proofs.search.find_root.Statement.{statement}
+use Rattle.roots.proofs.search.find_root.Tie as tie
 
 skip-later-requires : tie.Need-skip-later-requires
 skip-later-requires c κs = search needs

@@ -3,10 +3,10 @@ use native.Mathlib.Omega.{arith}
 use lib.ListN.{getD}
 use borrow.Author.Tests.{eqb-true}
 use Rattle.words.specs.Words.{birthOf}
-use Rattle.lookup.proofs.RootSearch.{later-more}
+use Rattle.roots.proofs.RootSearch.{later-more}
 use borrow.Author.Needs.{needs}
-use Rattle.lookup.proofs.roots.all_later.Statement.{statement}
-use Rattle.lookup.proofs.roots.all_later.Tie as tie
+use Rattle.roots.proofs.search.all_later.Statement.{statement}
+use Rattle.roots.proofs.search.all_later.Tie as tie
 
 abbrev Inv-loop : tie.InvT-loop
 Inv-loop roots from t later₀ at₀ later at =

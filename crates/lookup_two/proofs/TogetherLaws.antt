@@ -8,12 +8,12 @@ use Rattle.tree.specs.declared.types.Row.{Row}
 use Rattle.tree.specs.declared.types.Held.{Held}
 use Rattle.tree.specs.Tree.{Tree}
 use Rattle.tree.specs.Lookup.{lookupFrom}
-use Rattle.lookup.specs.declared.together.Fork.{Fork}
-use Rattle.lookup.specs.declared.together.Fork.the-variants.{Shared}
+use Rattle.lookup_two.specs.declared.together.Fork.{Fork}
+use Rattle.lookup_two.specs.declared.together.Fork.the-variants.{Shared}
 use Rattle.lookup.specs.Descent.{onward, opened, Wide, lookupHeld}
-use Rattle.lookup.specs.Together.{LeadsAs, ForkAs}
+use Rattle.lookup_two.specs.Together.{LeadsAs, ForkAs}
 use Rattle.lookup.proofs.HeldRanges.{opened-wide, row-wide}
 use Rattle.lookup.proofs.LookupLaws.{way-start, way-down}
 
 pub fork-shared : (level : ℕ) (lower upper : Held) {f : Fork} {row : Row} {v w : Value} → f ≡ Shared row v w → ForkAs level lower upper f
     → ForkAs level lower upper (Shared row v w)

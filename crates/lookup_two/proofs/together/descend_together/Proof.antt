@@ -3,10 +3,10 @@ use native.Mathlib.Omega.{arith}
 use mathlib.Core.Path.{_∙_}
 use mathlib.Core.List.{[]}
 use Rattle.tree.specs.Tree.{Tree, topLevel}
-use Rattle.lookup.proofs.TogetherLaws.{fork-shared, leads-wide, OnWay, on-start, on-shared}
+use Rattle.lookup_two.proofs.TogetherLaws.{fork-shared, leads-wide, OnWay, on-start, on-shared}
 use borrow.Author.Needs.{needs}
-use Rattle.lookup.proofs.together.descend_together.Statement.{statement}
-use Rattle.lookup.proofs.together.descend_together.Tie as tie
+use Rattle.lookup_two.proofs.together.descend_together.Statement.{statement}
+use Rattle.lookup_two.proofs.together.descend_together.Tie as tie
 
 -- The pages that both have and those to come are at most 4
 abbrev Inv-loop : tie.InvT-loop

@@ -1,0 +1,2 @@
+-- Laws of two descents that share pages.
+pub mod TogetherLaws

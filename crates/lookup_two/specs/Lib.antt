@@ -1,0 +1,2 @@
+-- Two descents that share pages, as the code makes them.
+pub mod Together

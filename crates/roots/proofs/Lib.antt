@@ -1,0 +1,2 @@
+-- Laws of the root search.
+pub mod RootSearch
