@@ -1,3 +1,2 @@
 -- Laws of the comparison of answers.
-pub mod Tests
 pub mod SameFields

@@ -1,17 +1,16 @@
 -- The grounds of starts and ends, by the numbers that the code compares, and what is known where none is met.
-use Prim.Native.Nat.{ℕ, _*_, _≤_, _<_}
+use Prim.Native.Nat.{ℕ, _≤_, _<_}
 use native.Mathlib.Omega.{arith}
-use mathlib.Core.Path.{_≡_, refl, ap, sym, _∙_}
+use mathlib.Core.Path.{_≡_, refl, sym}
 use mathlib.Core.Bool.{Bool, true, false, not}
 use mathlib.Core.List.{List}
-use lib.ListN.{length, List·getD-eq-default}
-use lib.Dec.{leb, ltb, eqb}
-use borrow.Author.Tests.{lt-ltb, le-ltb, le-leb, lt-leb, eq-eqb, ne-eqb}
+use lib.ListN.{List·getD-eq-default}
+use borrow.Author.Tests.{le-ltb, le-leb, lt-leb, ne-eqb}
 use Rattle.words.specs.Words.{keyLimit, openEnd}
 use Rattle.store.specs.Head.{openLimit, passLimit, weightLimit}
 use Rattle.store.specs.Refusals.{firstMet}
-use Rattle.store.specs.Passes.{Pass, countWhere}
-use Rattle.store.specs.Book.{Book, isOpen, noPass, passNumbered, startGrounds, endGrounds, bookRefusal}
+use Rattle.store.specs.Passes.{countWhere}
+use Rattle.store.specs.Book.{isOpen, noPass, passNumbered, startGrounds, endGrounds, bookRefusal}
 use Rattle.store.proofs.RefusalLaws.{none-met}
 use Rattle.store.proofs.StartTurns.{startable}
 use Rattle.store.proofs.EndTurns.{endable, open-inside}

@@ -1,5 +1,4 @@
 -- Laws of the lent list as the book's passes, and of a turn.
-pub mod Tests
 pub mod PassLaws
 pub mod TotalLaws
 pub mod GroundLaws

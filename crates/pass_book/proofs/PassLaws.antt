@@ -9,10 +9,10 @@ use mathlib.Core.List.{List, [], _∷_, _++_}
 use lib.ListN.{length, getD, set, length-append, length-set, List·getD-append}
 use lib.Seq.{getD-set-same, getD-set-other}
 use lib.Dec.{eqb}
-use borrow.Author.Needs.{read-below, read-above}
+use borrow.Author.Needs.{read-below}
 use borrow.Author.Tests.{ne-eqb}
 use Rattle.words.specs.Words.{openEnd}
-use Rattle.store.specs.Passes.{End, stillOpen, endedAt, Pass}
+use Rattle.store.specs.Passes.{stillOpen, endedAt, Pass}
 use Rattle.store.specs.Book.{notEnded, endPassAt}
 use Rattle.pass_book.specs.declared.types.ListedPass.{ListedPass}
 use Rattle.pass_book.specs.PassList.{endFrom, passOf, passAt, withPass, passesIn}

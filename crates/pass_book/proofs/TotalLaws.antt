@@ -1,10 +1,10 @@
 -- Sums over the passes of the list: over none, over one more, and as what the book says.
-use Prim.Native.Nat.{ℕ, zero, suc, _+_, _*_, _%_, _^_, _≤_, _<_}
+use Prim.Native.Nat.{ℕ, suc, _+_, _*_, _%_, _^_, _≤_, _<_}
 use native.Mathlib.Omega.{arith}
 use native.Mathlib.Numerals.{add-one}
 use mathlib.Core.Path.{_≡_, refl, ap, ap₂, sym, _∙_}
 use mathlib.Core.Bool.{Bool, true, false, cond}
-use mathlib.Core.List.{List, [], _∷_, _++_}
+use mathlib.Core.List.{List, [], _∷_}
 use lib.Dec.{eqb}
 use Rattle.words.specs.Words.{openEnd}
 use Rattle.words.specs.Value.{plus, zero as nothing}
@@ -13,7 +13,7 @@ use Rattle.tree.specs.RowSteps.{Point}
 use Rattle.tree.specs.PointSums.{dominated}
 use Rattle.store.specs.Passes.{End, stillOpen, endedAt, Pass, sumWhere, countWhere}
 use Rattle.store.specs.Writing.{pointOf}
-use Rattle.store.specs.Points.{startPoint, startPoints, endPointsOf, endPoints}
+use Rattle.store.specs.Points.{startPoints, endPointsOf, endPoints}
 use Rattle.store.specs.Book.{Book, isOpen, totals, bookSays}
 use Rattle.store.proofs.SumLaws.{sum-where-append, sum-where-one}
 use Rattle.pass_book.specs.declared.types.Asked.{Asked}

@@ -2,6 +2,7 @@
 pub mod SumLaws
 pub mod PointLaws
 pub mod QuestionSums
+pub mod Intersections
 pub mod OpenPasses
 pub mod HeadLists
 pub mod RefusalLaws

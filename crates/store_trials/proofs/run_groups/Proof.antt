@@ -4,13 +4,6 @@ use lib.ListN.{length}
 use borrow.Author.Needs.{needs}
 use Rattle.store_trials.proofs.run_groups.Statement.{statement}
 use Rattle.store_trials.proofs.run_groups.Tie as tie
-use Rattle.store_trials.proofs.run_groups.Reads as reads
-use Rattle.store_trials.proofs.run_groups.Lts as lts
-use Rattle.histories.proofs.counts.Counts.none.Reads as none-reads
-use Rattle.histories.proofs.counts.Counts.plus.Reads as plus-reads
-use Rattle.histories.proofs.group_of.Reads as group-of-reads
-use Rattle.store_trials.proofs.report.say_counts.Reads as say-counts-reads
-use Rattle.store_trials.proofs.report.say_group.Reads as say-group-reads
 
 abbrev Inv-loop : tie.InvT-loop
 Inv-loop start-table₀ start-roots₀ end-table₀ end-roots₀ passes₀ all₀ number₀ start-table start-roots end-table end-roots passes all number =
@@ -23,59 +16,45 @@ Inv-loop start-table₀ start-roots₀ end-table₀ end-roots₀ passes₀ all�
 abbrev μ-loop : tie.MeasureT-loop
 μ-loop start-table₀ start-roots₀ end-table₀ end-roots₀ passes₀ all₀ number₀ start-table start-roots end-table end-roots passes all number = 8 - number
 
--- src/main.rt:32:9
 none-requires : tie.Need-none-requires Inv-loop μ-loop
 none-requires c κs = search needs
 
--- src/main.rt:34:5
 loop-holds : tie.Need-loop-holds Inv-loop μ-loop
 loop-holds c = search needs
 
--- src/main.rt:35:13
 group-of-requires : tie.Need-group-of-requires Inv-loop μ-loop
 group-of-requires c κs = search needs
 
--- src/main.rt:43:9
 say-group-requires : tie.Need-say-group-requires Inv-loop μ-loop
 say-group-requires c κs = search needs
 
--- src/main.rt:44:9
 say-counts-requires : tie.Need-say-counts-requires Inv-loop μ-loop
 say-counts-requires c κs = search needs
 
--- src/main.rt:45:9
 plus-requires : tie.Need-plus-requires Inv-loop μ-loop
 plus-requires c κs = search needs
 
--- src/main.rt:46:9
 add-number : tie.Need-add-number Inv-loop μ-loop
 add-number c = search needs
 
--- src/main.rt:34:5
 loop-less : tie.Need-loop-less Inv-loop μ-loop
 loop-less c = search needs
 
--- src/main.rt:34:5
 loop-again : tie.Need-loop-again Inv-loop μ-loop
 loop-again c = search needs
 
--- src/main.rt:25:1
 same-length : tie.Need-same-length Inv-loop μ-loop
 same-length c = search needs
 
--- src/main.rt:25:1
 same-length-2 : tie.Need-same-length-2 Inv-loop μ-loop
 same-length-2 c = search needs
 
--- src/main.rt:25:1
 same-length-3 : tie.Need-same-length-3 Inv-loop μ-loop
 same-length-3 c = search needs
 
--- src/main.rt:25:1
 same-length-4 : tie.Need-same-length-4 Inv-loop μ-loop
 same-length-4 c = search needs
 
--- src/main.rt:25:1
 returns : tie.Need-returns Inv-loop μ-loop
 returns c = search needs
 

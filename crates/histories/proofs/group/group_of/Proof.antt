@@ -3,12 +3,6 @@ use lib.ListN.{length}
 use borrow.Author.Needs.{needs}
 use Rattle.histories.proofs.group.group_of.Statement.{statement}
 use Rattle.histories.proofs.group.group_of.Tie as tie
-use Rattle.histories.proofs.group.group_of.Reads as reads
-use Rattle.histories.proofs.group.group_of.Lts as lts
-use Rattle.histories.proofs.counts.Counts.none.Reads as none-reads
-use Rattle.histories.proofs.counts.Counts.plus.Reads as plus-reads
-use Rattle.histories.proofs.group.history_on.Reads as history-on-reads
-use Rattle.histories.proofs.group.shape_of.Reads as shape-of-reads
 
 abbrev Inv-loop : tie.InvT-loop
 Inv-loop start-table₀ start-roots₀ end-table₀ end-roots₀ passes₀ number shape random₀ counts₀ left₀ start-table start-roots end-table end-roots passes random counts left =
@@ -20,63 +14,48 @@ Inv-loop start-table₀ start-roots₀ end-table₀ end-roots₀ passes₀ numbe
 abbrev μ-loop : tie.MeasureT-loop
 μ-loop start-table₀ start-roots₀ end-table₀ end-roots₀ passes₀ number shape random₀ counts₀ left₀ start-table start-roots end-table end-roots passes random counts left = left
 
--- src/group.rt:130:9
 shape-of-requires : tie.Need-shape-of-requires Inv-loop μ-loop
 shape-of-requires c κs = search needs
 
--- src/group.rt:131:22
 add-random : tie.Need-add-random Inv-loop μ-loop
 add-random c = search needs
 
--- src/group.rt:132:9
 none-requires : tie.Need-none-requires Inv-loop μ-loop
 none-requires c κs = search needs
 
--- src/group.rt:133:20
 add-left : tie.Need-add-left Inv-loop μ-loop
 add-left c = search needs
 
--- src/group.rt:134:5
 loop-holds : tie.Need-loop-holds Inv-loop μ-loop
 loop-holds c = search needs
 
--- src/group.rt:135:9
 sub-left : tie.Need-sub-left Inv-loop μ-loop
 sub-left c = search needs
 
--- src/group.rt:136:13
 history-on-requires : tie.Need-history-on-requires Inv-loop μ-loop
 history-on-requires c κs = search needs
 
--- src/group.rt:146:9
 plus-requires : tie.Need-plus-requires Inv-loop μ-loop
 plus-requires c κs = search needs
 
--- src/group.rt:134:5
 loop-less : tie.Need-loop-less Inv-loop μ-loop
 loop-less c = search needs
 
--- src/group.rt:134:5
 loop-again : tie.Need-loop-again Inv-loop μ-loop
 loop-again c = search needs
 
--- src/group.rt:122:1
 same-length : tie.Need-same-length Inv-loop μ-loop
 same-length c = search needs
 
--- src/group.rt:122:1
 same-length-2 : tie.Need-same-length-2 Inv-loop μ-loop
 same-length-2 c = search needs
 
--- src/group.rt:122:1
 same-length-3 : tie.Need-same-length-3 Inv-loop μ-loop
 same-length-3 c = search needs
 
--- src/group.rt:122:1
 same-length-4 : tie.Need-same-length-4 Inv-loop μ-loop
 same-length-4 c = search needs
 
--- src/group.rt:122:1
 returns : tie.Need-returns Inv-loop μ-loop
 returns c = search needs
 

@@ -3,77 +3,55 @@ use lib.Seq.{length-take-le}
 use borrow.Author.Needs.{needs}
 use Rattle.histories.proofs.group.history_on.Statement.{statement}
 use Rattle.histories.proofs.group.history_on.Tie as tie
-use Rattle.histories.proofs.group.history_on.Reads as reads
-use Rattle.histories.proofs.group.history_on.Lts as lts
-use Rattle.histories.proofs.group.lesser.Reads as lesser-reads
-use Rattle.histories.proofs.group.part_of.Reads as part-of-reads
-use Rattle.histories.proofs.history.history.Reads as history-reads
 
--- src/group.rt:103:9
 lesser-requires : tie.Need-lesser-requires
 lesser-requires c κs = search needs
 
--- src/group.rt:104:9
 lesser-requires-2 : tie.Need-lesser-requires-2
 lesser-requires-2 c κs = search needs
 
--- src/group.rt:105:9
 part-of-requires : tie.Need-part-of-requires
 part-of-requires c κs = search needs
 
--- src/group.rt:109:9
 slice-relend-prefix-history : tie.Need-slice-relend-prefix-history
 slice-relend-prefix-history c = search needs
 
--- src/group.rt:109:9
 slice-aggregate-history : tie.Need-slice-aggregate-history
 slice-aggregate-history c = sym (length-take-le _ _ (search needs))
 
--- src/group.rt:110:9
 slice-relend-prefix-history-2 : tie.Need-slice-relend-prefix-history-2
 slice-relend-prefix-history-2 c = search needs
 
--- src/group.rt:110:9
 slice-aggregate-history-2 : tie.Need-slice-aggregate-history-2
 slice-aggregate-history-2 c = sym (length-take-le _ _ (search needs))
 
--- src/group.rt:111:9
 slice-relend-prefix-history-3 : tie.Need-slice-relend-prefix-history-3
 slice-relend-prefix-history-3 c = search needs
 
--- src/group.rt:111:9
 slice-aggregate-history-3 : tie.Need-slice-aggregate-history-3
 slice-aggregate-history-3 c = sym (length-take-le _ _ (search needs))
 
--- src/group.rt:112:9
 slice-relend-prefix-history-4 : tie.Need-slice-relend-prefix-history-4
 slice-relend-prefix-history-4 c = search needs
 
--- src/group.rt:112:9
 slice-aggregate-history-4 : tie.Need-slice-aggregate-history-4
 slice-aggregate-history-4 c = sym (length-take-le _ _ (search needs))
 
--- src/group.rt:108:5
 history-requires : tie.Need-history-requires
 history-requires c κs = search needs
 
--- src/group.rt:93:1
 same-length : tie.Need-same-length
 same-length c = search needs
 
--- src/group.rt:93:1
 same-length-2 : tie.Need-same-length-2
 same-length-2 c = search needs
 
--- src/group.rt:93:1
 same-length-3 : tie.Need-same-length-3
 same-length-3 c = search needs
 
--- src/group.rt:93:1
 same-length-4 : tie.Need-same-length-4
 same-length-4 c = search needs
 
--- src/group.rt:93:1
 returns : tie.Need-returns
 returns c = search needs
 

@@ -4,13 +4,6 @@ use lib.ListN.{length}
 use borrow.Author.Needs.{needs}
 use Rattle.histories.proofs.history.history.Statement.{statement}
 use Rattle.histories.proofs.history.history.Tie as tie
-use Rattle.histories.proofs.history.history.Reads as reads
-use Rattle.histories.proofs.history.history.Lts as lts
-use Rattle.head.proofs.opened_head.Reads as opened-head-reads
-use Rattle.histories.proofs.counts.Counts.ended.Reads as ended-reads
-use Rattle.histories.proofs.counts.Counts.none.Reads as none-reads
-use Rattle.histories.proofs.history.turn.Reads as turn-reads
-use Rattle.histories.proofs.paths.height.Reads as height-reads
 
 abbrev Inv-loop : tie.InvT-loop
 Inv-loop start-table₀ start-roots₀ end-table₀ end-roots₀ passes₀ random₀ shape anew turns run₀ left₀ start-table start-roots end-table end-roots passes random run left =
@@ -23,63 +16,48 @@ Inv-loop start-table₀ start-roots₀ end-table₀ end-roots₀ passes₀ rando
 abbrev μ-loop : tie.MeasureT-loop
 μ-loop start-table₀ start-roots₀ end-table₀ end-roots₀ passes₀ random₀ shape anew turns run₀ left₀ start-table start-roots end-table end-roots passes random run left = left
 
--- src/history.rt:140:15
 opened-head-requires : tie.Need-opened-head-requires Inv-loop μ-loop
 opened-head-requires c κs = search needs
 
--- src/history.rt:145:17
 none-requires : tie.Need-none-requires Inv-loop μ-loop
 none-requires c κs = search needs
 
--- src/history.rt:149:5
 loop-holds : tie.Need-loop-holds Inv-loop μ-loop
 loop-holds c = search needs
 
--- src/history.rt:150:9
 turn-requires : tie.Need-turn-requires Inv-loop μ-loop
 turn-requires c κs = search needs
 
--- src/history.rt:161:9
 sub-left : tie.Need-sub-left Inv-loop μ-loop
 sub-left c = search needs
 
--- src/history.rt:149:5
 loop-less : tie.Need-loop-less Inv-loop μ-loop
 loop-less c = search needs
 
--- src/history.rt:149:5
 loop-again : tie.Need-loop-again Inv-loop μ-loop
 loop-again c = search needs
 
--- src/history.rt:163:9
 height-requires : tie.Need-height-requires Inv-loop μ-loop
 height-requires c κs = search needs
 
--- src/history.rt:164:9
 height-requires-2 : tie.Need-height-requires-2 Inv-loop μ-loop
 height-requires-2 c κs = search needs
 
--- src/history.rt:165:5
 ended-requires : tie.Need-ended-requires Inv-loop μ-loop
 ended-requires c κs = search needs
 
--- src/history.rt:126:1
 same-length : tie.Need-same-length Inv-loop μ-loop
 same-length c = search needs
 
--- src/history.rt:126:1
 same-length-2 : tie.Need-same-length-2 Inv-loop μ-loop
 same-length-2 c = search needs
 
--- src/history.rt:126:1
 same-length-3 : tie.Need-same-length-3 Inv-loop μ-loop
 same-length-3 c = search needs
 
--- src/history.rt:126:1
 same-length-4 : tie.Need-same-length-4 Inv-loop μ-loop
 same-length-4 c = search needs
 
--- src/history.rt:126:1
 returns : tie.Need-returns Inv-loop μ-loop
 returns c = search needs
 

@@ -2,46 +2,33 @@ use Rattle.store.specs.Book.{bookRefusal}
 use borrow.Author.Needs.{needs}
 use Rattle.pass_book.proofs.grounds.asked_refusal.Statement.{statement}
 use Rattle.pass_book.proofs.grounds.asked_refusal.Tie as tie
-use Rattle.pass_book.proofs.grounds.asked_refusal.Reads as reads
-use Rattle.pass_book.proofs.grounds.asked_refusal.Lts as lts
-use Rattle.pass_book.proofs.grounds.lookup_refusal.Reads as lookup-refusal-reads
-use Rattle.pass_book.proofs.grounds.question_refusal.Reads as question-refusal-reads
 
--- src/grounds.rt:109:27
 enum-known-asked : tie.Need-enum-known-asked
 enum-known-asked c = search needs
 
--- src/grounds.rt:109:47
 question-refusal-requires : tie.Need-question-refusal-requires
 question-refusal-requires c κs = search needs
 
--- src/grounds.rt:110:31
 enum-known-asked-2 : tie.Need-enum-known-asked-2
 enum-known-asked-2 c = search needs
 
--- src/grounds.rt:110:41
 lookup-refusal-requires : tie.Need-lookup-refusal-requires
 lookup-refusal-requires c κs = search needs
 
--- src/grounds.rt:111:29
 enum-known-asked-3 : tie.Need-enum-known-asked-3
 enum-known-asked-3 c = search needs
 
--- src/grounds.rt:111:39
 lookup-refusal-requires-2 : tie.Need-lookup-refusal-requires-2
 lookup-refusal-requires-2 c κs = search needs
 
--- src/grounds.rt:105:1
 returns : tie.Need-returns
 unfolding bookRefusal
 returns c = λ b. rw (c .before .before .asked .given .1) (c .question-refusal .ensures)
 
--- src/grounds.rt:105:1
 returns-2 : tie.Need-returns-2
 unfolding bookRefusal
 returns-2 c = λ b. rw (c .before .before .asked2 .given .1) (c .lookup-refusal .ensures)
 
--- src/grounds.rt:105:1
 returns-3 : tie.Need-returns-3
 unfolding bookRefusal
 returns-3 c = λ b. rw (c .before .before .asked3 .given .1) (c .lookup-refusal2 .ensures)

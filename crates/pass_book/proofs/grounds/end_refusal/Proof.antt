@@ -3,27 +3,20 @@ use Rattle.pass_book.specs.declared.types.ListedPass.{ListedPass}
 use Rattle.pass_book.specs.PassList.{passOf}
 use Rattle.pass_book.specs.Grounds.{passGrounds}
 use Rattle.pass_book.proofs.GroundLaws.{end-unknown, end-by-pass}
-use Rattle.pass_book.proofs.Tests.{tests}
+use Rattle.tree.proofs.ReplacedRows.{tests}
 use Rattle.store.specs.Refusals.{firstMet}
 use borrow.Author.Needs.{needs}
 use Rattle.pass_book.proofs.grounds.end_refusal.Statement.{statement}
 use Rattle.pass_book.proofs.grounds.end_refusal.Tie as tie
-use Rattle.pass_book.proofs.grounds.end_refusal.Reads as reads
-use Rattle.pass_book.proofs.grounds.end_refusal.Lts as lts
-use Rattle.pass_book.proofs.grounds.pass_refusal.Reads as pass-refusal-reads
-use Rattle.pass_book.proofs.list.pass_at.Reads as pass-at-reads
 
--- src/grounds.rt:64:9
 returns : tie.Need-returns
 unfolding firstMet
 returns c = search (needs, tests)
 
--- src/grounds.rt:67:9
 returns-2 : tie.Need-returns-2
 unfolding firstMet
 returns-2 c = search (needs, tests)
 
--- src/grounds.rt:70:9
 returns-3 : tie.Need-returns-3
 unfolding firstMet
 returns-3 c =
@@ -31,15 +24,12 @@ returns-3 c =
     let first = second .before .before in
     end-unknown _ _ _ _ (first .if1 .left) (second .if2 .left) (c .if3 .taken)
 
--- src/grounds.rt:72:18
 pass-at-requires : tie.Need-pass-at-requires
 pass-at-requires c κs = search needs
 
--- src/grounds.rt:72:5
 pass-refusal-requires : tie.Need-pass-refusal-requires
 pass-refusal-requires c κs = search needs
 
--- src/grounds.rt:59:1
 returns-4 : tie.Need-returns-4
 unfolding firstMet
 returns-4 c =

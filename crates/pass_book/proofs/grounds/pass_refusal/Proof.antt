@@ -1,22 +1,17 @@
-use Rattle.pass_book.proofs.Tests.{tests}
+use Rattle.tree.proofs.ReplacedRows.{tests}
 use Rattle.store.specs.Refusals.{firstMet}
 use borrow.Author.Needs.{needs}
 use Rattle.pass_book.proofs.grounds.pass_refusal.Statement.{statement}
 use Rattle.pass_book.proofs.grounds.pass_refusal.Tie as tie
-use Rattle.pass_book.proofs.grounds.pass_refusal.Reads as reads
-use Rattle.pass_book.proofs.grounds.pass_refusal.Lts as lts
 
--- src/grounds.rt:52:13
 returns : tie.Need-returns
 unfolding firstMet
 returns c = search (needs, tests)
 
--- src/grounds.rt:54:9
 returns-2 : tie.Need-returns-2
 unfolding firstMet
 returns-2 c = search (needs, tests)
 
--- src/grounds.rt:47:1
 returns-3 : tie.Need-returns-3
 unfolding firstMet
 returns-3 c = search (needs, tests)

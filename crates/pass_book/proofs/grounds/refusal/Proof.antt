@@ -4,56 +4,40 @@ use Rattle.store.specs.Book.{bookRefusal}
 use borrow.Author.Needs.{needs}
 use Rattle.pass_book.proofs.grounds.refusal.Statement.{statement}
 use Rattle.pass_book.proofs.grounds.refusal.Tie as tie
-use Rattle.pass_book.proofs.grounds.refusal.Reads as reads
-use Rattle.pass_book.proofs.grounds.refusal.Lts as lts
-use Rattle.pass_book.proofs.grounds.asked_refusal.Reads as asked-refusal-reads
-use Rattle.pass_book.proofs.grounds.end_refusal.Reads as end-refusal-reads
-use Rattle.pass_book.proofs.grounds.start_refusal.Reads as start-refusal-reads
 
--- src/grounds.rt:120:23
 enum-told : tie.Need-enum-told
 enum-told c = search needs
 
--- src/grounds.rt:121:23
 enum-known-call : tie.Need-enum-known-call
 enum-known-call c = search needs
 
--- src/grounds.rt:121:46
 start-refusal-requires : tie.Need-start-refusal-requires
 start-refusal-requires c κs = search needs
 
--- src/grounds.rt:122:21
 enum-known-call-2 : tie.Need-enum-known-call-2
 enum-known-call-2 c = search needs
 
--- src/grounds.rt:122:39
 end-refusal-requires : tie.Need-end-refusal-requires
 end-refusal-requires c κs = search needs
 
--- src/grounds.rt:123:19
 enum-known-call-3 : tie.Need-enum-known-call-3
 enum-known-call-3 c = search needs
 
--- src/grounds.rt:123:29
 asked-refusal-requires : tie.Need-asked-refusal-requires
 asked-refusal-requires c κs = search needs
 
--- src/grounds.rt:115:1
 returns : tie.Need-returns
 unfolding bookRefusal firstMet
 returns c = rw (c .enum-told .given .1) refl
 
--- src/grounds.rt:115:1
 returns-2 : tie.Need-returns-2
 unfolding bookRefusal
 returns-2 c = rw (c .before .before .call .given .1) (c .start-refusal .ensures)
 
--- src/grounds.rt:115:1
 returns-3 : tie.Need-returns-3
 unfolding bookRefusal
 returns-3 c = rw (c .before .before .call2 .given .1) (c .end-refusal .ensures)
 
--- src/grounds.rt:115:1
 returns-4 : tie.Need-returns-4
 returns-4 c = rw (c .before .before .call3 .given .1) (c .asked-refusal .ensures _)
 

@@ -1,43 +1,33 @@
 use Rattle.store.specs.Refusals.{firstMet}
-use Rattle.pass_book.proofs.Tests.{tests}
+use Rattle.tree.proofs.ReplacedRows.{tests}
 use Rattle.pass_book.proofs.GroundLaws.{start-all-open, start-all-started, start-accepted}
 use borrow.Author.Needs.{needs}
 use Rattle.pass_book.proofs.grounds.start_refusal.Statement.{statement}
 use Rattle.pass_book.proofs.grounds.start_refusal.Tie as tie
-use Rattle.pass_book.proofs.grounds.start_refusal.Reads as reads
-use Rattle.pass_book.proofs.grounds.start_refusal.Lts as lts
-use Rattle.pass_book.proofs.list.open_count.Reads as open-count-reads
 
--- src/grounds.rt:22:9
 returns : tie.Need-returns
 unfolding firstMet
 returns c = search (needs, tests)
 
--- src/grounds.rt:25:9
 returns-2 : tie.Need-returns-2
 unfolding firstMet
 returns-2 c = search (needs, tests)
 
--- src/grounds.rt:28:9
 returns-3 : tie.Need-returns-3
 unfolding firstMet
 returns-3 c = search (needs, tests)
 
--- src/grounds.rt:31:9
 returns-4 : tie.Need-returns-4
 unfolding firstMet
 returns-4 c = search (needs, tests)
 
--- src/grounds.rt:34:9
 returns-5 : tie.Need-returns-5
 unfolding firstMet
 returns-5 c = search (needs, tests)
 
--- src/grounds.rt:36:9
 open-count-requires : tie.Need-open-count-requires
 open-count-requires c κs = search needs
 
--- src/grounds.rt:38:9
 returns-6 : tie.Need-returns-6
 returns-6 c =
     let fifth = c .before .before in
@@ -47,7 +37,6 @@ returns-6 c =
     let first = second .before in
     start-all-open _ _ _ _ _ _ (first .if1 .left) (second .if2 .left) (third .if3 .left) (fourth .if4 .left) (fifth .if5 .left) (c .before .open-count .ensures) (c .if6 .taken)
 
--- src/grounds.rt:41:9
 returns-7 : tie.Need-returns-7
 returns-7 c =
     let sixth = c .before .before in
@@ -58,7 +47,6 @@ returns-7 c =
     let first = second .before in
     start-all-started _ _ _ _ _ _ (first .if1 .left) (second .if2 .left) (third .if3 .left) (fourth .if4 .left) (fifth .if5 .left) (sixth .before .open-count .ensures) (sixth .if6 .left) (c .if7 .taken)
 
--- src/grounds.rt:17:1
 returns-8 : tie.Need-returns-8
 returns-8 c =
     let sixth = c .before .before in

@@ -1,15 +1,11 @@
-use Rattle.pass_book.proofs.Tests.{tests}
+use Rattle.tree.proofs.ReplacedRows.{tests}
 use borrow.Author.Needs.{needs}
 use Rattle.pass_book.proofs.list.one_if_open.Statement.{statement}
 use Rattle.pass_book.proofs.list.one_if_open.Tie as tie
-use Rattle.pass_book.proofs.list.one_if_open.Reads as reads
-use Rattle.pass_book.proofs.list.one_if_open.Lts as lts
 
--- src/list.rt:53:9
 returns : tie.Need-returns
 returns c = (search needs, search (needs, tests))
 
--- src/list.rt:48:1
 returns-2 : tie.Need-returns-2
 returns-2 c = (search needs, search (needs, tests))
 

@@ -8,10 +8,6 @@ use Rattle.pass_book.proofs.TotalLaws.{open-next}
 use borrow.Author.Needs.{needs}
 use Rattle.pass_book.proofs.list.open_count.Statement.{statement}
 use Rattle.pass_book.proofs.list.open_count.Tie as tie
-use Rattle.pass_book.proofs.list.open_count.Reads as reads
-use Rattle.pass_book.proofs.list.open_count.Lts as lts
-use Rattle.pass_book.proofs.list.one_if_open.Reads as one-if-open-reads
-use Rattle.pass_book.proofs.list.pass_at.Reads as pass-at-reads
 
 abbrev Inv-loop : tie.InvT-loop
 Inv-loop passes started count₀ number₀ count number =
@@ -20,38 +16,30 @@ Inv-loop passes started count₀ number₀ count number =
 abbrev μ-loop : tie.MeasureT-loop
 μ-loop passes started count₀ number₀ count number = started - number
 
--- src/list.rt:61:5
 loop-holds : tie.Need-loop-holds Inv-loop μ-loop
 unfolding sumWhere passesIn
 loop-holds c = search needs
 
--- src/list.rt:62:30
 pass-at-requires : tie.Need-pass-at-requires Inv-loop μ-loop
 pass-at-requires c κs = search needs
 
--- src/list.rt:62:18
 one-if-open-requires : tie.Need-one-if-open-requires Inv-loop μ-loop
 one-if-open-requires c κs = search needs
 
--- src/list.rt:62:9
 add-count : tie.Need-add-count Inv-loop μ-loop
 add-count c = search needs
 
--- src/list.rt:63:9
 add-number : tie.Need-add-number Inv-loop μ-loop
 add-number c = search needs
 
--- src/list.rt:61:5
 loop-less : tie.Need-loop-less Inv-loop μ-loop
 loop-less c = search needs
 
--- src/list.rt:61:5
 loop-again : tie.Need-loop-again Inv-loop μ-loop
 loop-again c =
     let l = c .before .before .before .loop in
     (search needs, search needs, open-next _ _ _ (l .inv .2) (c .before .pass-at .ensures) (c .one-if-open .ensures .1))
 
--- src/list.rt:55:1
 returns : tie.Need-returns Inv-loop μ-loop
 returns c =
     let l = c .before .loop in

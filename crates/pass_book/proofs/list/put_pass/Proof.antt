@@ -3,62 +3,46 @@ use lib.ListN.{length-set}
 use borrow.Author.Needs.{needs}
 use Rattle.pass_book.proofs.list.put_pass.Statement.{statement}
 use Rattle.pass_book.proofs.list.put_pass.Tie as tie
-use Rattle.pass_book.proofs.list.put_pass.Reads as reads
-use Rattle.pass_book.proofs.list.put_pass.Lts as lts
 
--- src/list.rt:29:14
 mul-at : tie.Need-mul-at
 mul-at c = search needs
 
--- src/list.rt:30:5
 mul-passes : tie.Need-mul-passes
 mul-passes c = search needs
 
--- src/list.rt:30:5
 slice-write-passes : tie.Need-slice-write-passes
 slice-write-passes c = search needs
 
--- src/list.rt:31:12
 add-passes : tie.Need-add-passes
 add-passes c = search needs
 
--- src/list.rt:31:5
 mul-passes-2 : tie.Need-mul-passes-2
 mul-passes-2 c = search needs
 
--- src/list.rt:31:5
 slice-write-passes-2 : tie.Need-slice-write-passes-2
 slice-write-passes-2 c = simp length-set (omega arith)
 
--- src/list.rt:32:12
 add-passes-2 : tie.Need-add-passes-2
 add-passes-2 c = search needs
 
--- src/list.rt:32:5
 mul-passes-3 : tie.Need-mul-passes-3
 mul-passes-3 c = search needs
 
--- src/list.rt:32:5
 slice-write-passes-3 : tie.Need-slice-write-passes-3
 slice-write-passes-3 c = simp length-set (omega arith)
 
--- src/list.rt:33:12
 add-passes-3 : tie.Need-add-passes-3
 add-passes-3 c = search needs
 
--- src/list.rt:33:5
 mul-passes-4 : tie.Need-mul-passes-4
 mul-passes-4 c = search needs
 
--- src/list.rt:33:5
 slice-write-passes-4 : tie.Need-slice-write-passes-4
 slice-write-passes-4 c = simp length-set (omega arith)
 
--- src/list.rt:25:1
 same-length : tie.Need-same-length
 same-length c = search needs
 
--- src/list.rt:25:1
 returns : tie.Need-returns
 returns c = search needs
 

@@ -3,50 +3,36 @@ use Rattle.pass_book.proofs.TurnLaws.{stays-as, turn-refused, turn-lack
 use borrow.Author.Needs.{needs}
 use Rattle.pass_book.proofs.turn.book_turn.Statement.{statement}
 use Rattle.pass_book.proofs.turn.book_turn.Tie as tie
-use Rattle.pass_book.proofs.turn.book_turn.Reads as reads
-use Rattle.pass_book.proofs.turn.book_turn.Lts as lts
-use Rattle.pass_book.proofs.grounds.refusal.Reads as refusal-reads
-use Rattle.pass_book.proofs.turn.does.Reads as does-reads
-use Rattle.pass_book.proofs.turn.lacking.Reads as lacking-reads
 
--- src/turn.rt:117:9
 refusal-requires : tie.Need-refusal-requires
 refusal-requires c κs = search needs
 
--- src/turn.rt:119:9
 same-length : tie.Need-same-length
 same-length c = search needs
 
--- src/turn.rt:119:9
 returns : tie.Need-returns
 returns c =
     let a = c .before .before .before .before .args in
     stays-as (a .passes .now) (a .book) _ (turn-refused _ _ _ _ (c .before .refusal .ensures) (c .if1 .taken))
 
--- src/turn.rt:124:9
 lacking-requires : tie.Need-lacking-requires
 lacking-requires c κs = search needs
 
--- src/turn.rt:126:9
 same-length-2 : tie.Need-same-length-2
 same-length-2 c = search needs
 
--- src/turn.rt:126:9
 returns-2 : tie.Need-returns-2
 returns-2 c =
     let free = c .before .before in
     let a = free .before .before .before .before .args in
     stays-as (a .passes .now) (a .book) _ (turn-lacks _ _ _ _ (free .before .refusal .ensures) (free .if1 .left) _ (c .before .lacking .ensures) (c .if2 .taken))
 
--- src/turn.rt:131:5
 does-requires : tie.Need-does-requires
 does-requires c κs = (search needs, sym (c .before .before .before .before .refusal .ensures) ∙ c .before .before .before .if1 .left)
 
--- src/turn.rt:113:1
 same-length-3 : tie.Need-same-length-3
 same-length-3 c = search needs
 
--- src/turn.rt:113:1
 returns-3 : tie.Need-returns-3
 returns-3 c =
     let let-go = c .before .before .before .before in

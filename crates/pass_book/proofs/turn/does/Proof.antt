@@ -7,76 +7,57 @@ use Rattle.pass_book.proofs.GroundLaws.{started-few, end-known, end-ear
 use borrow.Author.Needs.{needs}
 use Rattle.pass_book.proofs.turn.does.Statement.{statement}
 use Rattle.pass_book.proofs.turn.does.Tie as tie
-use Rattle.pass_book.proofs.turn.does.Reads as reads
-use Rattle.pass_book.proofs.turn.does.Lts as lts
-use Rattle.pass_book.proofs.turn.totals_of.Reads as totals-of-reads
-use Rattle.pass_book.proofs.turn.with_end.Reads as with-end-reads
-use Rattle.pass_book.proofs.turn.with_start.Reads as with-start-reads
 
--- src/turn.rt:90:21
 enum-told : tie.Need-enum-told
 enum-told c = search needs
 
--- src/turn.rt:96:23
 enum-known-call : tie.Need-enum-known-call
 enum-known-call c = search needs
 
--- src/turn.rt:98:19
 with-start-requires : tie.Need-with-start-requires
 with-start-requires c κs =
     let call = c .before .before .call in
     (search needs, started-few _ _ _ (c .before .before .before .before .before .pre .1) _ _ _ (call .given .1) (search needs))
 
--- src/turn.rt:100:21
 enum-known-call-2 : tie.Need-enum-known-call-2
 enum-known-call-2 c = search needs
 
--- src/turn.rt:102:19
 with-end-requires : tie.Need-with-end-requires
 with-end-requires c κs =
     let none = c .before .before .before .before .before .pre .1 in
     let is = c .before .before .call2 .given .1 in
     (search needs, (end-known _ _ _ none _ _ is (search needs), end-early _ _ _ none _ _ is (search needs)))
 
--- src/turn.rt:104:19
 enum-known-call-3 : tie.Need-enum-known-call-3
 enum-known-call-3 c = search needs
 
--- src/turn.rt:105:21
 totals-of-requires : tie.Need-totals-of-requires
 totals-of-requires c κs = search needs
 
--- src/turn.rt:83:1
 returns : tie.Need-returns
 unfolding passesIn
 returns c = rw (c .enum-told .given .1) (record { answer = refl; book = refl })
 
--- src/turn.rt:83:1
 same-length : tie.Need-same-length
 same-length c = search needs
 
--- src/turn.rt:83:1
 returns-2 : tie.Need-returns-2
 returns-2 c =
     let done = c .before .before in
     let a = done .before .before .before .before .before .before .args in
     rw (done .before .before .before .call .given .1) (record { answer = ap said-number (sym (passes-length (a .passes .now) (a .book .started))); book = done .with-start .ensures })
 
--- src/turn.rt:83:1
 same-length-2 : tie.Need-same-length-2
 same-length-2 c = search needs
 
--- src/turn.rt:83:1
 returns-3 : tie.Need-returns-3
 returns-3 c =
     let done = c .before .before in
     rw (done .before .before .before .call2 .given .1) (record { answer = refl; book = done .with-end .ensures })
 
--- src/turn.rt:83:1
 same-length-3 : tie.Need-same-length-3
 same-length-3 c = search needs
 
--- src/turn.rt:83:1
 returns-4 : tie.Need-returns-4
 returns-4 c =
     let call = c .before .before .before .call3 in

@@ -6,15 +6,10 @@ use Rattle.pass_book.proofs.TotalLaws.{totals-said}
 use borrow.Author.Needs.{needs}
 use Rattle.pass_book.proofs.turn.totals_of.Statement.{statement}
 use Rattle.pass_book.proofs.turn.totals_of.Tie as tie
-use Rattle.pass_book.proofs.turn.totals_of.Reads as reads
-use Rattle.pass_book.proofs.turn.totals_of.Lts as lts
-use Rattle.pass_book.proofs.totals.totals.Reads as totals-reads
 
--- src/turn.rt:41:9
 totals-requires : tie.Need-totals-requires
 totals-requires c κs = search needs
 
--- src/turn.rt:37:1
 returns : tie.Need-returns
 returns c =
     let a = c .before .before .args in

@@ -2,19 +2,13 @@ use Rattle.pass_book.proofs.TurnLaws.{book-ended}
 use borrow.Author.Needs.{needs}
 use Rattle.pass_book.proofs.turn.with_end.Statement.{statement}
 use Rattle.pass_book.proofs.turn.with_end.Tie as tie
-use Rattle.pass_book.proofs.turn.with_end.Reads as reads
-use Rattle.pass_book.proofs.turn.with_end.Lts as lts
-use Rattle.pass_book.proofs.list.put_end.Reads as put-end-reads
 
--- src/turn.rt:75:5
 put-end-requires : tie.Need-put-end-requires
 put-end-requires c κs = search needs
 
--- src/turn.rt:69:1
 same-length : tie.Need-same-length
 same-length c = search needs
 
--- src/turn.rt:69:1
 returns : tie.Need-returns
 returns c =
     let a = c .before .before .before .before .before .args in
