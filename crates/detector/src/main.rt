@@ -135,7 +135,7 @@ fn main() {
     let mut start_roots = [0u64; 12];
     let mut end_table = [0u64; 3120];
     let mut end_roots = [0u64; 12];
-    let reply = calls::open(
+    let reply = updates::open(
         head::opened_head(),
         &mut start_table,
         &mut start_roots,

@@ -11,8 +11,8 @@ use Rattle.store.specs.Head.{Store, storeOf}
 use Rattle.store.specs.Answers.{refusalOf, Answered, unlessRefused}
 use Rattle.store.specs.Writing.{startRefusal, startPass, endRefusal, endPass, openingRefusal, openStore}
 use Rattle.store.proofs.Turns.{opensAs, startsAs, endsAs}
-use Rattle.calls.specs.declared.types.Reply.{Reply}
-use Rattle.calls.specs.Replies.{RepliedAs}
+use Rattle.updates.specs.declared.types.Reply.{Reply}
+use Rattle.updates.specs.Replies.{RepliedAs}
 use Rattle.firmware.specs.Heads.{Fields, passNumbers, headOf, fieldsOf, numbersOf}
 use Rattle.firmware.specs.Exported.{Slices, storeIn, numberSaid, Told, Tells, Leaves}
 use Rattle.firmware.proofs.HeadNumbers.{numbers-back}

@@ -69,7 +69,7 @@ pub extern "C" fn nimbleshale_question(
         end_roots,
         passes,
     );
-    let answer = calls::question(
+    let answer = queries::question(
         head,
         start_table,
         start_list,
@@ -120,7 +120,7 @@ pub extern "C" fn nimbleshale_lookup_starts(
         end_roots,
         passes,
     );
-    let answer = calls::lookup_starts(head, start_table, start_list, end_table, end_list, t, k);
+    let answer = queries::lookup_starts(head, start_table, start_list, end_table, end_list, t, k);
     tell(answer, count, sum, pages)
 }
 
@@ -161,6 +161,6 @@ pub extern "C" fn nimbleshale_lookup_ends(
         end_roots,
         passes,
     );
-    let answer = calls::lookup_ends(head, start_table, start_list, end_table, end_list, t, k);
+    let answer = queries::lookup_ends(head, start_table, start_list, end_table, end_list, t, k);
     tell(answer, count, sum, pages)
 }

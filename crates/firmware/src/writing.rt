@@ -82,7 +82,7 @@ pub extern "C" fn nimbleshale_start(
         *end_roots,
         passes,
     );
-    let reply = calls::start(
+    let reply = updates::start(
         head,
         start_table,
         start_list,
@@ -147,7 +147,7 @@ pub extern "C" fn nimbleshale_end(
         *end_roots,
         passes,
     );
-    let reply = calls::end(
+    let reply = updates::end(
         head,
         start_table,
         start_list,
@@ -208,7 +208,7 @@ pub extern "C" fn nimbleshale_open(
         *end_roots,
         passes,
     );
-    let reply = calls::open(head, start_table, start_list, end_table, end_list);
+    let reply = updates::open(head, start_table, start_list, end_table, end_list);
     let answer = reply.answer;
     let refusal = refusal_of(answer);
     if refusal != 0 {

@@ -1,9 +1,9 @@
 // A call of the book made on the store.
-use calls::Reply;
 use pass_book::Asked;
 use pass_book::Call;
 use store::Answer;
 use store::Head;
+use updates::Reply;
 
 fn ask(
     head: Head,
@@ -14,7 +14,7 @@ fn ask(
     asked: Asked,
 ) -> Answer {
     match asked {
-        Asked::Question { k1, k2, t1, t2 } => calls::question(
+        Asked::Question { k1, k2, t1, t2 } => queries::question(
             head,
             start_table,
             start_roots,
@@ -26,10 +26,10 @@ fn ask(
             t2,
         ),
         Asked::LookupStarts { t, k } => {
-            calls::lookup_starts(head, start_table, start_roots, end_table, end_roots, t, k)
+            queries::lookup_starts(head, start_table, start_roots, end_table, end_roots, t, k)
         }
         Asked::LookupEnds { t, k } => {
-            calls::lookup_ends(head, start_table, start_roots, end_table, end_roots, t, k)
+            queries::lookup_ends(head, start_table, start_roots, end_table, end_roots, t, k)
         }
     }
 }
@@ -44,8 +44,8 @@ pub fn make(
     call: Call,
 ) -> Reply {
     match call {
-        Call::Open => calls::open(head, start_table, start_roots, end_table, end_roots),
-        Call::Start { tick, key, weight } => calls::start(
+        Call::Open => updates::open(head, start_table, start_roots, end_table, end_roots),
+        Call::Start { tick, key, weight } => updates::start(
             head,
             start_table,
             start_roots,
@@ -55,7 +55,7 @@ pub fn make(
             key,
             weight,
         ),
-        Call::End { tick, number } => calls::end(
+        Call::End { tick, number } => updates::end(
             head,
             start_table,
             start_roots,

@@ -5,11 +5,11 @@ use crate::left_behind::memory_sum;
 use crate::paths::height;
 use crate::paths::pages_opened;
 use crate::paths::word_at;
-use calls::Reply;
 use pass_book::Call;
 use store::Answer;
 use store::Head;
 use tree::TreeUse;
+use updates::Reply;
 ghost use Prim.Native.Nat.{_≤_};
 
 // The most pages that an entry makes in a tree so many pages high: two on each level and a new root, but never more than seven.

@@ -15,8 +15,8 @@ use Rattle.store.specs.Reading.{fourLookups, questionRefusal, askQuestion}
 use Rattle.store.specs.Writing.{startPass, endPass}
 use Rattle.store.specs.Calls.{Call, start, end, question, perform}
 use Rattle.store.proofs.Turns.{asksAs}
-use Rattle.calls.specs.declared.types.Reply.{Reply}
-use Rattle.calls.specs.Replies.{RepliedAs}
+use Rattle.updates.specs.declared.types.Reply.{Reply}
+use Rattle.updates.specs.Replies.{RepliedAs}
 use Rattle.command.specs.Bytes.{operand}
 use Rattle.command.specs.Stream as stream
 use Rattle.command.specs.Stream.{Kind, unknown, command, startCommand, endCommand, questionCommand, kindOf, written, unknownCommand, cutShort, stops, answers, runKind, runOne}

@@ -70,7 +70,7 @@ fn run_start(
     let tick = number4(operands, 0);
     let key = number2(operands, 4);
     let weight = number2(operands, 6);
-    let reply = calls::start(
+    let reply = updates::start(
         head,
         start_table,
         start_roots,
@@ -108,7 +108,7 @@ fn run_end(
     }
     let tick = number4(operands, 0);
     let number = number4(operands, 4);
-    let reply = calls::end(
+    let reply = updates::end(
         head,
         start_table,
         start_roots,
@@ -147,7 +147,7 @@ fn run_question(
     let k2 = number2(operands, 2);
     let t1 = number4(operands, 4);
     let t2 = number4(operands, 8);
-    let answer = calls::question(
+    let answer = queries::question(
         head,
         start_table,
         start_roots,

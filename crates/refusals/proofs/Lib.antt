@@ -7,3 +7,4 @@ pub mod RefusalParts
 pub mod OpeningParts
 pub mod StartParts
 pub mod EndParts
+pub mod Outcomes

@@ -46,8 +46,7 @@ module _ (p : Pass) (k1 k2 t1 t2 : ℕ) where
       let low = and-eq-true-iff (leb k1 (p .key)) (ltb (p .key) k2 && (ltb (p .start) t2 && endsAfter t1 (p .end))) .0 e in
       let high = and-eq-true-iff (ltb (p .key) k2) (ltb (p .start) t2 && endsAfter t1 (p .end)) .0 (low .1) in
       let ticks = and-eq-true-iff (ltb (p .start) t2) (endsAfter t1 (p .end)) .0 (high .1) in
-      let starts = ltb-true (p .start) t2 (ticks .0) in
-      (
+      let starts = ltb-true (p .start) t2 (ticks .0) in (
         record { low = leb-true k1 (p .key) (low .0); high = ltb-true (p .key) k2 (high .0) },
         record {
           tick = max t1 (p .start);

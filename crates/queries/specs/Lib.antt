@@ -1,0 +1,2 @@
+-- A question as the code asks it.
+pub mod Bands

@@ -1,0 +1,144 @@
+// The calls that only read: the lookup of each tree, and the question, which is made of lookups.
+use lookup::lookup_at;
+use lookup_two::lookup_two_at;
+use refusals::head_refusal;
+use refusals::lookup_input;
+use refusals::question_input;
+use roots::find_root;
+use store::Answer;
+use store::Head;
+use tree::Lookup;
+use tree::TreeUse;
+ghost use mathlib.Core.Path.{_≡_};
+ghost use Prim.Native.Nat.{_*_, _≤_, _<_};
+ghost use lib.ListN.{length};
+ghost use Rattle.words.specs.Words.{keyLimit};
+ghost use Rattle.tree.specs.Row.{pageWords};
+ghost use Rattle.store.specs.Head.{storeOf};
+ghost use Rattle.store.specs.Reading.{pagesOf, askQuestion, lookUpStarts, lookUpEnds};
+ghost use Rattle.queries.specs.Bands.{without, inBand, answerOf};
+
+// A lookup's totals, or 26 where it met a spoiled page.
+fn answer_of(found: Lookup) -> Answer
+    ensures { λ r. ⌜ r ≡ answerOf found ⌝ }
+{
+    let Lookup::Found { value, pages } = found else {
+        return Answer::Refused(26);
+    };
+    Answer::Totals {
+        count: value.count,
+        sum: value.sum,
+        pages,
+    }
+}
+
+// The lookup of the tree of starts.
+pub fn lookup_starts(
+    head: Head,
+    start_table: &[u64],
+    start_roots: &[u64],
+    end_table: &[u64],
+    end_roots: &[u64],
+    t: u32,
+    k: u32,
+) -> Answer
+    ensures { λ r. ⌜ r ≡ lookUpStarts (storeOf head (now («start_table» .entry)) (now («start_roots» .entry)) (now («end_table» .entry)) (now («end_roots» .entry))) t k .answer ⌝ }
+{
+    let input = lookup_input(t, k);
+    let refusal = head_refusal(head, start_table, start_roots, end_table, end_roots, input);
+    if refusal != 0 {
+        return Answer::Refused(refusal);
+    }
+    let used = head.starts;
+    answer_of(lookup::lookup(start_table, start_roots, used, t, k as u16))
+}
+
+// The lookup of the tree of ends.
+pub fn lookup_ends(
+    head: Head,
+    start_table: &[u64],
+    start_roots: &[u64],
+    end_table: &[u64],
+    end_roots: &[u64],
+    t: u32,
+    k: u32,
+) -> Answer
+    ensures { λ r. ⌜ r ≡ lookUpEnds (storeOf head (now («start_table» .entry)) (now («start_roots» .entry)) (now («end_table» .entry)) (now («end_roots» .entry))) t k .answer ⌝ }
+{
+    let input = lookup_input(t, k);
+    let refusal = head_refusal(head, start_table, start_roots, end_table, end_roots, input);
+    if refusal != 0 {
+        return Answer::Refused(refusal);
+    }
+    let used = head.ends;
+    answer_of(lookup::lookup(end_table, end_roots, used, t, k as u16))
+}
+
+// One lookup less another, spoiled where one of them is. The pages of both were opened.
+fn without(all: Lookup, part: Lookup) -> Lookup
+    requires { ⌜ pagesOf all ≤ 8 ⌝ }
+    requires { ⌜ pagesOf part ≤ 8 ⌝ }
+    ensures { λ r. ⌜ r ≡ without all part ⌝ }
+{
+    let Lookup::Found { value, pages } = all else {
+        return Lookup::Spoiled;
+    };
+    let Lookup::Found {
+        value: less,
+        pages: more,
+    } = part
+    else {
+        return Lookup::Spoiled;
+    };
+    Lookup::Found {
+        value: value.minus(less),
+        pages: pages + more,
+    }
+}
+
+// What a tree has at t from key k1 up to but not k2. The root list is searched once. No key is below 0: with k1 = 0 nothing is looked up
+// below the band.
+fn lookup_band(table: &[u64], roots: &[u64], used: TreeUse, t: u32, k1: u32, k2: u32) -> Lookup
+    requires { ⌜ used .pages * pageWords ≤ length (now table) ⌝ }
+    requires { ⌜ used .roots ≤ length (now roots) ⌝ }
+    requires { ⌜ k1 < k2 ⌝ }
+    requires { ⌜ k2 ≤ keyLimit ⌝ }
+    ensures { λ r. ⌜ r ≡ inBand (record { table = now (table .entry); roots = now (roots .entry); used = used }) t k1 k2 ⌝ }
+{
+    let root = find_root(roots, used.roots as usize, t);
+    let last_key = (k2 - 1) as u16;
+    if k1 == 0 {
+        return lookup_at(table, used, root, t, last_key);
+    }
+    let two = lookup_two_at(table, used, root, t, (k1 - 1) as u16, last_key);
+    let high = two.upper;
+    let low = two.lower;
+    without(high, low)
+}
+
+// The passes with a key from k1 up to but not k2 that live at a tick from t1 up to but not t2: those that started before t2, less those that
+// had ended by t1.
+pub fn question(
+    head: Head,
+    start_table: &[u64],
+    start_roots: &[u64],
+    end_table: &[u64],
+    end_roots: &[u64],
+    k1: u32,
+    k2: u32,
+    t1: u32,
+    t2: u32,
+) -> Answer
+    ensures { λ r. ⌜ r ≡ askQuestion (storeOf head (now («start_table» .entry)) (now («start_roots» .entry)) (now («end_table» .entry)) (now («end_roots» .entry))) k1 k2 t1 t2 .answer ⌝ }
+{
+    let input = question_input(k1, k2, t1, t2);
+    let refusal = head_refusal(head, start_table, start_roots, end_table, end_roots, input);
+    if refusal != 0 {
+        return Answer::Refused(refusal);
+    }
+    let starts_used = head.starts;
+    let starts = lookup_band(start_table, start_roots, starts_used, t2 - 1, k1, k2);
+    let ends_used = head.ends;
+    let ends = lookup_band(end_table, end_roots, ends_used, t1, k1, k2);
+    answer_of(without(starts, ends))
+}

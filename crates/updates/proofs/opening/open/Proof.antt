@@ -1,0 +1,97 @@
+use mathlib.Core.Path.{refl, sym, _∙_}
+use Rattle.store.specs.Head.{Store, storeOf}
+use Rattle.store.proofs.OpeningTurns.{takes}
+use Rattle.updates.proofs.RepliesAs.{replied, refused-reply}
+use Rattle.updates.proofs.OpeningReplies.{opening-refused, opening-done}
+use borrow.Author.Needs.{needs}
+use Rattle.updates.proofs.opening.open.Statement.{statement}
+use Rattle.updates.proofs.opening.open.Tie as tie
+
+opening-refusal-requires : tie.Need-opening-refusal-requires
+opening-refusal-requires c κs = search needs
+
+refused-requires : tie.Need-refused-requires
+refused-requires c κs = search needs
+
+same-length : tie.Need-same-length
+same-length c = search needs
+
+same-length-2 : tie.Need-same-length-2
+same-length-2 c = search needs
+
+same-length-3 : tie.Need-same-length-3
+same-length-3 c = search needs
+
+same-length-4 : tie.Need-same-length-4
+same-length-4 c = search needs
+
+returns : tie.Need-returns
+returns c =
+    let a = c .before .before .before .before .before .before .before .before .before .before .before .args in
+    let s : Store = storeOf (a .head) (a .start-table .now) (a .start-roots .now) (a .end-table .now) (a .end-roots .now) in
+    replied (opening-refused s (c .before .before .opening-refusal .ensures) (c .before .if1 .taken)) (refused-reply s (c .before .before .opening-refusal .result) (c .refused .ensures))
+
+open-tree-requires : tie.Need-open-tree-requires
+open-tree-requires c κs =
+    let a = c .before .before .before .before .before .before .before .before .before .before .before .before .args in
+    let s : Store = storeOf (a .head) (a .start-table .now) (a .start-roots .now) (a .end-table .now) (a .end-roots .now) in
+    let enough = takes (s .lent) (sym (c .before .before .before .opening-refusal .ensures) ∙ c .before .before .if1 .left) .0 in
+    (enough .page, enough .root)
+
+open-tree-requires-2 : tie.Need-open-tree-requires-2
+open-tree-requires-2 c κs =
+    let a = c .before .before .before .before .before .before .before .before .before .before .before .before .before .before .before .before .before .before .before .args in
+    let s : Store = storeOf (a .head) (a .start-table .now) (a .start-roots .now) (a .end-table .now) (a .end-roots .now) in
+    let enough = takes (s .lent) (sym (c .before .before .before .before .before .before .before .before .before .before .opening-refusal .ensures) ∙ c .before .before .before .before .before .before .before .before .before .if1 .left) .1 in
+    (enough .page, enough .root)
+
+opened-head-requires : tie.Need-opened-head-requires
+opened-head-requires c κs = search needs
+
+same-length-5 : tie.Need-same-length-5
+same-length-5 c = search needs
+
+same-length-6 : tie.Need-same-length-6
+same-length-6 c = search needs
+
+same-length-7 : tie.Need-same-length-7
+same-length-7 c = search needs
+
+same-length-8 : tie.Need-same-length-8
+same-length-8 c = search needs
+
+returns-2 : tie.Need-returns-2
+returns-2 c =
+    let a = c .before .before .before .before .before .before .before .before .before .before .before .before .before .before .before .before .before .before .before .before .before .before .before .before .before .args in
+    let s : Store = storeOf (a .head) (a .start-table .now) (a .start-roots .now) (a .end-table .now) (a .end-roots .now) in
+    let starts = c .before .before .before .before .before .before .before .before .before .before .before .before .open-tree .ensures in
+    let ends = c .before .before .before .before .before .open-tree2 .ensures in
+    replied (opening-done s (c .before .before .before .before .before .before .before .before .before .before .before .before .before .before .before .before .opening-refusal .ensures) (c .before .before .before .before .before .before .before .before .before .before .before .before .before .before .before .if1 .left))
+    (record {
+      answer = refl;
+      head = c .opened-head .ensures;
+      start-table = starts .0;
+      start-roots = starts .1;
+      end-table = ends .0;
+      end-roots = ends .1;
+    })
+
+pub open-spec : {M : Type 1} → statement M
+open-spec =
+    tie.close
+    (tie.spec
+    opening-refusal-requires
+    refused-requires
+    same-length
+    same-length-2
+    same-length-3
+    same-length-4
+    returns
+    open-tree-requires
+    open-tree-requires-2
+    opened-head-requires
+    same-length-5
+    same-length-6
+    same-length-7
+    same-length-8
+    returns-2)

@@ -1,0 +1,2 @@
+-- What the calls that write say of what they are lent and hand back.
+pub mod Replies

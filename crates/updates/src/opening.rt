@@ -1,0 +1,54 @@
+// Opening a store: an empty tree of starts, an empty tree of ends, and a head that says so.
+use crate::types::Reply;
+use page::Page;
+use refusals::opening_refusal;
+use split::put_page;
+use store::Answer;
+use store::Head;
+use words::Value;
+ghost use mathlib.Core.Path.{_≡_};
+ghost use Prim.Native.Nat.{_≤_};
+ghost use lib.ListN.{length};
+ghost use Rattle.tree.specs.Row.{pageWords};
+ghost use Rattle.tree.specs.Grown.{openedTree};
+ghost use Rattle.store.specs.Head.{storeOf};
+ghost use Rattle.store.specs.Writing.{openStore};
+ghost use Rattle.updates.specs.Replies.{RepliedAs};
+
+// Page 0, a leaf with one row of value zero over all keys, born at 0, and the first root entry, which is for it. No other word changes.
+fn open_tree(table: &mut [u64], roots: &mut [u64])
+    requires { ⌜ pageWords ≤ length (now table) ⌝ }
+    requires { ⌜ 1 ≤ length (now roots) ⌝ }
+    ensures { λ _. ⌜ now (table .exit) ≡ openedTree (now (table .entry)) (now (roots .entry)) .table ⌝ }
+    ensures { λ _. ⌜ now (roots .exit) ≡ openedTree (now (table .entry)) (now (roots .entry)) .roots ⌝ }
+{
+    let row = page::new_row(0, 0, words::KEY_LIMIT, 0, Value::zero());
+    put_page(
+        table,
+        0,
+        Page::empty(0, 0, words::KEY_LIMIT, 0).with_row(row),
+    );
+    roots[0] = words::life(0, 0);
+}
+
+// Opens a store in the memory that is lent, whatever it holds. Refused, it changes nothing and hands back the head that it got.
+pub fn open(
+    head: Head,
+    start_table: &mut [u64],
+    start_roots: &mut [u64],
+    end_table: &mut [u64],
+    end_roots: &mut [u64],
+) -> Reply
+    ensures { λ r. ⌜ RepliedAs (openStore (storeOf head (now («start_table» .entry)) (now («start_roots» .entry)) (now («end_table» .entry)) (now («end_roots» .entry)))) r (now («start_table» .exit)) (now («start_roots» .exit)) (now («end_table» .exit)) (now («end_roots» .exit)) ⌝ }
+{
+    let refusal = opening_refusal(start_table, start_roots, end_table, end_roots);
+    if refusal != 0 {
+        return Reply::refused(refusal, head);
+    }
+    open_tree(start_table, start_roots);
+    open_tree(end_table, end_roots);
+    Reply {
+        answer: Answer::Opened,
+        head: head::opened_head(),
+    }
+}
