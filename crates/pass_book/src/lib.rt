@@ -6,6 +6,7 @@ mod totals;
 mod turn;
 mod types;
 
+pub use list::one_if_open;
 pub use list::open_count;
 pub use list::pass_at;
 pub use turn::book_turn;

@@ -44,8 +44,8 @@ pub fn put_end(passes: &mut [u32], number: u32, tick: u32)
     passes[number as usize * 4 + 3] = tick;
 }
 
-// One where a pass is open.
-fn one_if_open(end: u32) -> u32
+// One for the end of an open pass.
+pub fn one_if_open(end: u32) -> u32
     ensures { λ r. ⌜ r ≤ 1 ⌝ }
     ensures { λ r. ⌜ r ≡ cond (eqb end openEnd) 1 0 ⌝ }
 {

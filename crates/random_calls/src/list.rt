@@ -1,5 +1,5 @@
 // The book's list of passes in a history: 2,000 passes have a place.
-use pass_book::ListedPass;
+use pass_book::one_if_open;
 use pass_book::pass_at;
 ghost use Prim.Native.Nat.{_≤_};
 
@@ -8,16 +8,6 @@ pub const PASSES: u32 = 2000;
 // Four numbers to a pass.
 pub const NUMBERS: usize = 4 * PASSES as usize;
 
-// One where a pass is open.
-fn one_if_open(pass: ListedPass) -> u32
-    ensures { λ r. ⌜ r ≤ 1 ⌝ }
-{
-    if pass.end == words::OPEN {
-        return 1;
-    }
-    0
-}
-
 // The number of the open pass that has so many open ones before it, or the number started where there is none.
 pub fn open_number(passes: &[u32; NUMBERS], started: u32, before: u32) -> u32
     requires { ⌜ started ≤ 2000 ⌝ }
@@ -25,7 +15,7 @@ pub fn open_number(passes: &[u32; NUMBERS], started: u32, before: u32) -> u32
     let mut passed: u32 = 0;
     let mut number: u32 = 0;
     while number < started {
-        passed += one_if_open(pass_at(passes, number));
+        passed += one_if_open(pass_at(passes, number).end);
         if before < passed {
             return number;
         }

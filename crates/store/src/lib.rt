@@ -1,5 +1,5 @@
 // The store, two trees and a head, as definitions and theorems: this crate has the types that they speak of and no function. The crates `head`,
-// `refusals` and `calls` have the code.
+// `refusals`, `queries` and `updates` have the code.
 mod types;
 
 pub use types::Answer;
