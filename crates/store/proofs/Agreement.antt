@@ -1,13 +1,13 @@
 -- When a store agrees with the book: what each tree holds was grown from the latest opening by the points that the book knows, and the head
--- says what the book says.
+-- says what the book says. Then both meet the same grounds of a call's arguments and of what they know.
 use Prim.Native.Nat.{ℕ, _+_, _≤_, _<_}
 use native.Mathlib.Omega.{arith}
-use mathlib.Core.Path.{_≡_, refl, ap, sym, subst, _∙_}
-use mathlib.Core.Bool.{Bool, true, false, _||_}
-use mathlib.Core.List.{List, [], _∷_}
+use mathlib.Core.Path.{_≡_, refl, ap, ap₂, sym, subst, _∙_}
+use mathlib.Core.Bool.{Bool, true, false, _&&_, _||_, not}
+use mathlib.Core.List.{List, [], _∷_, _++_, append-assoc}
 use lib.ListN.{length}
 use lib.Dec.{leb, ltb}
-use borrow.Author.Tests.{le-leb, lt-leb, lt-ltb, le-ltb}
+use borrow.Author.Tests.{le-leb, le-ltb}
 use Rattle.words.specs.Lists.{All}
 use Rattle.words.specs.Words.{openEnd}
 use Rattle.tree.specs.Row.{pageWords}
@@ -16,13 +16,20 @@ use Rattle.tree.specs.RowSteps.{Point}
 use Rattle.tree.specs.Grown.{grow, lastTick, Admitted}
 use Rattle.tree.proofs.Main.{UseFits, use-fits, lengths-stay}
 use Rattle.store.specs.declared.types.OpenPass.{OpenPass}
-use Rattle.store.specs.Head.{Lent, Store, startsTree, endsTree, openPasses, openLimit, passLimit, useFits, passesFit, numbersRise, headFits}
-use Rattle.store.specs.Refusals.{firstMet}
-use Rattle.store.specs.Writing.{tooSmall, openingRefusal}
-use Rattle.store.specs.Passes.{Pass, sumWhere}
-use Rattle.store.specs.Points.{startPoints, endPoints}
-use Rattle.store.specs.Book.{Book}
-use Rattle.store.proofs.OpenPasses.{openOf, PassKept, open-fit, open-rise}
+use Rattle.store.specs.declared.types.TreeName.{TreeName}
+use Rattle.store.specs.Trees.{LentTree, lentTo, Store, treeIn}
+use Rattle.store.specs.Head.{openPasses, passOf, findPass, openLimit, passLimit, useFits, passesFit, numbersRise, headFits}
+use Rattle.store.specs.Calls.{Call, opening, start, end, question, lookupIn, isOpening}
+use Rattle.store.specs.Refusals.{Ground, firstMet}
+use Rattle.store.specs.Grounds.{Sought, Known, soughtBy, argumentGrounds, stateGrounds}
+use Rattle.store.specs.Writing.{tooSmall, lendsTooLittle}
+use Rattle.store.specs.Performing.{since, headKnows, opensOverTooLittle, headUnfit, pageGrounds, refusal}
+use Rattle.store.specs.Passes.{End, stillOpen, endedAt, Pass, sumWhere}
+use Rattle.store.specs.Points.{pointsOf}
+use Rattle.store.specs.Book.{Book, notEnded, passNumbered, openOr, bookKnows}
+use Rattle.store.proofs.TreeLaws.{each-tree, no-tree}
+use Rattle.store.proofs.RefusalLaws.{first-skips}
+use Rattle.store.proofs.OpenPasses.{openOf, open-count, find-ended, find-open, PassKept, open-fit, open-rise}
 
 -- A tree that took these points, in whatever order the book lists them: all sums over them are the same
 pub record TreeTook (tree : Tree) (last : ℕ) (points : List Point) : Type 0 where
@@ -44,8 +51,7 @@ pub record Agrees (s : Store) (b : Book) : Type 0 where
   pub count : s .head .count ≡ length (openOf 0 (b .passes))
   pub most : s .head .count ≤ openLimit
   pub kept : All (PassKept (b .last)) (b .passes)
-  pub starts : TreeTook (startsTree s) (b .last) (startPoints (b .passes))
-  pub ends : TreeTook (endsTree s) (b .last) (endPoints (b .passes))
+  pub trees : (name : TreeName) → TreeTook (treeIn s name) (b .last) (pointsOf name (b .passes))
 
 -- 20 never: the use of each tree fits what is lent with it
 grown-fits : (tree : Tree) → UseFits tree → useFits tree ≡ true
@@ -53,14 +59,14 @@ grown-fits tree u =
     rw (
       le-leb 1 (tree .used .pages) (u .some-pages),
       le-leb 1 (tree .used .roots) (u .some-roots),
-      le-leb (tree .used .pages) 1000000 (u .pages-limit),
+      le-leb (tree .used .pages) _ (u .pages-limit),
       le-leb (tree .used .pages) _ (u .pages-held),
       le-leb (tree .used .roots) (tree .used .pages) (u .roots-pages),
       le-leb (tree .used .roots) (length (tree .roots)) (u .roots-listed),
     ) refl
 
-took-fits : (tree : Tree) (last : ℕ) (points : List Point) → TreeTook tree last points → useFits tree ≡ true
-took-fits tree last points t = grown-fits tree (subst UseFits (sym (t .is)) (use-fits (t .table) (t .roots) (t .entered) (t .admitted)))
+took-fits : {tree : Tree} {last : ℕ} {points : List Point} → TreeTook tree last points → useFits tree ≡ true
+took-fits {tree} t = grown-fits tree (subst UseFits (sym (t .is)) (use-fits (t .table) (t .roots) (t .entered) (t .admitted)))
 
 pub head-fits : (s : Store) (b : Book) → Agrees s b → headFits s ≡ true
 unfolding headFits
@@ -75,27 +81,63 @@ head-fits s b a =
       fit,
       rise,
       le-leb (s .head .started) passLimit (omega (arith, a .started, a .few)),
-      took-fits (startsTree s) (b .last) (startPoints (b .passes)) (a .starts),
-      took-fits (endsTree s) (b .last) (endPoints (b .passes)) (a .ends),
-    ) refl
+    ) (each-tree (λ (name : TreeName). useFits (treeIn s name)) (λ name. took-fits (a .trees name)))
 
--- Opening anew is never refused
+-- 8 never: opening anew takes what it took before
 base-fits : (table roots : List ℕ) (points : List Point) → Admitted table roots points → (pageWords ≤ length table) × (1 ≤ length roots)
 base-fits table roots [] h = h
 base-fits table roots (p ∷ points) h = base-fits table roots points (h .2)
 
-took-large : (tree : Tree) (last : ℕ) (points : List Point) → TreeTook tree last points → tooSmall (tree .table) (tree .roots) ≡ false
-took-large tree last points t =
+took-large : {tree : Tree} {last : ℕ} {points : List Point} → TreeTook tree last points
+    → tooSmall (record { table = tree .table; roots = tree .roots }) ≡ false
+took-large {tree} t =
     let lengths = lengths-stay (t .table) (t .roots) (t .entered) (t .admitted) in
     let base = base-fits (t .table) (t .roots) (t .entered) (t .admitted) in
     let long : pageWords ≤ length (tree .table) = omega (arith, base .0, lengths .0, ap (λ (x : Tree). length (x .table)) (t .is)) in
     let some : 1 ≤ length (tree .roots) = omega (arith, base .1, lengths .1, ap (λ (x : Tree). length (x .roots)) (t .is)) in
     rw (le-ltb (length (tree .table)) pageWords long, le-ltb (length (tree .roots)) 1 some) refl
 
-pub opens-anew : (s : Store) (b : Book) → Agrees s b → openingRefusal (s .lent) ≡ 0
-unfolding openingRefusal firstMet
-opens-anew s b a =
-    rw (
-      took-large (startsTree s) (b .last) (startPoints (b .passes)) (a .starts),
-      took-large (endsTree s) (b .last) (endPoints (b .passes)) (a .ends),
-    ) refl
+pub lends-enough : (s : Store) (b : Book) → Agrees s b → lendsTooLittle (s .lent) ≡ false
+lends-enough s b a = no-tree (λ (name : TreeName). tooSmall (lentTo (s .lent) name)) (λ name. took-large (a .trees name))
+
+-- An end finds the pass of a number open in the head exactly if it is open in the book
+same-pass : (s : Store) (b : Book) → Agrees s b → (number : ℕ)
+    → since (passOf (s .head) number) ≡ openOr (passNumbered b number) (passNumbered b number .end)
+same-pass s b a number = go (passNumbered b number .end) refl
+  where
+    listed : passOf (s .head) number ≡ findPass (0 + number) 0 (openOf 0 (b .passes))
+    listed = ap₂ (λ (n : ℕ) (os : List OpenPass). findPass n 0 os) (omega arith) (a .listed)
+
+    go : (e : End) → passNumbered b number .end ≡ e → since (passOf (s .head) number) ≡ openOr (passNumbered b number) e
+    go stillOpen is = ap since (listed ∙ find-open number 0 0 0 (b .passes) (ap notEnded is) .found)
+    go (endedAt e) is = ap since (listed ∙ find-ended number 0 0 (b .passes) (ap notEnded is))
+
+sought-same : (c : Call) (find other : ℕ → Sought) → ((number : ℕ) → find number ≡ other number) → soughtBy c find ≡ soughtBy c other
+sought-same opening find other h = refl
+sought-same (start tick key weight) find other h = refl
+sought-same (end tick number) find other h = h number
+sought-same (question k1 k2 t1 t2) find other h = refl
+sought-same (lookupIn tree t k) find other h = refl
+
+pub same-known : (s : Store) (b : Book) → Agrees s b → (c : Call) → headKnows (s .head) c ≡ bookKnows b c
+same-known s b a c =
+    let last = a .last in
+    let count = a .count ∙ open-count 0 (b .passes) in
+    let started = a .started in
+    let pass = sought-same c _ _ (same-pass s b a) in
+    λ i. record { last = last i; count = count i; started = started i; pass = pass i }
+
+-- The store refuses for the book's grounds, else for what the pages say
+pub same-grounds : (s : Store) (b : Book) → Agrees s b → (c : Call)
+    → refusal s c ≡ firstMet ((argumentGrounds c ++ stateGrounds (bookKnows b c) c) ++ pageGrounds s c)
+unfolding refusal
+same-grounds s b a c =
+    first-skips (argumentGrounds c) _ (opensOverTooLittle s c) (ap (_&&_ (isOpening c)) (lends-enough s b a) ∙ none (isOpening c))
+    ∙ first-skips (argumentGrounds c) _ (headUnfit s c)
+    (ap (λ (fits : Bool). not (isOpening c) && not fits) (head-fits s b a) ∙ none (not (isOpening c)))
+    ∙ ap (λ (known : Known). firstMet (argumentGrounds c ++ (stateGrounds known c ++ pageGrounds s c))) (same-known s b a c)
+    ∙ ap firstMet (sym (append-assoc (argumentGrounds c) (stateGrounds (bookKnows b c) c) (pageGrounds s c)))
+  where
+    none : (b : Bool) → b && false ≡ false
+    none true = refl
+    none false = refl

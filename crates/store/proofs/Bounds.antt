@@ -1,4 +1,4 @@
--- Height and pages of a tree that took the book's points.
+-- Height and pages of a tree that took the book's points, and the pages on a path.
 use Prim.Native.Nat.{ℕ, suc, _+_, _-_, _*_, _/_, _^_, _≤_, _<_}
 use native.Mathlib.Omega.{arith}
 use mathlib.Core.Path.{_≡_, refl, ap, sym, subst, _∙_}
@@ -7,18 +7,22 @@ use mathlib.Core.List.{List, [], _∷_}
 use lib.ListN.{length}
 use lib.Dec.{ltb, eqb}
 use borrow.Author.Tests.{lt-ltb}
-use Rattle.words.specs.Words.{keyLimit, openEnd}
+use Rattle.words.specs.Words.{keyLimit}
 use Rattle.tree.specs.Tree.{Tree, height}
 use Rattle.tree.specs.RowSteps.{Point}
 use Rattle.tree.specs.Path.{path}
 use Rattle.tree.specs.PointSums.{isTaken, differentKeys}
-use Rattle.tree.specs.Grown.{grow}
 use Rattle.tree.proofs.Height.{many-same}
 use Rattle.tree.proofs.Main.{height-took, pages-at-most-used, path-short}
+use Rattle.store.specs.declared.types.TreeName.{TreeName}
+use Rattle.store.specs.Trees.{Store, treeIn}
 use Rattle.store.specs.Passes.{sumWhere}
-use Rattle.store.specs.Demand.{Bounded}
+use Rattle.store.specs.Points.{pointsOf}
+use Rattle.store.specs.Book.{Book}
+use Rattle.store.specs.Demand.{Bounded, AllBounded}
 use Rattle.store.proofs.SumLaws.{sum-where-all}
-use Rattle.store.proofs.Agreement.{TreeTook}
+use Rattle.store.proofs.ArgumentFacts.{InBounds}
+use Rattle.store.proofs.Agreement.{TreeTook, Agrees}
 
 -- Whether a key is taken shows in a sum
 taken-sum : (k : ℕ) (points : List Point) → isTaken points k ≡ ltb 0 (sumWhere (λ (p : Point). 1) (λ (p : Point). eqb k (p .key)) points)
@@ -35,10 +39,10 @@ taken-sum k (p ∷ points) = go (eqb k (p .key)) (taken-sum k points)
             ≡ sumWhere (λ (q : Point). 1) (λ (q : Point). eqb k (q .key)) points
         zero-more = omega arith
 
-module _ (tree : Tree) (last : ℕ) (points : List Point) (took : TreeTook tree last points) where
+module _ {tree : Tree} {last : ℕ} {points : List Point} (took : TreeTook tree last points) where
   keys-same : differentKeys (took .entered) ≡ differentKeys points
   keys-same =
-      many-same (isTaken (took .entered)) (isTaken points) 1 29999
+      many-same (isTaken (took .entered)) (isTaken points) 1 (keyLimit - 1)
       (λ k above. taken-sum k (took .entered) ∙ ap (ltb 0) (took .same (λ (p : Point). 1) (λ (p : Point). eqb k (p .key))) ∙ sym (taken-sum k points))
 
   length-same : length (took .entered) ≡ length points
@@ -63,6 +67,10 @@ module _ (tree : Tree) (last : ℕ) (points : List Point) (took : TreeTook tree 
             );
       }
 
-  pub took-short : (t k : ℕ) → t < openEnd → k < keyLimit → length (path tree t k) ≤ 4
-  took-short t k tick key =
-      subst (λ (x : Tree). length (path x t k) ≤ 4) (sym (took .is)) (path-short (took .table) (took .roots) (took .entered) (took .admitted) t k tick key)
+  pub took-short : (t k : ℕ) → InBounds t k → length (path tree t k) ≤ 4
+  took-short t k bounds =
+      subst (λ (x : Tree). length (path x t k) ≤ 4) (sym (took .is))
+      (path-short (took .table) (took .roots) (took .entered) (took .admitted) t k (bounds .tick) (bounds .key))
+
+pub trees-bounded : (s : Store) (b : Book) → Agrees s b → AllBounded s b
+trees-bounded s b a = λ name. took-bounded (a .trees name)

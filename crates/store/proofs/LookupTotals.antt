@@ -4,12 +4,11 @@ use native.Mathlib.Omega.{arith}
 use mathlib.Core.Path.{_≡_, refl, ap, ap₂, sym, subst, _∙_}
 use mathlib.Core.Bool.{Bool, true, false, cond}
 use mathlib.Core.List.{List, [], _∷_, _++_}
-use lib.ListN.{length, length-append}
+use lib.ListN.{length}
 use Rattle.words.specs.Lists.{All}
 use Rattle.words.specs.Words.{keyLimit, openEnd}
 use Rattle.words.specs.declared.value.Value.{Value}
 use Rattle.words.proofs.Measure.{Measure, countOf, sumOf, count-measure, sum-measure}
-use Rattle.tree.specs.declared.types.Lookup.{Lookup}
 use Rattle.tree.specs.declared.types.Lookup.the-variants.{Found}
 use Rattle.tree.specs.Tree.{Tree}
 use Rattle.tree.specs.RowSteps.{Point}
@@ -18,70 +17,48 @@ use Rattle.tree.specs.Lookup.{lookup}
 use Rattle.tree.specs.Path.{path}
 use Rattle.tree.specs.Grown.{grow}
 use Rattle.tree.proofs.Main.{lookup-adds}
-use Rattle.store.specs.Head.{Store, startsTree, endsTree, passLimit, weightLimit}
-use Rattle.store.specs.Passes.{End, stillOpen, endedAt, Pass, sumWhere}
-use Rattle.store.specs.Points.{startPoint, endPointsOf, startPoints, endPoints, lookupCount, lookupSum}
+use Rattle.tree.proofs.Lists.{all-map}
+use Rattle.store.specs.declared.types.TreeName.{TreeName}
+use Rattle.store.specs.Trees.{Store, treeIn}
+use Rattle.store.specs.Head.{passLimit, weightLimit}
+use Rattle.store.specs.Reading.{PointLookup, foundIn}
+use Rattle.store.specs.Passes.{Pass, sumWhere}
+use Rattle.store.specs.Points.{pointsOf, lookupCount, lookupSum}
 use Rattle.store.specs.Book.{Book}
 use Rattle.store.proofs.SumLaws.{sum-where-most, total-is-sum}
+use Rattle.store.proofs.PointLaws.{Light, points-light, points-few}
 use Rattle.store.proofs.OpenPasses.{PassKept}
+use Rattle.store.proofs.ArgumentFacts.{InBounds}
 use Rattle.store.proofs.Agreement.{TreeTook, Agrees}
 
--- A point counts 1 and weighs at most 10,000
-pub record Light (p : Point) : Type 0 where
-  pub count : p .value .count ≤ 1
-  pub sum : p .value .sum ≤ weightLimit
-
-pub starts-light : (last : ℕ) (passes : List Pass) → All (PassKept last) passes → All Light (startPoints passes)
-unfolding startPoints
-starts-light last [] h = tt
-starts-light last (p ∷ passes) h = (record { count = omega arith; sum = h .0 .weight }, starts-light last passes (h .1))
-
-ends-light-one : (p : Pass) (e : End) (points : List Point) → p .weight ≤ weightLimit → All Light points → All Light (endPointsOf p e ++ points)
-ends-light-one p stillOpen points w h = h
-ends-light-one p (endedAt e) points w h = (record { count = omega arith; sum = w }, h)
-
-pub ends-light : (last : ℕ) (passes : List Pass) → All (PassKept last) passes → All Light (endPoints passes)
-unfolding endPoints
-ends-light last [] h = tt
-ends-light last (p ∷ passes) h = ends-light-one p (p .end) (endPoints passes) (h .0 .weight) (ends-light last passes (h .1))
-
-pub starts-length : (passes : List Pass) → length (startPoints passes) ≡ length passes
-unfolding startPoints
-starts-length [] = refl
-starts-length (p ∷ passes) = ap suc (starts-length passes)
-
-ends-one : (p : Pass) (e : End) → length (endPointsOf p e) ≤ 1
-ends-one p stillOpen = omega arith
-ends-one p (endedAt e) = omega arith
-
-pub ends-length : (passes : List Pass) → length (endPoints passes) ≤ length passes
-unfolding endPoints
-ends-length [] = omega arith
-ends-length (p ∷ passes) =
-    omega (arith, length-append (endPointsOf p (p .end)) (endPoints passes), ends-one p (p .end), ends-length passes)
-
-all-count : (points : List Point) → All Light points → All (λ (p : Point). p .value .count ≤ 1) points
-all-count [] h = tt
-all-count (p ∷ points) h = (h .0 .count, all-count points (h .1))
-
-all-sum : (points : List Point) → All Light points → All (λ (p : Point). p .value .sum ≤ weightLimit) points
-all-sum [] h = tt
-all-sum (p ∷ points) h = (h .0 .sum, all-sum points (h .1))
+-- No sum of weights is higher: 1,000,000 passes of weight 10,000
+abbrev pub weightTotal : ℕ
+weightTotal = passLimit * weightLimit
 
 module _ (points : List Point) (light : All Light points) (few : length points ≤ passLimit) where
   pub count-most : (test : Point → Bool) → sumWhere (λ (p : Point). p .value .count) test points ≤ passLimit
-  count-most test = omega (arith, sum-where-most (λ (p : Point). p .value .count) test 1 points (all-count points light))
+  count-most test =
+      omega (
+        arith,
+        sum-where-most (λ (p : Point). p .value .count) test 1 points
+            (all-map Light (λ (p : Point). p .value .count ≤ 1) (λ p l. l .count) points light),
+      )
 
-  pub sum-most : (test : Point → Bool) → sumWhere (λ (p : Point). p .value .sum) test points ≤ 10000000000
-  sum-most test = omega (arith, sum-where-most (λ (p : Point). p .value .sum) test weightLimit points (all-sum points light))
+  pub sum-most : (test : Point → Bool) → sumWhere (λ (p : Point). p .value .sum) test points ≤ weightTotal
+  sum-most test =
+      omega (
+        arith,
+        sum-where-most (λ (p : Point). p .value .sum) test weightLimit points
+            (all-map Light (λ (p : Point). p .value .sum ≤ weightLimit) (λ p l. l .sum) points light),
+      )
 
-  pub exact-lookup : (tree : Tree) (last : ℕ) → TreeTook tree last points → (t k : ℕ) → t < openEnd → k < keyLimit
+  exact-lookup : (tree : Tree) (last : ℕ) → TreeTook tree last points → (t k : ℕ) → InBounds t k
       → lookup tree t k ≡ Found (record { count = lookupCount t k points; sum = lookupSum t k points }) (length (path tree t k))
-  exact-lookup tree last took t k tick key =
+  exact-lookup tree last took t k bounds =
       subst
       (λ (x : Tree). lookup x t k ≡ Found (record { count = lookupCount t k points; sum = lookupSum t k points }) (length (path x t k)))
       (sym (took .is))
-      (lookup-adds (took .table) (took .roots) (took .entered) (took .admitted) t k tick key
+      (lookup-adds (took .table) (took .roots) (took .entered) (took .admitted) t k (bounds .tick) (bounds .key)
       ∙ ap (λ (v : Value). Found v (length (path (grow (took .table) (took .roots) (took .entered)) t k))) value)
     where
       number : (measure : Value → ℕ) → Measure measure → (most : ℕ) → most < 2 ^ 64
@@ -95,23 +72,29 @@ module _ (points : List Point) (light : All Light points) (few : length points �
       value : sumOfPoints t k (took .entered) ≡ record { count = lookupCount t k points; sum = lookupSum t k points }
       value =
           let c = number countOf count-measure passLimit (omega arith) (count-most (dominated t k)) in
-          let s = number sumOf sum-measure 10000000000 (omega arith) (sum-most (dominated t k)) in
+          let s = number sumOf sum-measure weightTotal (omega arith) (sum-most (dominated t k)) in
           λ i. record { count = c i; sum = s i }
 
 -- In a store that agrees with a book, the lookup of each tree gives the totals of the points that the book says the tree took
 module _ (s : Store) (b : Book) (a : Agrees s b) where
-  pub starts-lookup : (t k : ℕ) → t < openEnd → k < keyLimit
-      → lookup (startsTree s) t k
-      ≡ Found (record { count = lookupCount t k (startPoints (b .passes)); sum = lookupSum t k (startPoints (b .passes)) })
-      (length (path (startsTree s) t k))
-  starts-lookup =
-      exact-lookup (startPoints (b .passes)) (starts-light (b .last) (b .passes) (a .kept)) (omega (arith, starts-length (b .passes), a .few))
-      (startsTree s) (b .last) (a .starts)
+  pub tree-light : (name : TreeName) → All Light (pointsOf name (b .passes))
+  tree-light name =
+      points-light name (b .passes) (all-map (PassKept (b .last)) (λ (p : Pass). p .weight ≤ weightLimit) (λ p k. k .weight) (b .passes) (a .kept))
 
-  pub ends-lookup : (t k : ℕ) → t < openEnd → k < keyLimit
-      → lookup (endsTree s) t k
-      ≡ Found (record { count = lookupCount t k (endPoints (b .passes)); sum = lookupSum t k (endPoints (b .passes)) })
-      (length (path (endsTree s) t k))
-  ends-lookup =
-      exact-lookup (endPoints (b .passes)) (ends-light (b .last) (b .passes) (a .kept)) (omega (arith, ends-length (b .passes), a .few))
-      (endsTree s) (b .last) (a .ends)
+  pub tree-few : (name : TreeName) → length (pointsOf name (b .passes)) ≤ passLimit
+  tree-few name = omega (arith, points-few name (b .passes), a .few)
+
+  abbrev pub bookValue : PointLookup → Value
+  bookValue l =
+      record {
+        count = lookupCount (l .tick) (l .key) (pointsOf (l .tree) (b .passes));
+        sum = lookupSum (l .tick) (l .key) (pointsOf (l .tree) (b .passes));
+      }
+
+  abbrev pub pathLength : PointLookup → ℕ
+  pathLength l = length (path (treeIn s (l .tree)) (l .tick) (l .key))
+
+  pub found-as-book : (l : PointLookup) → InBounds (l .tick) (l .key) → foundIn s l ≡ Found (bookValue l) (pathLength l)
+  found-as-book l bounds =
+      exact-lookup (pointsOf (l .tree) (b .passes)) (tree-light (l .tree)) (tree-few (l .tree)) (treeIn s (l .tree)) (b .last) (a .trees (l .tree))
+      (l .tick) (l .key) bounds

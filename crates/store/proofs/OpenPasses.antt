@@ -13,10 +13,9 @@ use Rattle.words.specs.Words.{keyLimit}
 use Rattle.store.specs.declared.types.OpenPass.{OpenPass}
 use Rattle.store.specs.declared.types.FoundPass.{FoundPass}
 use Rattle.store.specs.declared.types.FoundPass.the-variants.{Missing, At}
-use Rattle.store.specs.Head.{weightLimit, passesFit, risesTo, numbersRise}
-use Rattle.store.specs.Writing.{findPass}
+use Rattle.store.specs.Head.{weightLimit, findPass, passesFit, risesTo, numbersRise}
 use Rattle.store.specs.Passes.{End, stillOpen, endedAt, Pass, sumWhere, countWhere}
-use Rattle.store.specs.Book.{endPassAt, notEnded, isOpen, noPass}
+use Rattle.store.specs.Book.{endPassAt, notEnded, isOpen, neverStarted}
 use Rattle.store.proofs.QuestionSums.{StartedBefore}
 
 -- A pass of the book as the head has it
@@ -67,7 +66,7 @@ find-below number place n (p ∷ ps) h = go (p .end) (λ place′. find-below nu
     go (endedAt e) next = next place
 
 -- A pass that is not open is not found
-pub find-ended : (d place n : ℕ) (ps : List Pass) → isOpen (getD ps d noPass) ≡ false → findPass (n + d) place (openOf n ps) ≡ Missing
+pub find-ended : (d place n : ℕ) (ps : List Pass) → isOpen (getD ps d neverStarted) ≡ false → findPass (n + d) place (openOf n ps) ≡ Missing
 unfolding openOf findPass
 find-ended d place n [] c = refl
 find-ended zero place n (p ∷ ps) c = go (p .end) c
@@ -87,11 +86,11 @@ find-ended (suc d) place n (p ∷ ps) c =
 -- An open pass is found, and ending it takes it out of the list
 pub record FoundAt (d tick place n : ℕ) (ps : List Pass) : Type 0 where
   pub at : ℕ
-  pub found : findPass (n + d) place (openOf n ps) ≡ At (place + at) (openPass (n + d) (getD ps d noPass))
+  pub found : findPass (n + d) place (openOf n ps) ≡ At (place + at) (openPass (n + d) (getD ps d neverStarted))
   pub inside : at < length (openOf n ps)
   pub closes : openOf n (endPassAt d tick ps) ≡ take at (openOf n ps) ++ drop (suc at) (openOf n ps)
 
-pub find-open : (d tick place n : ℕ) (ps : List Pass) → isOpen (getD ps d noPass) ≡ true → FoundAt d tick place n ps
+pub find-open : (d tick place n : ℕ) (ps : List Pass) → isOpen (getD ps d neverStarted) ≡ true → FoundAt d tick place n ps
 unfolding openOf findPass endPassAt
 find-open d tick place n [] o = absurd (false≢true o)
 find-open zero tick place n (p ∷ ps) o = go (p .end) refl o
@@ -129,7 +128,7 @@ find-open (suc d) tick place n (p ∷ ps) o = go (p .end) refl (λ place′. fin
               (ne-eqb n (n + suc d) (λ e. omega arith))
               ∙ ap (λ (m : ℕ). findPass m (place + 1) (openOf (suc n) ps)) number
               ∙ ih .found
-              ∙ ap₂ (λ (x m : ℕ). At x (openPass m (getD ps d noPass))) (omega arith) (sym number);
+              ∙ ap₂ (λ (x m : ℕ). At x (openPass m (getD ps d neverStarted))) (omega arith) (sym number);
           inside = rw (here ps) (omega (arith, ih .inside));
           closes = here (endPassAt d tick ps) ∙ ap (_∷_ (openPass n p)) (ih .closes)
               ∙ sym (ap (λ (l : List OpenPass). take (suc (ih .at)) l ++ drop (suc (suc (ih .at))) l) (here ps));
@@ -144,7 +143,7 @@ find-open (suc d) tick place n (p ∷ ps) o = go (p .end) refl (λ place′. fin
               ap (findPass (n + suc d) place) (here ps)
               ∙ ap (λ (m : ℕ). findPass m place (openOf (suc n) ps)) number
               ∙ ih .found
-              ∙ ap (λ (m : ℕ). At (place + ih .at) (openPass m (getD ps d noPass))) (sym number);
+              ∙ ap (λ (m : ℕ). At (place + ih .at) (openPass m (getD ps d neverStarted))) (sym number);
           inside = rw (here ps) (ih .inside);
           closes = here (endPassAt d tick ps) ∙ ih .closes
               ∙ sym (ap (λ (l : List OpenPass). take (ih .at) l ++ drop (suc (ih .at)) l) (here ps));

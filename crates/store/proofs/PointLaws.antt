@@ -1,61 +1,94 @@
--- The points that the trees took, as passes start and end.
+-- The points that the trees took, as passes start and end: one law for all trees.
 use Prim.Native.Nat.{ℕ, zero, suc, _+_, _≤_, _<_}
 use native.Mathlib.Omega.{arith}
 use mathlib.Core.Path.{_≡_, refl, ap, sym, _∙_}
 use mathlib.Core.Bool.{Bool, true, false, cond, false≢true}
 use mathlib.Core.List.{List, [], _∷_, _++_}
-use lib.ListN.{length, getD}
+use lib.ListN.{length, getD, length-append}
+use Rattle.words.specs.Lists.{All}
 use Rattle.tree.specs.RowSteps.{Point}
-use Rattle.store.specs.Writing.{pointOf}
+use Rattle.tree.proofs.Lists.{all-append}
+use Rattle.store.specs.declared.types.TreeName.{TreeName}
+use Rattle.store.specs.declared.types.TreeName.the-variants.{Starts, Ends}
+use Rattle.store.specs.Head.{weightLimit}
 use Rattle.store.specs.Passes.{End, stillOpen, endedAt, Pass, sumWhere}
-use Rattle.store.specs.Points.{startPoint, endPointsOf, startPoints, endPoints}
-use Rattle.store.specs.Book.{endPassAt, notEnded, isOpen, noPass}
+use Rattle.store.specs.Points.{endPointsOf, pointsOfPass, pointsOf}
+use Rattle.store.specs.Book.{endPassAt, neverStarted}
 use Rattle.store.proofs.SumLaws.{sum-where-append}
 
--- A pass that starts is one point more of the starts, and no point of the ends
-pub start-points-more : (passes : List Pass) (p : Pass) → startPoints (passes ++ (p ∷ [])) ≡ startPoints passes ++ (startPoint p ∷ [])
-unfolding startPoints
-start-points-more [] p = refl
-start-points-more (q ∷ passes) p = ap (_∷_ (startPoint q)) (start-points-more passes p)
+-- A pass with its end
+abbrev pub ended : ℕ → Pass → Pass
+ended tick p = record { key = p .key; weight = p .weight; start = p .start; end = endedAt tick }
 
-module _ (f : Point → ℕ) (test : Point → Bool) where
-  abbrev added : List Point → ℕ
-  added points = sumWhere f test points
+module _ (name : TreeName) (f : Point → ℕ) (test : Point → Bool) where
+  abbrev pub added : List Pass → ℕ
+  added passes = sumWhere f test (pointsOf name passes)
 
-  pub end-points-open : (passes : List Pass) (p : Pass) → p .end ≡ stillOpen → added (endPoints (passes ++ (p ∷ []))) ≡ added (endPoints passes)
-  unfolding endPoints sumWhere
-  end-points-open [] p e = ap (λ (x : End). added (endPointsOf p x ++ [])) e
-  end-points-open (q ∷ passes) p e =
-      sum-where-append f test (endPointsOf q (q .end)) (endPoints (passes ++ (p ∷ [])))
-      ∙ ap (λ (n : ℕ). added (endPointsOf q (q .end)) + n) (end-points-open passes p e)
-      ∙ sym (sum-where-append f test (endPointsOf q (q .end)) (endPoints passes))
+  abbrev pub addedBy : Pass → ℕ
+  addedBy p = sumWhere f test (pointsOfPass name p)
 
-  -- A pass that ends is one point more of the ends
-  pub end-points-more : (number tick : ℕ) (passes : List Pass) → isOpen (getD passes number noPass) ≡ true
-      → added (endPoints (endPassAt number tick passes))
-      ≡ cond (test (pointOf tick (getD passes number noPass .key) (getD passes number noPass .weight)))
-      (f (pointOf tick (getD passes number noPass .key) (getD passes number noPass .weight))) 0
-      + added (endPoints passes)
-  unfolding endPoints endPassAt sumWhere
-  end-points-more number tick [] o = absurd (false≢true o)
-  end-points-more zero tick (p ∷ passes) o = go (p .end) o
-    where
-      go : (e : End) → notEnded e ≡ true
-          → added (pointOf tick (p .key) (p .weight) ∷ endPoints passes)
-          ≡ cond (test (pointOf tick (p .key) (p .weight))) (f (pointOf tick (p .key) (p .weight))) 0 + added (endPointsOf p e ++ endPoints passes)
-      go stillOpen o = refl
-      go (endedAt e) o = absurd (false≢true o)
-  end-points-more (suc number) tick (p ∷ passes) o =
+  -- A pass that starts
+  pub points-more : (passes : List Pass) (p : Pass) → added (passes ++ (p ∷ [])) ≡ addedBy p + added passes
+  unfolding pointsOf sumWhere
+  points-more [] p = sum-where-append f test (pointsOfPass name p) []
+  points-more (q ∷ passes) p =
       omega (
         arith,
-        sum-where-append f test (endPointsOf p (p .end)) (endPoints (endPassAt number tick passes)),
-        end-points-more number tick passes o,
-        sum-where-append f test (endPointsOf p (p .end)) (endPoints passes),
+        sum-where-append f test (pointsOfPass name q) (pointsOf name (passes ++ (p ∷ []))),
+        points-more passes p,
+        sum-where-append f test (pointsOfPass name q) (pointsOf name passes),
       )
 
--- and the starts stay as they are
-pub start-points-same : (number tick : ℕ) (passes : List Pass) → startPoints (endPassAt number tick passes) ≡ startPoints passes
-unfolding startPoints endPassAt
-start-points-same number tick [] = refl
-start-points-same zero tick (p ∷ passes) = refl
-start-points-same (suc number) tick (p ∷ passes) = ap (_∷_ (startPoint p)) (start-points-same number tick passes)
+  -- A pass that ends
+  pub points-ended : (number tick : ℕ) (passes : List Pass) → number < length passes
+      → added (endPassAt number tick passes) + addedBy (getD passes number neverStarted)
+      ≡ addedBy (ended tick (getD passes number neverStarted)) + added passes
+  unfolding pointsOf endPassAt
+  points-ended number tick [] h = absurd (omega arith)
+  points-ended zero tick (p ∷ passes) h =
+      omega (
+        arith,
+        sum-where-append f test (pointsOfPass name (ended tick p)) (pointsOf name passes),
+        sum-where-append f test (pointsOfPass name p) (pointsOf name passes),
+      )
+  points-ended (suc number) tick (p ∷ passes) h =
+      omega (
+        arith,
+        sum-where-append f test (pointsOfPass name p) (pointsOf name (endPassAt number tick passes)),
+        points-ended number tick passes (omega arith),
+        sum-where-append f test (pointsOfPass name p) (pointsOf name passes),
+      )
+
+-- A point counts 1 and weighs at most 10,000
+pub record Light (p : Point) : Type 0 where
+  pub count : p .value .count ≤ 1
+  pub sum : p .value .sum ≤ weightLimit
+
+end-light : (p : Pass) (e : End) → p .weight ≤ weightLimit → All Light (endPointsOf p e)
+end-light p stillOpen w = tt
+end-light p (endedAt e) w = (record { count = omega arith; sum = w }, tt)
+
+pass-light : (name : TreeName) (p : Pass) → p .weight ≤ weightLimit → All Light (pointsOfPass name p)
+pass-light Starts p w = (record { count = omega arith; sum = w }, tt)
+pass-light Ends p w = end-light p (p .end) w
+
+pub points-light : (name : TreeName) (passes : List Pass) → All (λ (p : Pass). p .weight ≤ weightLimit) passes → All Light (pointsOf name passes)
+unfolding pointsOf
+points-light name [] h = tt
+points-light name (p ∷ passes) h =
+    all-append Light (pointsOfPass name p) (pointsOf name passes) (pass-light name p (h .0)) (points-light name passes (h .1))
+
+-- A pass is at most one point of a tree
+end-one : (p : Pass) (e : End) → length (endPointsOf p e) ≤ 1
+end-one p stillOpen = omega arith
+end-one p (endedAt e) = omega arith
+
+pass-one : (name : TreeName) (p : Pass) → length (pointsOfPass name p) ≤ 1
+pass-one Starts p = omega arith
+pass-one Ends p = end-one p (p .end)
+
+pub points-few : (name : TreeName) (passes : List Pass) → length (pointsOf name passes) ≤ length passes
+unfolding pointsOf
+points-few name [] = omega arith
+points-few name (p ∷ passes) =
+    omega (arith, length-append (pointsOfPass name p) (pointsOf name passes), pass-one name p, points-few name passes)

@@ -16,7 +16,8 @@ use Rattle.tree.specs.PointSums.{dominated}
 use Rattle.tree.proofs.ReplacedRows.{split}
 use Rattle.store.specs.Writing.{pointOf}
 use Rattle.store.specs.Passes.{End, stillOpen, endedAt, Pass, endsAfter, meets, sumWhere}
-use Rattle.store.specs.Points.{startPoint, endPointsOf, startPoints, endPoints}
+use Rattle.store.specs.declared.types.TreeName.the-variants.{Starts, Ends}
+use Rattle.store.specs.Points.{endPointsOf, pointsOf}
 use Rattle.store.proofs.SumLaws.{sum-where-append, sum-where-same, sum-where-none}
 
 ruleset tests = (le-leb, lt-leb, lt-ltb, le-ltb)
@@ -105,18 +106,18 @@ module _ (measure : Value → ℕ) where
 
     -- All passes
     pub four-sums : (passes : List Pass) → All (λ (p : Pass). StartedBefore (p .start) (p .end)) passes
-        → addedBelow (t2 - 1) k2 (startPoints passes) + addedBelow t1 k1 (endPoints passes)
+        → addedBelow (t2 - 1) k2 (pointsOf Starts passes) + addedBelow t1 k1 (pointsOf Ends passes)
         ≡ sumWhere passAmount (meets k1 k2 t1 t2) passes
-        + (addedBelow t1 k2 (endPoints passes) + addedBelow (t2 - 1) k1 (startPoints passes))
-    unfolding startPoints endPoints sumWhere
+        + (addedBelow t1 k2 (pointsOf Ends passes) + addedBelow (t2 - 1) k1 (pointsOf Starts passes))
+    unfolding pointsOf sumWhere
     four-sums [] h = refl
     four-sums (p ∷ passes) h =
         omega (
           arith,
           one-pass (passAmount p) (p .key) (p .start) (p .end) (h .0),
           four-sums passes (h .1),
-          sum-where-append amount (below t1 k1) (endPointsOf p (p .end)) (endPoints passes),
-          sum-where-append amount (below t1 k2) (endPointsOf p (p .end)) (endPoints passes),
+          sum-where-append amount (below t1 k1) (endPointsOf p (p .end)) (pointsOf Ends passes),
+          sum-where-append amount (below t1 k2) (endPointsOf p (p .end)) (pointsOf Ends passes),
           end-one t1 k1 p (p .end),
           end-one t1 k2 p (p .end),
         )

@@ -1,9 +1,9 @@
--- Answers in document 01's numbers: "each call ends with a result or a numbered refusal"; "A refusal returns its number and no other field".
+-- Answers in document 01's numbers and values: "each call ends with a result or a numbered refusal"; "A refusal returns its number and no other field".
 use Prim.Native.Nat.{ℕ, zero, suc}
 use mathlib.Core.List.{List, [], _∷_}
 use Rattle.store.specs.declared.types.Answer.{Answer}
 use Rattle.store.specs.declared.types.Answer.the-variants.{Refused, Opened, Started, Ended, Totals}
-use Rattle.store.specs.Head.{Store}
+use Rattle.store.specs.Trees.{Store}
 
 -- The refusal's number, or 0
 abbrev pub refusalOf : Answer → ℕ
@@ -13,13 +13,13 @@ refusalOf (Started n) = 0
 refusalOf Ended = 0
 refusalOf (Totals count sum pages) = 0
 
--- The fields that an answer returns beside that
-abbrev pub fieldsOf : Answer → List ℕ
-fieldsOf (Refused n) = []
-fieldsOf Opened = []
-fieldsOf (Started n) = n ∷ []
-fieldsOf Ended = []
-fieldsOf (Totals count sum pages) = count ∷ (sum ∷ (pages ∷ []))
+-- The values that are returned beside it
+abbrev pub valuesOf : Answer → List ℕ
+valuesOf (Refused n) = []
+valuesOf Opened = []
+valuesOf (Started n) = n ∷ []
+valuesOf Ended = []
+valuesOf (Totals count sum pages) = count ∷ (sum ∷ (pages ∷ []))
 
 -- What a call answers and leaves
 pub record Answered : Type 0 where

@@ -1,42 +1,19 @@
--- The head, what the firmware lends, and refusal 20.
-use Prim.Native.Nat.{ℕ, _/_}
+-- The head: its open passes, and refusal 20.
+use Prim.Native.Nat.{ℕ, _+_, _/_}
 use mathlib.Core.List.{List, [], _∷_}
-use mathlib.Core.Bool.{Bool, true, _&&_}
+use mathlib.Core.Bool.{Bool, true, cond, _&&_}
 use lib.ListN.{length, take, replicate}
-use lib.Dec.{leb, ltb}
+use lib.Dec.{leb, ltb, eqb}
 use Rattle.words.specs.Words.{keyLimit}
 use Rattle.tree.specs.declared.types.TreeUse.{TreeUse}
 use Rattle.tree.specs.Row.{pageWords}
 use Rattle.tree.specs.Tree.{Tree, pageLimit}
 use Rattle.store.specs.declared.types.OpenPass.{OpenPass}
+use Rattle.store.specs.declared.types.FoundPass.{FoundPass}
+use Rattle.store.specs.declared.types.FoundPass.the-variants.{Missing, At}
+use Rattle.store.specs.declared.types.TreeName.{TreeName}
 use Rattle.store.specs.declared.types.Head.{Head}
-
--- The lent slices: "one tree of starts and one of ends", each a page table and a root list
-pub record Lent : Type 0 where
-  pub startTable : List ℕ
-  pub startRoots : List ℕ
-  pub endTable : List ℕ
-  pub endRoots : List ℕ
-
--- From the page table and the root list of the starts, then of the ends
-abbrev pub lentOf : List ℕ → List ℕ → List ℕ → List ℕ → Lent
-lentOf startTable startRoots endTable endRoots =
-    record { startTable = startTable; startRoots = startRoots; endTable = endTable; endRoots = endRoots }
-
--- What a call is handed and what it leaves
-pub record Store : Type 0 where
-  pub head : Head
-  pub lent : Lent
-
--- From a head and these four
-abbrev pub storeOf : Head → List ℕ → List ℕ → List ℕ → List ℕ → Store
-storeOf head startTable startRoots endTable endRoots = record { head = head; lent = lentOf startTable startRoots endTable endRoots }
-
-abbrev pub startsTree : Store → Tree
-startsTree s = record { table = s .lent .startTable; roots = s .lent .startRoots; used = s .head .starts }
-
-abbrev pub endsTree : Store → Tree
-endsTree s = record { table = s .lent .endTable; roots = s .lent .endRoots; used = s .head .ends }
+use Rattle.store.specs.Trees.{Store, treeIn, eachTree}
 
 -- "Passes are numbered 0, 1, 2 and on as starts are accepted, at most 1,000,000. At most 64 are open together."
 abbrev pub passLimit : ℕ
@@ -45,7 +22,7 @@ passLimit = 1000000
 abbrev pub openLimit : ℕ
 openLimit = 64
 
--- "Weight: .. 1 to 10,000"
+-- "Weight: detection weight in hundredths, 1 to 10,000."
 abbrev pub weightLimit : ℕ
 weightLimit = 10000
 
@@ -56,12 +33,20 @@ openPasses h = take (h .count) (h .passes)
 abbrev pub noPass : OpenPass
 noPass = record { number = 0; key = 0; weight = 0; start = 0 }
 
+-- The open pass of a number, among passes of which the first has a place
+unfoldable pub findPass : (number place : ℕ) → List OpenPass → FoundPass
+findPass number place [] = Missing
+findPass number place (p ∷ ps) = cond (eqb (p .number) number) (At place p) (findPass number (place + 1) ps)
+
+abbrev pub passOf : Head → ℕ → FoundPass
+passOf h number = findPass number 0 (openPasses h)
+
 -- 20: "an open key or weight beyond its range", open numbers that "reach the number started", "an open start after the last tick"
-abbrev pub passFits : ℕ → ℕ → OpenPass → Bool
+abbrev pub passFits : (started last : ℕ) → OpenPass → Bool
 passFits started last p =
     ltb (p .key) keyLimit && (leb 1 (p .weight) && (leb (p .weight) weightLimit && (ltb (p .number) started && leb (p .start) last)))
 
-unfoldable pub passesFit : ℕ → ℕ → List OpenPass → Bool
+unfoldable pub passesFit : (started last : ℕ) → List OpenPass → Bool
 passesFit started last [] = true
 passesFit started last (p ∷ ps) = passFits started last p && passesFit started last ps
 
@@ -75,15 +60,14 @@ numbersRise [] = true
 numbersRise (p ∷ ps) = risesTo (p .number) ps && numbersRise ps
 
 -- 20: "no pages or roots used, over 1,000,000 pages used, more pages than the table holds, more roots than pages used or than list words"
--- Use, table words, list words
-abbrev pub useFitsIn : TreeUse → ℕ → ℕ → Bool
-useFitsIn used words list =
+abbrev pub useFitsIn : TreeUse → (tableWords listWords : ℕ) → Bool
+useFitsIn used tableWords listWords =
     leb 1 (used .pages)
     && (leb 1 (used .roots)
     && (leb (used .pages) pageLimit
-    && (leb (used .pages) (words / pageWords)
+    && (leb (used .pages) (tableWords / pageWords)
     && (leb (used .roots) (used .pages)
-    && leb (used .roots) list))))
+    && leb (used .roots) listWords))))
 
 abbrev pub useFits : Tree → Bool
 useFits t = useFitsIn (t .used) (length (t .table)) (length (t .roots))
@@ -95,8 +79,7 @@ headFits s =
     && (passesFit (s .head .started) (s .head .last) (openPasses (s .head))
     && (numbersRise (openPasses (s .head))
     && (leb (s .head .started) passLimit
-    && (useFits (startsTree s)
-    && useFits (endsTree s)))))
+    && eachTree (λ (name : TreeName). useFits (treeIn s name)))))
 
 -- The head that opening returns: "the last tick (0 at opening)", no pass started, none open, page 0 and the first root entry of each tree
 abbrev pub openedHead : Head

@@ -1,10 +1,13 @@
 -- The store and its calls: document 01, "Two trees", "Pages and rows" (the head, opening) and the two refusal lists.
+pub mod Trees
 pub mod Head
+pub mod Calls
 pub mod Refusals
+pub mod Grounds
 pub mod Answers
 pub mod Writing
 pub mod Reading
-pub mod Calls
+pub mod Performing
 -- The pass book: document 01, "Terms" and "The pass book"
 pub mod Passes
 pub mod Points

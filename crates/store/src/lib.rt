@@ -6,3 +6,4 @@ pub use types::Answer;
 pub use types::FoundPass;
 pub use types::Head;
 pub use types::OpenPass;
+pub use types::TreeName;

@@ -1,6 +1,12 @@
 // What the store's calls take and give.
 use tree::TreeUse;
 
+// The trees of a store, by name.
+pub enum TreeName {
+    Starts,
+    Ends,
+}
+
 // A pass that has started and not ended.
 pub struct OpenPass {
     pub number: u32,

@@ -1,0 +1,152 @@
+-- What a call's arguments, and what is known beside them, say where none of their grounds is met.
+use Prim.Native.Nat.{ℕ, zero, suc, _≤_, _<_}
+use native.Mathlib.Omega.{arith}
+use mathlib.Core.Path.{_≡_, refl, ap, sym, _∙_}
+use mathlib.Core.Bool.{Bool, true, false, cond, _||_, false≢true}
+use mathlib.Core.List.{List, [], _∷_, _++_}
+use lib.Dec.{leb, ltb, eqb}
+use borrow.Author.Tests.{leb-false, ltb-false, eqb-false}
+use Rattle.words.specs.Lists.{All}
+use Rattle.words.specs.Words.{keyLimit, openEnd}
+use Rattle.tree.proofs.Lists.{all-map, all-append}
+use Rattle.store.specs.declared.types.TreeName.{TreeName}
+use Rattle.store.specs.Head.{passLimit, openLimit, weightLimit}
+use Rattle.store.specs.Calls.{Call, opening, start, end, question, lookupIn}
+use Rattle.store.specs.Refusals.{Ground, firstMet}
+use Rattle.store.specs.Grounds.{Sought, noneOpen, openSince, Known, startsAt, isNone, argumentGrounds, stateGrounds}
+use Rattle.store.proofs.RefusalLaws.{or-false, Numbered, first-both, none-met}
+
+-- The numbers that the book knows: none of 20, 26, 27 and 28
+pub record Usual (n : ℕ) : Type 0 where
+  pub some : 1 ≤ n
+  pub not-20 : n ≡ 20 → ⊥
+  pub not-26 : n ≡ 26 → ⊥
+  pub not-27 : n ≡ 27 → ⊥
+  pub not-28 : n ≡ 28 → ⊥
+
+of-input : (n : ℕ) → 1 ≤ n → n ≤ 19 → Usual n
+of-input n h i = record { some = h; not-20 = λ e. omega arith; not-26 = λ e. omega arith; not-27 = λ e. omega arith; not-28 = λ e. omega arith }
+
+of-state : (n : ℕ) → 21 ≤ n → n ≤ 25 → Usual n
+of-state n h i =
+    record { some = omega arith; not-20 = λ e. omega arith; not-26 = λ e. omega arith; not-27 = λ e. omega arith; not-28 = λ e. omega arith }
+
+abbrev pub AllUsual : List Ground → Type 0
+AllUsual gs = All (λ (g : Ground). Usual (g .number)) gs
+
+pub arguments-usual : (c : Call) → AllUsual (argumentGrounds c)
+arguments-usual opening = tt
+arguments-usual (start tick key weight) =
+    (of-input 1 (omega arith) (omega arith), (of-input 3 (omega arith) (omega arith), (of-input 4 (omega arith) (omega arith), tt)))
+arguments-usual (end tick number) = (of-input 4 (omega arith) (omega arith), tt)
+arguments-usual (question k1 k2 t1 t2) =
+    (of-input 1 (omega arith) (omega arith), (of-input 2 (omega arith) (omega arith), (of-input 5 (omega arith) (omega arith), tt)))
+arguments-usual (lookupIn tree t k) = (of-input 1 (omega arith) (omega arith), (of-input 4 (omega arith) (omega arith), tt))
+
+pub states-usual : (known : Known) (c : Call) → AllUsual (stateGrounds known c)
+states-usual known opening = tt
+states-usual known (start tick key weight) =
+    (of-state 21 (omega arith) (omega arith), (of-state 24 (omega arith) (omega arith), (of-state 25 (omega arith) (omega arith), tt)))
+states-usual known (end tick number) =
+    (of-state 21 (omega arith) (omega arith), (of-state 22 (omega arith) (omega arith), (of-state 23 (omega arith) (omega arith), tt)))
+states-usual known (question k1 k2 t1 t2) = tt
+states-usual known (lookupIn tree t k) = tt
+
+pub usual-numbered : (gs : List Ground) → AllUsual gs → Numbered gs
+usual-numbered gs h = all-map (λ (g : Ground). Usual (g .number)) (λ (g : Ground). 1 ≤ g .number) (λ g u. u .some) gs h
+
+pub arguments-numbered : (c : Call) → Numbered (argumentGrounds c)
+arguments-numbered c = usual-numbered (argumentGrounds c) (arguments-usual c)
+
+pub states-numbered : (known : Known) (c : Call) → Numbered (stateGrounds known c)
+states-numbered known c = usual-numbered (stateGrounds known c) (states-usual known c)
+
+-- A tick of 32 bits that is not 4,294,967,295
+pub below-open : (tick : ℕ) → tick ≤ openEnd → eqb tick openEnd ≡ false → tick < openEnd
+below-open tick wide e = below (eqb-false tick openEnd e)
+  where
+    below : (tick ≡ openEnd → ⊥) → tick < openEnd
+    below n = omega (arith, n)
+
+-- A tick and a key that a lookup may have
+pub record InBounds (t k : ℕ) : Type 0 where
+  pub tick : t < openEnd
+  pub key : k < keyLimit
+
+pub lookup-bounds : (tree : TreeName) (t k : ℕ) → t ≤ openEnd → firstMet (argumentGrounds (lookupIn tree t k)) ≡ 0 → InBounds t k
+lookup-bounds tree t k wide e =
+    let none = none-met (argumentGrounds (lookupIn tree t k)) (arguments-numbered (lookupIn tree t k)) e in
+    record { tick = below-open t wide (none .1 .0); key = leb-false keyLimit k (none .0) }
+
+-- The arguments of a start
+pub record StartArguments (tick key weight : ℕ) : Type 0 where
+  pub bounds : InBounds tick key
+  pub some : 1 ≤ weight
+  pub weight-fits : weight ≤ weightLimit
+
+pub start-arguments : (tick key weight : ℕ) → tick ≤ openEnd → firstMet (argumentGrounds (start tick key weight)) ≡ 0 → StartArguments tick key weight
+start-arguments tick key weight wide e =
+    let none = none-met (argumentGrounds (start tick key weight)) (arguments-numbered (start tick key weight)) e in
+    let weights = or-false (eqb weight 0) (ltb weightLimit weight) (none .1 .0) in
+    record {
+      bounds = record { tick = below-open tick wide (none .1 .1 .0); key = leb-false keyLimit key (none .0) };
+      some = above (eqb-false weight 0 (weights .0));
+      weight-fits = ltb-false weightLimit weight (weights .1);
+    }
+  where
+    above : (weight ≡ 0 → ⊥) → 1 ≤ weight
+    above n = omega (arith, n)
+
+-- The tick of an end
+pub end-tick : (tick number : ℕ) → tick ≤ openEnd → firstMet (argumentGrounds (end tick number)) ≡ 0 → tick < openEnd
+end-tick tick number wide e = below-open tick wide (none-met (argumentGrounds (end tick number)) (arguments-numbered (end tick number)) e .0)
+
+-- A band and ticks that a question may have
+pub record Asked (k1 k2 t1 t2 : ℕ) : Type 0 where
+  pub low : k1 < keyLimit
+  pub high : k2 ≤ keyLimit
+  pub band : k1 < k2
+  pub ticks : t1 < t2
+
+pub asked : (k1 k2 t1 t2 : ℕ) → firstMet (argumentGrounds (question k1 k2 t1 t2)) ≡ 0 → Asked k1 k2 t1 t2
+asked k1 k2 t1 t2 e =
+    let none = none-met (argumentGrounds (question k1 k2 t1 t2)) (arguments-numbered (question k1 k2 t1 t2)) e in
+    let keys = or-false (leb keyLimit k1) (ltb keyLimit k2) (none .0) in
+    record {
+      low = leb-false keyLimit k1 (keys .0);
+      high = ltb-false keyLimit k2 (keys .1);
+      band = leb-false k2 k1 (none .1 .0);
+      ticks = leb-false t2 t1 (none .1 .1 .0);
+    }
+
+-- What is known where a start is not refused for it
+pub record MayStart (known : Known) (tick : ℕ) : Type 0 where
+  pub later : known .last ≤ tick
+  pub place : known .count < openLimit
+  pub number : known .started < passLimit
+
+pub may-start : (known : Known) (tick key weight : ℕ) → firstMet (stateGrounds known (start tick key weight)) ≡ 0 → MayStart known tick
+may-start known tick key weight e =
+    let none = none-met (stateGrounds known (start tick key weight)) (states-numbered known (start tick key weight)) e in
+    record {
+      later = ltb-false tick (known .last) (none .0);
+      place = leb-false openLimit (known .count) (none .1 .0);
+      number = leb-false passLimit (known .started) (none .1 .1 .0);
+    }
+
+-- and where an end is not: the pass is open, and started at another tick
+pub record MayEnd (known : Known) (tick : ℕ) : Type 0 where
+  pub later : known .last ≤ tick
+  pub began : ℕ
+  pub is-open : known .pass ≡ openSince began
+  pub other : tick ≡ began → ⊥
+
+pub may-end : (known : Known) (tick number : ℕ) → firstMet (stateGrounds known (end tick number)) ≡ 0 → MayEnd known tick
+may-end known tick number e =
+    let none = none-met (stateGrounds known (end tick number)) (states-numbered known (end tick number)) e in
+    let found = go (known .pass) (none .1 .0) (none .1 .1 .0) in
+    record { later = ltb-false tick (known .last) (none .0); began = found .0; is-open = found .1; other = found .2 }
+  where
+    go : (pass : Sought) → isNone pass ≡ false → startsAt tick pass ≡ false → (began : ℕ) × (pass ≡ openSince began) × (tick ≡ began → ⊥)
+    go noneOpen e f = absurd (false≢true (sym e))
+    go (openSince began) e f = (began, refl, eqb-false tick began f)

@@ -1,0 +1,185 @@
+-- Ends: the store does as the book does, and agrees with it afterwards.
+use Prim.Native.Nat.{ℕ, zero, suc, _+_, _-_, _≤_, _<_}
+use native.Mathlib.Omega.{arith}
+use mathlib.Core.Path.{_≡_, refl, ap, ap₂, sym, subst, _∙_}
+use mathlib.Core.Bool.{Bool, true, false, cond, false≢true}
+use mathlib.Core.List.{List, [], _∷_, _++_}
+use lib.ListN.{length, getD, take, drop, length-append, length-take, length-drop}
+use Rattle.words.specs.Lists.{All}
+use Rattle.words.specs.Words.{openEnd}
+use Rattle.tree.specs.RowSteps.{Point}
+use Rattle.tree.specs.Grown.{InTime, Room}
+use Rattle.tree.proofs.Lists.{all-map, all-at}
+use Rattle.store.specs.declared.types.OpenPass.{OpenPass}
+use Rattle.store.specs.declared.types.FoundPass.{FoundPass}
+use Rattle.store.specs.declared.types.FoundPass.the-variants.{Missing, At}
+use Rattle.store.specs.declared.types.TreeName.{TreeName}
+use Rattle.store.specs.declared.types.TreeName.the-variants.{Starts, Ends}
+use Rattle.store.specs.Trees.{Store, treeIn}
+use Rattle.store.specs.Head.{findPass, passOf}
+use Rattle.store.specs.Calls.{end}
+use Rattle.store.specs.Grounds.{Sought, noneOpen, openSince}
+use Rattle.store.specs.Writing.{pointOf, Entry, endEntries, enterAll, closedUp, endedHead}
+use Rattle.store.specs.Performing.{served}
+use Rattle.store.specs.Passes.{End, stillOpen, endedAt, Pass, sumWhere}
+use Rattle.store.specs.Points.{endPointsOf, pointsOfPass, pointsOf}
+use Rattle.store.specs.Book.{Book, isOpen, notEnded, neverStarted, passNumbered, openOr, bookKnows, endPassAt, bookDoes}
+use Rattle.store.proofs.SumLaws.{sum-where-one}
+use Rattle.store.proofs.PointLaws.{ended, points-ended}
+use Rattle.store.proofs.OpenPasses.{openOf, openPass, FoundAt, find-open, PassKept}
+use Rattle.store.proofs.HeadLists.{closed-length, list-closed}
+use Rattle.store.proofs.ArgumentFacts.{MayEnd}
+use Rattle.store.proofs.Agreement.{TreeTook, Agrees}
+use Rattle.store.proofs.TreesTook.{took-same, took-more}
+use Rattle.store.proofs.Entering.{HasRoom}
+use Rattle.store.proofs.Ready.{Ready}
+
+-- The passes after one has ended
+ended-length : (number tick : ℕ) (passes : List Pass) → length (endPassAt number tick passes) ≡ length passes
+unfolding endPassAt
+ended-length number tick [] = refl
+ended-length zero tick (p ∷ passes) = refl
+ended-length (suc number) tick (p ∷ passes) = ap suc (ended-length number tick passes)
+
+open-inside : (number : ℕ) (passes : List Pass) → getD passes number neverStarted .end ≡ stillOpen → number < length passes
+open-inside number [] e = absurd (false≢true (ap notEnded e))
+open-inside zero (p ∷ passes) e = omega arith
+open-inside (suc number) (p ∷ passes) e = omega (arith, open-inside number passes e)
+
+ended-kept : (number tick : ℕ) (passes : List Pass) → getD passes number neverStarted .start < tick → All (PassKept tick) passes
+    → All (PassKept tick) (endPassAt number tick passes)
+unfolding endPassAt
+ended-kept number tick [] s h = tt
+ended-kept zero tick (p ∷ passes) s h =
+    (record { key = h .0 .key; some = h .0 .some; weight = h .0 .weight; start = h .0 .start; lived = s }, h .1)
+ended-kept (suc number) tick (p ∷ passes) s h = (h .0, ended-kept number tick passes s (h .1))
+
+-- A pass that is sought and found open
+found-open : (p : Pass) (e : End) (began : ℕ) → openOr p e ≡ openSince began → (e ≡ stillOpen) × (began ≡ p .start)
+found-open p stillOpen began is = (refl, sym (ap began-at is))
+  where
+    began-at : Sought → ℕ
+    began-at noneOpen = 0
+    began-at (openSince tick) = tick
+found-open p (endedAt e) began is = absurd (false≢true (ap found is))
+  where
+    found : Sought → Bool
+    found noneOpen = false
+    found (openSince tick) = true
+
+module _ (s : Store) (b : Book) (a : Agrees s b) (tick number : ℕ) (tick-fits : tick < openEnd)
+    (may : MayEnd (bookKnows b (end tick number)) tick) where
+  abbrev pass : Pass
+  pass = passNumbered b number
+
+  is-open : (pass .end ≡ stillOpen) × (may .began ≡ pass .start)
+  is-open = found-open pass (pass .end) (may .began) (may .is-open)
+
+  abbrev at : FoundAt number tick 0 0 (b .passes)
+  at = find-open number tick 0 0 (b .passes) (ap notEnded (is-open .0))
+
+  abbrev place : ℕ
+  place = 0 + at .at
+
+  abbrev found : FoundPass
+  found = At place (openPass (0 + number) pass)
+
+  here : passOf (s .head) number ≡ found
+  here = ap₂ (λ (n : ℕ) (os : List OpenPass). findPass n 0 os) (omega arith) (a .listed) ∙ at .found
+
+  abbrev point : Point
+  point = pointOf tick (pass .key) (pass .weight)
+
+  abbrev after : Book
+  after = bookDoes b (end tick number)
+
+  inside-book : number < length (b .passes)
+  inside-book = open-inside number (b .passes) (is-open .0)
+
+  known : PassKept (b .last) pass
+  known = all-at (PassKept (b .last)) (b .passes) number neverStarted (a .kept) inside-book
+
+  started-before : pass .start < tick
+  started-before = before (may .other)
+    where
+      before : (tick ≡ may .began → ⊥) → pass .start < tick
+      before n = omega (arith, n, is-open .1, known .start, may .later)
+
+  in-time : InTime (b .last) point
+  in-time = record { later = may .later; tick = tick-fits; key = known .key }
+
+  inside : place < s .head .count
+  inside = omega (arith, at .inside, a .count)
+
+  later-kept : All (PassKept tick) (b .passes)
+  later-kept =
+      all-map (PassKept (b .last)) (PassKept tick)
+      (λ p k. record { key = k .key; some = k .some; weight = k .weight; start = omega (arith, k .start, may .later); lived = k .lived })
+      (b .passes) (a .kept)
+
+  abbrev without : ℕ → List OpenPass → List OpenPass
+  without i os = take i os ++ drop (suc i) os
+
+  without-length : (i : ℕ) (os : List OpenPass) → i < length os → length (without i os) ≡ length os - 1
+  without-length i os h =
+      omega (arith, length-append (take i os) (drop (suc i) os), length-take i os, length-drop (suc i) os)
+
+  listed-less : take (s .head .count - 1) (closedUp (s .head .passes) place (s .head .count)) ≡ openOf 0 (endPassAt number tick (b .passes))
+  listed-less =
+      let from-zero : place ≡ at .at = omega arith in
+      list-closed (s .head .passes) place (s .head .count) inside (omega (arith, a .places, a .most))
+      ∙ ap (without place) (a .listed)
+      ∙ ap (λ (i : ℕ). without i (openOf 0 (b .passes))) from-zero
+      ∙ sym (at .closes)
+
+  -- The store that an end of the pass that was found leaves
+  abbrev storeAfter : FoundPass → Store
+  storeAfter f =
+      record { head = endedHead (enterAll s (endEntries tick f) .head) tick f; lent = enterAll s (endEntries tick f) .lent }
+
+  -- The tree of ends takes the point, the others none
+  open-adds : (f : Point → ℕ) (test : Point → Bool) → sumWhere f test (endPointsOf pass (pass .end)) ≡ 0
+  unfolding sumWhere
+  open-adds f test = ap (λ (e : End). sumWhere f test (endPointsOf pass e)) (is-open .0)
+
+  trees-after : Room (treeIn s Ends) point → (name : TreeName)
+      → TreeTook (treeIn (storeAfter found) name) tick (pointsOf name (after .passes))
+  trees-after room Starts =
+      took-same tick (pointsOf Starts (after .passes)) (may .later)
+      (λ f test. omega (arith, points-ended Starts f test number tick (b .passes) inside-book)) (a .trees Starts)
+  trees-after room Ends =
+      took-more (a .trees Ends) point in-time room (pointsOf Ends (after .passes))
+      (λ f test.
+      omega (arith, points-ended Ends f test number tick (b .passes) inside-book, open-adds f test, sum-where-one f test point))
+
+  ended-agrees : Room (treeIn s Ends) point → Agrees (storeAfter found) after
+  ended-agrees room =
+      record {
+        last = refl;
+        now = tick-fits;
+        started = a .started ∙ sym (ended-length number tick (b .passes));
+        few = omega (arith, a .few, ended-length number tick (b .passes));
+        places = closed-length (s .head .passes) place (s .head .count) inside (omega (arith, a .places, a .most)) ∙ a .places;
+        listed = listed-less;
+        count =
+            omega (arith, a .count, ap length (at .closes), without-length (at .at) (openOf 0 (b .passes)) (at .inside));
+        most = omega (arith, a .most);
+        kept = ended-kept number tick (b .passes) started-before later-kept;
+        trees = trees-after room;
+      }
+
+  pub end-ready : Ready s b (end tick number)
+  unfolding served
+  end-ready =
+      record {
+        lookups = tt;
+        entries = subst (λ (f : FoundPass). All (λ (e : Entry). InTime (b .last) (e .point)) (endEntries tick f)) (sym here) (in-time, tt);
+        serves = λ rooms.
+            let room = subst (λ (f : FoundPass). All (HasRoom s) (endEntries tick f)) here rooms in
+            record {
+              answer = refl;
+              next = subst (λ (f : FoundPass). Agrees (storeAfter f) after) (sym here) (ended-agrees (room .0));
+              said = refl;
+              most = omega arith;
+            };
+      }

@@ -1,0 +1,118 @@
+-- Starts: the store does as the book does, and agrees with it afterwards.
+use Prim.Native.Nat.{ℕ, zero, suc, _+_, _≤_, _<_}
+use native.Mathlib.Omega.{arith}
+use mathlib.Core.Path.{_≡_, refl, ap, ap₂, sym, _∙_}
+use mathlib.Core.Bool.{Bool, cond}
+use mathlib.Core.List.{List, [], _∷_, _++_}
+use lib.ListN.{length, take, set, length-append, length-set}
+use Rattle.words.specs.Lists.{All}
+use Rattle.tree.specs.RowSteps.{Point}
+use Rattle.tree.specs.Grown.{InTime, Room}
+use Rattle.tree.proofs.Lists.{all-map, all-append}
+use Rattle.store.specs.declared.types.OpenPass.{OpenPass}
+use Rattle.store.specs.declared.types.TreeName.{TreeName}
+use Rattle.store.specs.declared.types.TreeName.the-variants.{Starts, Ends}
+use Rattle.store.specs.Trees.{Store, treeIn}
+use Rattle.store.specs.Head.{openLimit}
+use Rattle.store.specs.Calls.{start}
+use Rattle.store.specs.Writing.{pointOf}
+use Rattle.store.specs.Performing.{served}
+use Rattle.store.specs.Passes.{stillOpen, Pass, sumWhere}
+use Rattle.store.specs.Points.{pointsOf}
+use Rattle.store.specs.Book.{Book, says, bookKnows, bookDoes}
+use Rattle.store.proofs.SumLaws.{sum-where-one}
+use Rattle.store.proofs.PointLaws.{points-more}
+use Rattle.store.proofs.OpenPasses.{openOf, openPass, open-count, open-more, PassKept}
+use Rattle.store.proofs.HeadLists.{list-more}
+use Rattle.store.proofs.ArgumentFacts.{StartArguments, MayStart}
+use Rattle.store.proofs.Agreement.{TreeTook, Agrees}
+use Rattle.store.proofs.TreesTook.{took-same, took-more}
+use Rattle.store.proofs.Ready.{Ready}
+
+module _ (s : Store) (b : Book) (a : Agrees s b) (tick key weight : ℕ) (arguments : StartArguments tick key weight)
+    (may : MayStart (bookKnows b (start tick key weight)) tick) where
+  abbrev point : Point
+  point = pointOf tick key weight
+
+  abbrev pass : Pass
+  pass = record { key = key; weight = weight; start = tick; end = stillOpen }
+
+  abbrev after : Book
+  after = bookDoes b (start tick key weight)
+
+  in-time : InTime (b .last) point
+  in-time = record { later = may .later; tick = arguments .bounds .tick; key = arguments .bounds .key }
+
+  room-left : s .head .count < openLimit
+  room-left = omega (arith, a .count, open-count 0 (b .passes), may .place)
+
+  old-kept : All (PassKept tick) (b .passes)
+  old-kept =
+      all-map (PassKept (b .last)) (PassKept tick)
+      (λ p k. record { key = k .key; some = k .some; weight = k .weight; start = omega (arith, k .start, may .later); lived = k .lived })
+      (b .passes) (a .kept)
+
+  abbrev grown : List OpenPass
+  grown = set (s .head .passes) (s .head .count) (record { number = s .head .started; key = key; weight = weight; start = tick })
+
+  number-same : s .head .started ≡ 0 + length (b .passes)
+  number-same = omega (arith, a .started)
+
+  listed-more : take (s .head .count + 1) grown ≡ openOf 0 (b .passes ++ (pass ∷ []))
+  listed-more =
+      list-more (s .head .passes) (s .head .count) _ (omega (arith, a .places, room-left))
+      ∙ ap₂ (λ (os : List OpenPass) (n : ℕ). os ++ (openPass n pass ∷ [])) (a .listed) number-same
+      ∙ sym (open-more 0 (b .passes) pass refl)
+
+  -- The tree of starts takes the point, the others none
+  trees-after : Room (treeIn s Starts) point → (name : TreeName)
+      → TreeTook (treeIn (served s (start tick key weight) .store) name) tick (pointsOf name (after .passes))
+  unfolding served sumWhere
+  trees-after room Starts =
+      took-more (a .trees Starts) point in-time room (pointsOf Starts (after .passes))
+      (λ f test. omega (arith, points-more Starts f test (b .passes) pass, sum-where-one f test point))
+  trees-after room Ends =
+      took-same tick (pointsOf Ends (after .passes)) (may .later)
+      (λ f test. omega (arith, points-more Ends f test (b .passes) pass)) (a .trees Ends)
+
+  started-agrees : Room (treeIn s Starts) point → Agrees (served s (start tick key weight) .store) after
+  unfolding served
+  started-agrees room =
+      record {
+        last = refl;
+        now = arguments .bounds .tick;
+        started = omega (arith, a .started, length-append (b .passes) (pass ∷ []));
+        few = omega (arith, may .number, length-append (b .passes) (pass ∷ []));
+        places = length-set (s .head .passes) (s .head .count) _ ∙ a .places;
+        listed = listed-more;
+        count =
+            omega (
+              arith,
+              a .count,
+              ap length (open-more 0 (b .passes) pass refl),
+              length-append (openOf 0 (b .passes)) (openPass (0 + length (b .passes)) pass ∷ []),
+            );
+        most = omega (arith, room-left);
+        kept =
+            all-append (PassKept tick) (b .passes) (pass ∷ []) old-kept
+            (
+              record { key = arguments .bounds .key; some = arguments .some; weight = arguments .weight-fits; start = omega arith; lived = tt },
+              tt,
+            );
+        trees = trees-after room;
+      }
+
+  pub start-ready : Ready s b (start tick key weight)
+  unfolding served
+  start-ready =
+      record {
+        lookups = tt;
+        entries = (in-time, tt);
+        serves = λ rooms.
+            record {
+              answer = ap (λ (n : ℕ). says (n ∷ [])) (a .started);
+              next = started-agrees (rooms .0);
+              said = refl;
+              most = omega arith;
+            };
+      }

@@ -1,0 +1,66 @@
+-- The trees of a store by name, and what is lent to each: "A store has one tree of starts and one of ends."
+use Prim.Native.Nat.{ℕ}
+use mathlib.Core.List.{List}
+use mathlib.Core.Bool.{Bool, _&&_, _||_}
+use Rattle.tree.specs.declared.types.TreeUse.{TreeUse}
+use Rattle.tree.specs.Tree.{Tree}
+use Rattle.store.specs.declared.types.TreeName.{TreeName}
+use Rattle.store.specs.declared.types.TreeName.the-variants.{Starts, Ends}
+use Rattle.store.specs.declared.types.Head.{Head}
+
+-- What holds of each tree, or of one of them
+abbrev pub eachTree : (TreeName → Bool) → Bool
+eachTree f = f Starts && f Ends
+
+abbrev pub someTree : (TreeName → Bool) → Bool
+someTree f = f Starts || f Ends
+
+-- What is lent to a tree
+pub record LentTree : Type 0 where
+  pub table : List ℕ
+  pub roots : List ℕ
+
+-- The lent slices
+pub record Lent : Type 0 where
+  pub starts : LentTree
+  pub ends : LentTree
+
+abbrev pub lentTo : Lent → TreeName → LentTree
+lentTo m Starts = m .starts
+lentTo m Ends = m .ends
+
+abbrev pub withLent : Lent → TreeName → LentTree → Lent
+withLent m Starts t = record { starts = t; ends = m .ends }
+withLent m Ends t = record { starts = m .starts; ends = t }
+
+-- The slices in the order of a call's parameters
+abbrev pub lentOf : (startTable startRoots endTable endRoots : List ℕ) → Lent
+lentOf startTable startRoots endTable endRoots =
+    record { starts = record { table = startTable; roots = startRoots }; ends = record { table = endTable; roots = endRoots } }
+
+-- The head has "for each tree the pages used and the roots used"
+abbrev pub usedBy : Head → TreeName → TreeUse
+usedBy h Starts = h .starts
+usedBy h Ends = h .ends
+
+abbrev pub withUse : Head → TreeName → TreeUse → Head
+withUse h Starts used =
+    record { last = h .last; started = h .started; count = h .count; passes = h .passes; starts = used; ends = h .ends }
+withUse h Ends used =
+    record { last = h .last; started = h .started; count = h .count; passes = h .passes; starts = h .starts; ends = used }
+
+-- What a call is handed and what it leaves
+pub record Store : Type 0 where
+  pub head : Head
+  pub lent : Lent
+
+abbrev pub storeOf : Head → (startTable startRoots endTable endRoots : List ℕ) → Store
+storeOf head startTable startRoots endTable endRoots = record { head = head; lent = lentOf startTable startRoots endTable endRoots }
+
+abbrev pub treeIn : Store → TreeName → Tree
+treeIn s name = record { table = lentTo (s .lent) name .table; roots = lentTo (s .lent) name .roots; used = usedBy (s .head) name }
+
+-- The store with one tree changed
+abbrev pub withTree : Store → TreeName → Tree → Store
+withTree s name t =
+    record { head = withUse (s .head) name (t .used); lent = withLent (s .lent) name (record { table = t .table; roots = t .roots }) }
