@@ -5,8 +5,10 @@ use store::OpenPass;
 use tree::TreeUse;
 ghost use mathlib.Core.Path.{_≡_};
 ghost use Prim.Native.Nat.{_≤_, _<_};
-ghost use Rattle.store.specs.Head.{openLimit, passLimit, noPass, openedHead};
-ghost use Rattle.store.specs.Writing.{passOf, startedHead, endedHead};
+ghost use Rattle.store.specs.Trees.{withUse};
+ghost use Rattle.store.specs.Head.{openLimit, passLimit, noPass, passOf, openedHead};
+ghost use Rattle.store.specs.Writing.{startedHead, endedHead};
+ghost use Rattle.store.specs.declared.types.TreeName.the-variants.{Starts, Ends};
 ghost use Rattle.store.specs.declared.types.OpenPass.{OpenPass};
 
 // The open pass of a number, and its place.
@@ -30,7 +32,7 @@ pub fn find_pass(head: Head, number: u32) -> FoundPass
 pub fn started_head(mut head: Head, used: TreeUse, tick: u32, key: u32, weight: u32) -> Head
     requires { ⌜ head .count < openLimit ⌝ }
     requires { ⌜ head .started < passLimit ⌝ }
-    ensures { λ r. ⌜ r ≡ startedHead head used tick key weight ⌝ }
+    ensures { λ r. ⌜ r ≡ startedHead (withUse head Starts used) tick key weight ⌝ }
 {
     let number = head.started;
     let count = head.count;
@@ -65,7 +67,7 @@ fn no_pass() -> OpenPass
 pub fn ended_head(mut head: Head, used: TreeUse, tick: u32, place: usize) -> Head
     requires { ⌜ place < head .count ⌝ }
     requires { ⌜ head .count ≤ openLimit ⌝ }
-    ensures { λ r. ⌜ ((pass : OpenPass) → r ≡ endedHead head used tick (FoundPass.At place pass)) ⌝ }
+    ensures { λ r. ⌜ ((pass : OpenPass) → r ≡ endedHead (withUse head Ends used) tick (FoundPass.At place pass)) ⌝ }
 {
     let count = head.count - 1;
     let last = count as usize;

@@ -1,42 +1,49 @@
 -- The four lookups of a question as the bands of two trees: the starts less the ends.
-use Prim.Native.Nat.{ℕ, _-_, _≤_}
+use Prim.Native.Nat.{ℕ, _+_, _-_, _≤_}
 use native.Mathlib.Omega.{arith}
 use mathlib.Core.Path.{_≡_, refl}
 use mathlib.Core.Bool.{Bool, true, false, cond}
+use mathlib.Core.Logic.{_⊎_, inl, inr}
 use lib.Dec.{eqb}
 use Rattle.words.specs.declared.value.Value.{Value}
-use Rattle.words.specs.Value.{zero}
+use Rattle.words.specs.Value.{zero, plus, minus}
 use Rattle.tree.specs.declared.types.Lookup.{Lookup}
 use Rattle.tree.specs.declared.types.Lookup.the-variants.{Spoiled, Found}
 use Rattle.tree.specs.Tree.{Tree}
 use Rattle.tree.specs.Lookup.{lookup}
 use Rattle.tree.proofs.PathLength.{pages-at-most}
 use Rattle.lookup.proofs.LookupLaws.{same-found}
-use Rattle.store.specs.Reading.{pagesOf, Four, fourSpoiled, fourValue, fourPages}
+use Rattle.store.specs.Reading.{isSpoiled, valueOf, pagesOf}
 use Rattle.queries.specs.Bands.{without, inBand}
 use Rattle.queries.proofs.Differences.{two-values, four-values}
 
--- The lookups below the low key, where `first` says that the band starts at key 0
-abbrev pub fourOf : Bool → Lookup → Lookup → Lookup → Lookup → Four
-fourOf first a b c d =
-    record { startsBelowHigh = a; endsBelowHigh = b; startsBelowLow = cond first (Found zero 0) c; endsBelowLow = cond first (Found zero 0) d }
+-- The four lookups of a question, of which the last two are not made where `first` says that the band starts at key 0
+module _ (first : Bool) (a b c d : Lookup) where
+  abbrev pub refusalOf4 : ℕ
+  refusalOf4 = cond (isSpoiled a) 26 (cond (isSpoiled b) 26 (cond first 0 (cond (isSpoiled c) 26 (cond (isSpoiled d) 26 0))))
 
-abbrev pub bandsOf : Bool → Lookup → Lookup → Lookup → Lookup → Lookup
-bandsOf first a b c d = without (cond first a (without a c)) (cond first b (without b d))
+  abbrev pub valueOf4 : Value
+  valueOf4 = plus (minus (minus (valueOf a) (valueOf b)) (cond first zero (valueOf c))) (cond first zero (valueOf d))
 
-abbrev pub totalOf : Four → Lookup
-totalOf q = cond (fourSpoiled q) Spoiled (Found (fourValue q) (fourPages q))
+  abbrev pub pagesOf4 : ℕ
+  pagesOf4 = pagesOf a + (pagesOf b + cond first 0 (pagesOf c + (pagesOf d + 0)))
 
-pub bands-are : (first : Bool) (a b c d : Lookup) → bandsOf first a b c d ≡ totalOf (fourOf first a b c d)
-bands-are true Spoiled b c d = refl
-bands-are true (Found v m) Spoiled c d = refl
-bands-are true (Found v m) (Found w n) c d = same-found (two-values v w) (omega arith)
-bands-are false Spoiled b c d = refl
-bands-are false (Found v m) Spoiled Spoiled d = refl
-bands-are false (Found v m) Spoiled (Found x p) d = refl
-bands-are false (Found v m) (Found w n) Spoiled d = refl
-bands-are false (Found v m) (Found w n) (Found x p) Spoiled = refl
-bands-are false (Found v m) (Found w n) (Found x p) (Found y q) = same-found (four-values v w x y) (omega arith)
+  abbrev pub bandsOf : Lookup
+  bandsOf = without (cond first a (without a c)) (cond first b (without b d))
+
+  abbrev pub BandCase : Type 0
+  BandCase = ((refusalOf4 ≡ 26) × (bandsOf ≡ Spoiled)) ⊎ ((refusalOf4 ≡ 0) × (bandsOf ≡ Found valueOf4 pagesOf4))
+
+pub band-case : (first : Bool) (a b c d : Lookup) → BandCase first a b c d
+band-case true Spoiled b c d = inl (refl, refl)
+band-case true (Found v m) Spoiled c d = inl (refl, refl)
+band-case true (Found v m) (Found w n) c d = inr (refl, same-found (two-values v w) (omega arith))
+band-case false Spoiled b c d = inl (refl, refl)
+band-case false (Found v m) Spoiled Spoiled d = inl (refl, refl)
+band-case false (Found v m) Spoiled (Found x p) d = inl (refl, refl)
+band-case false (Found v m) (Found w n) Spoiled d = inl (refl, refl)
+band-case false (Found v m) (Found w n) (Found x p) Spoiled = inl (refl, refl)
+band-case false (Found v m) (Found w n) (Found x p) (Found y q) = inr (refl, same-found (four-values v w x y) (omega arith))
 
 -- A band opens at most 8 pages
 few : (tree : Tree) (t k : ℕ) → pagesOf (lookup tree t k) ≤ 4

@@ -1,51 +1,58 @@
--- What a lookup answers, by the refusal of its input and its head.
-use Prim.Native.Nat.{ℕ, _<_}
+-- What a lookup answers, by the refusal of its arguments and its head.
+use Prim.Native.Nat.{ℕ, _+_}
 use native.Mathlib.Omega.{arith}
 use mathlib.Core.Path.{_≡_, refl, ap, sym, _∙_}
-use Rattle.words.specs.Words.{keyLimit}
+use mathlib.Core.List.{[], _∷_}
+use Rattle.words.specs.declared.value.Value.{Value}
 use Rattle.tree.specs.declared.types.Lookup.{Lookup}
 use Rattle.tree.specs.declared.types.Lookup.the-variants.{Spoiled, Found}
+use Rattle.store.specs.declared.types.Answer.{Answer}
 use Rattle.store.specs.declared.types.Answer.the-variants.{Refused}
-use Rattle.store.specs.Head.{Store}
-use Rattle.store.specs.Refusals.{firstMet}
+use Rattle.store.specs.declared.types.TreeName.{TreeName}
+use Rattle.store.specs.Trees.{Store}
+use Rattle.store.specs.Calls.{lookupIn}
+use Rattle.store.specs.Refusals.{_gives_, firstMet}
+use Rattle.store.specs.Grounds.{argumentGrounds}
 use Rattle.store.specs.Answers.{Answered}
-use Rattle.store.specs.Reading.{valueOf, pagesOf, totals, lookupIn}
-use Rattle.refusals.specs.Grounds.{earlier, lookupInput, headGrounds}
-use Rattle.refusals.proofs.Earlier.{by-first, by-second, neither}
-use Rattle.refusals.proofs.HeadFacts.{HeadFacts, fits-head}
-use Rattle.refusals.proofs.InputFacts.{lookup-input-facts}
-use Rattle.refusals.proofs.RefusalParts.{lookupEarly, lookup-parts}
-use Rattle.queries.specs.Bands.{answerOf}
+use Rattle.store.specs.Reading.{isSpoiled, valueOf, pagesOf, PointLookup, foundIn}
+use Rattle.store.specs.Performing.{totals, served, perform}
+use Rattle.refusals.specs.Grounds.{earlier, headGrounds}
+use Rattle.refusals.proofs.RefusalParts.{by-head, by-pages}
 use Rattle.refusals.proofs.Outcomes.{is-refused, is-done}
+use Rattle.queries.specs.Bands.{answerOf}
 
-module _ (s : Store) (t k : ℕ) {input early : ℕ} (of-input : input ≡ firstMet (lookupInput t k))
-    (of-head : early ≡ earlier input (firstMet (headGrounds s))) where
-  is : early ≡ lookupEarly s t k
-  is = rw (← of-input) of-head
+module _ (s : Store) (tree : TreeName) (t k : ℕ) {input head : ℕ} (of-input : input ≡ firstMet (argumentGrounds (lookupIn tree t k)))
+    (of-head : head ≡ earlier input (firstMet (headGrounds s))) where
+  abbrev l : PointLookup
+  l = record { tree = tree; tick = t; key = k }
 
-  answered : Lookup → Answered
-  answered found = record { answer = totals (valueOf found) (pagesOf found); store = s }
+  abbrev answerIs : Answered → Answer
+  answerIs a = a .answer
 
-  pub lookup-refused : (found : Lookup) → (early ≡ 0 → ⊥) → Refused early ≡ lookupIn s found t k .answer
-  unfolding answered
-  lookup-refused found some =
-      sym (ap (λ (a : Answered). a .answer) (is-refused s (answered found) (by-first _ is some ∙ sym (lookup-parts s found t k)) some))
+  pub lookup-refused : (head ≡ 0 → ⊥) → Refused head ≡ perform s (lookupIn tree t k) .answer
+  lookup-refused some =
+      sym (ap answerIs (is-refused s (served s (lookupIn tree t k)) (by-head s (lookupIn tree t k) refl of-input of-head some) some))
 
-  module _ (none : early ≡ 0) where
-    pub lookup-head : HeadFacts s
-    lookup-head = fits-head s (neither (firstMet (lookupInput t k)) (firstMet (headGrounds s)) (sym is ∙ none) .1)
+  pub lookup-answered : head ≡ 0 → answerOf (foundIn s l) ≡ perform s (lookupIn tree t k) .answer
+  unfolding firstMet served
+  lookup-answered none = go (foundIn s l) refl
+    where
+      refused : {n : ℕ} → n ≡ firstMet (isSpoiled (foundIn s l) gives 26 ∷ []) → (n ≡ 0 → ⊥) → Refused n ≡ perform s (lookupIn tree t k) .answer
+      refused is some =
+          sym (ap answerIs
+          (is-refused s (served s (lookupIn tree t k)) (by-pages s (lookupIn tree t k) refl of-input of-head none {state = 0} refl refl is) some))
 
-    pub lookup-key : k < keyLimit
-    lookup-key = lookup-input-facts t k (neither (firstMet (lookupInput t k)) (firstMet (headGrounds s)) (sym is ∙ none) .0)
+      answered : 0 ≡ firstMet (isSpoiled (foundIn s l) gives 26 ∷ []) → served s (lookupIn tree t k) .answer ≡ perform s (lookupIn tree t k) .answer
+      answered is =
+          sym (ap answerIs
+          (is-done s (served s (lookupIn tree t k)) (by-pages s (lookupIn tree t k) refl of-input of-head none {state = 0} refl refl is) refl))
 
-    pub lookup-answered : (found : Lookup) → answerOf found ≡ lookupIn s found t k .answer
-    unfolding answered firstMet
-    lookup-answered Spoiled =
-        sym (ap (λ (a : Answered). a .answer)
-        (is-refused s (answered Spoiled) (by-second is none refl ∙ sym (lookup-parts s Spoiled t k)) 26-some))
-      where
-        26-some : _≡_ {A = ℕ} 26 0 → ⊥
-        26-some e = omega arith
-    lookup-answered (Found v pages) =
-        sym (ap (λ (a : Answered). a .answer)
-        (is-done s (answered (Found v pages)) (by-second is none refl ∙ sym (lookup-parts s (Found v pages) t k)) refl))
+      one : (v : Value) (pages : ℕ) → totals v pages ≡ totals v (pages + 0)
+      one v pages = ap (totals v) (omega arith)
+
+      go : (found : Lookup) → foundIn s l ≡ found → answerOf found ≡ perform s (lookupIn tree t k) .answer
+      go Spoiled e = refused (sym (ap (λ (x : Lookup). firstMet (isSpoiled x gives 26 ∷ [])) e)) (λ f. omega (arith, f))
+      go (Found v pages) e =
+          one v pages
+          ∙ sym (ap (λ (x : Lookup). totals (valueOf x) (pagesOf x + 0)) e)
+          ∙ answered (sym (ap (λ (x : Lookup). firstMet (isSpoiled x gives 26 ∷ [])) e))

@@ -9,7 +9,7 @@ use Rattle.tree.specs.Tree.{Tree}
 use Rattle.tree.specs.Lookup.{lookup}
 use Rattle.store.specs.declared.types.Answer.{Answer}
 use Rattle.store.specs.declared.types.Answer.the-variants.{Refused}
-use Rattle.store.specs.Reading.{totals}
+use Rattle.store.specs.Performing.{totals}
 
 -- One lookup less another: spoiled where one of them is; the pages of both were opened
 abbrev pub without : Lookup → Lookup → Lookup

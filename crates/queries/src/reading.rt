@@ -14,8 +14,11 @@ ghost use Prim.Native.Nat.{_*_, _≤_, _<_};
 ghost use lib.ListN.{length};
 ghost use Rattle.words.specs.Words.{keyLimit};
 ghost use Rattle.tree.specs.Row.{pageWords};
-ghost use Rattle.store.specs.Head.{storeOf};
-ghost use Rattle.store.specs.Reading.{pagesOf, askQuestion, lookUpStarts, lookUpEnds};
+ghost use Rattle.store.specs.declared.types.TreeName.the-variants.{Starts, Ends};
+ghost use Rattle.store.specs.Trees.{storeOf};
+ghost use Rattle.store.specs.Calls.{question, lookupIn};
+ghost use Rattle.store.specs.Reading.{pagesOf};
+ghost use Rattle.store.specs.Performing.{perform};
 ghost use Rattle.queries.specs.Bands.{without, inBand, answerOf};
 
 // A lookup's totals, or 26 where it met a spoiled page.
@@ -42,7 +45,7 @@ pub fn lookup_starts(
     t: u32,
     k: u32,
 ) -> Answer
-    ensures { λ r. ⌜ r ≡ lookUpStarts (storeOf head (now («start_table» .entry)) (now («start_roots» .entry)) (now («end_table» .entry)) (now («end_roots» .entry))) t k .answer ⌝ }
+    ensures { λ r. ⌜ r ≡ perform (storeOf head (now («start_table» .entry)) (now («start_roots» .entry)) (now («end_table» .entry)) (now («end_roots» .entry))) (lookupIn Starts t k) .answer ⌝ }
 {
     let input = lookup_input(t, k);
     let refusal = head_refusal(head, start_table, start_roots, end_table, end_roots, input);
@@ -63,7 +66,7 @@ pub fn lookup_ends(
     t: u32,
     k: u32,
 ) -> Answer
-    ensures { λ r. ⌜ r ≡ lookUpEnds (storeOf head (now («start_table» .entry)) (now («start_roots» .entry)) (now («end_table» .entry)) (now («end_roots» .entry))) t k .answer ⌝ }
+    ensures { λ r. ⌜ r ≡ perform (storeOf head (now («start_table» .entry)) (now («start_roots» .entry)) (now («end_table» .entry)) (now («end_roots» .entry))) (lookupIn Ends t k) .answer ⌝ }
 {
     let input = lookup_input(t, k);
     let refusal = head_refusal(head, start_table, start_roots, end_table, end_roots, input);
@@ -129,7 +132,7 @@ pub fn question(
     t1: u32,
     t2: u32,
 ) -> Answer
-    ensures { λ r. ⌜ r ≡ askQuestion (storeOf head (now («start_table» .entry)) (now («start_roots» .entry)) (now («end_table» .entry)) (now («end_roots» .entry))) k1 k2 t1 t2 .answer ⌝ }
+    ensures { λ r. ⌜ r ≡ perform (storeOf head (now («start_table» .entry)) (now («start_roots» .entry)) (now («end_table» .entry)) (now («end_roots» .entry))) (question k1 k2 t1 t2) .answer ⌝ }
 {
     let input = question_input(k1, k2, t1, t2);
     let refusal = head_refusal(head, start_table, start_roots, end_table, end_roots, input);

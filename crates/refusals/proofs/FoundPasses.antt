@@ -11,8 +11,7 @@ use Rattle.words.specs.Words.{keyLimit}
 use Rattle.store.specs.declared.types.OpenPass.{OpenPass}
 use Rattle.store.specs.declared.types.Head.{Head}
 use Rattle.store.specs.declared.types.FoundPass.the-variants.{Missing, At}
-use Rattle.store.specs.Head.{openPasses, passFits, passesFit}
-use Rattle.store.specs.Writing.{findPass, passOf}
+use Rattle.store.specs.Head.{openPasses, findPass, passOf, passFits, passesFit}
 
 pub record FoundFacts (count place : ℕ) (pass : OpenPass) : Type 0 where
   pub inside : place < count

@@ -3,8 +3,10 @@ use Prim.Native.Nat.{ℕ, zero, suc}
 use native.Mathlib.Omega.{arith}
 use mathlib.Core.Path.{_≡_, refl, ap, sym}
 use Rattle.store.specs.declared.types.Answer.the-variants.{Refused}
-use Rattle.store.specs.Head.{Store}
+use Rattle.store.specs.Trees.{Store}
 use Rattle.store.specs.Answers.{Answered, unlessRefused}
+use Rattle.store.specs.Calls.{Call}
+use Rattle.store.specs.Performing.{refusal, served, perform}
 
 abbrev pub refusedAs : Store → ℕ → Answered
 refusedAs s r = record { answer = Refused r; store = s }
@@ -23,3 +25,11 @@ module _ {r n : ℕ} (s : Store) (done : Answered) (is : r ≡ n) where
       go : (m : ℕ) → r ≡ m → unlessRefused m s done ≡ done
       go zero e = refl
       go (suc m) e = absurd (omega arith)
+
+-- The same of the definition of a call
+module _ {r : ℕ} (s : Store) (c : Call) (is : r ≡ refusal s c) where
+  pub call-refused : (r ≡ 0 → ⊥) → perform s c ≡ refusedAs s r
+  call-refused some = is-refused s (served s c) is some
+
+  pub call-served : r ≡ 0 → perform s c ≡ served s c
+  call-served none = is-done s (served s c) is none

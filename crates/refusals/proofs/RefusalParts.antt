@@ -1,81 +1,80 @@
--- The refusal lists of the definitions in the parts that the code tests one after the other: input and head, the rest, the entry of a point.
-use Prim.Native.Nat.{ℕ}
+-- The refusal of any call but opening, one law for each part that the code tests, and what it knows before the next part.
+use Prim.Native.Nat.{ℕ, zero, suc, _≤_}
 use native.Mathlib.Omega.{arith}
-use mathlib.Core.Path.{_≡_, refl, ap₂, _∙_}
+use mathlib.Core.Path.{_≡_, refl, ap, ap₂, sym, _∙_}
+use mathlib.Core.Bool.{Bool, false, _&&_, not}
 use mathlib.Core.List.{List, [], _∷_, _++_}
-use lib.Dec.{ltb}
-use Rattle.tree.specs.declared.types.Lookup.{Lookup}
-use Rattle.tree.specs.Plan.{plan}
-use Rattle.store.specs.declared.types.FoundPass.{FoundPass}
-use Rattle.store.specs.Head.{Store, startsTree, endsTree}
+use Rattle.store.specs.Trees.{Store}
+use Rattle.store.specs.Head.{headFits}
+use Rattle.store.specs.Calls.{Call, isOpening}
 use Rattle.store.specs.Refusals.{Ground, _gives_, firstMet}
-use Rattle.store.specs.Writing.{pointOf, entryGrounds, startRefusal, passOf, isMissing, startsAt, endPoint, endRefusal}
-use Rattle.store.specs.Reading.{isSpoiled, lookupRefusal, Four, fourSpoiled, questionRefusal}
-use Rattle.refusals.specs.Grounds.{earlier, startInput, endInput, questionInput, lookupInput, headGrounds, startState}
-use Rattle.refusals.proofs.Earlier.{earlier-both}
+use Rattle.store.specs.Grounds.{argumentGrounds, stateGrounds}
+use Rattle.store.specs.Writing.{lendsTooLittle}
+use Rattle.store.specs.Performing.{headKnows, opensOverTooLittle, headUnfit, pageGrounds, refusal}
+use Rattle.store.proofs.RefusalLaws.{first-skips}
+use Rattle.store.proofs.ArgumentFacts.{arguments-numbered, states-numbered}
+use Rattle.refusals.specs.Grounds.{earlier, headGrounds}
+use Rattle.refusals.proofs.Earlier.{earlier-both, by-first, by-second, neither}
+use Rattle.refusals.proofs.HeadFacts.{HeadFacts, fits-head}
 
--- End, after the head: the head's last tick, the tick, and where the pass was found
-abbrev pub endState : ℕ → ℕ → FoundPass → List Ground
-endState last tick found = ltb tick last gives 21 ∷ (isMissing found gives 22 ∷ (startsAt tick found gives 23 ∷ []))
+module _ (s : Store) (c : Call) (other : isOpening c ≡ false) where
+  abbrev pub headState : List Ground
+  headState = stateGrounds (headKnows (s .head) c) c
 
-module _ (s : Store) where
-  -- A refusal for the input, or 20
-  abbrev pub startEarly : ℕ → ℕ → ℕ → ℕ
-  startEarly tick key weight = earlier (firstMet (startInput tick key weight)) (firstMet (headGrounds s))
+  -- A refusal for the arguments, or 20
+  abbrev pub early : ℕ
+  early = earlier (firstMet (argumentGrounds c)) (firstMet (headGrounds s))
 
-  abbrev pub endEarly : ℕ → ℕ
-  endEarly tick = earlier (firstMet (endInput tick)) (firstMet (headGrounds s))
+  rest-parts : firstMet (headUnfit s c ∷ (headState ++ pageGrounds s c))
+      ≡ earlier (firstMet (headGrounds s)) (earlier (firstMet headState) (firstMet (pageGrounds s c)))
+  rest-parts =
+      ap (λ (b : Bool). firstMet ((not b && not (headFits s)) gives 20 ∷ (headState ++ pageGrounds s c))) other
+      ∙ earlier-both (headGrounds s) (headState ++ pageGrounds s c) (omega arith, tt)
+      ∙ ap (earlier (firstMet (headGrounds s))) (earlier-both headState (pageGrounds s c) (states-numbered (headKnows (s .head) c) c))
 
-  abbrev pub questionEarly : ℕ → ℕ → ℕ → ℕ → ℕ
-  questionEarly k1 k2 t1 t2 = earlier (firstMet (questionInput k1 k2 t1 t2)) (firstMet (headGrounds s))
+  regroup : (n m r : ℕ) → earlier n (earlier m r) ≡ earlier (earlier n m) r
+  regroup zero m r = refl
+  regroup (suc n) m r = refl
 
-  abbrev pub lookupEarly : ℕ → ℕ → ℕ
-  lookupEarly t k = earlier (firstMet (lookupInput t k)) (firstMet (headGrounds s))
+  pub refusal-parts : refusal s c ≡ earlier early (earlier (firstMet headState) (firstMet (pageGrounds s c)))
+  unfolding refusal
+  refusal-parts =
+      first-skips (argumentGrounds c) (headUnfit s c ∷ (headState ++ pageGrounds s c)) (opensOverTooLittle s c)
+      (ap (λ (b : Bool). b && lendsTooLittle (s .lent)) other)
+      ∙ earlier-both (argumentGrounds c) (headUnfit s c ∷ (headState ++ pageGrounds s c)) (arguments-numbered c)
+      ∙ ap (earlier (firstMet (argumentGrounds c))) rest-parts
+      ∙ regroup (firstMet (argumentGrounds c)) (firstMet (headGrounds s)) (earlier (firstMet headState) (firstMet (pageGrounds s c)))
 
-  -- The grounds of the head's numbers, and of the entry
-  abbrev pub startHead : ℕ → List Ground
-  startHead tick = startState (s .head .last) (s .head .count) (s .head .started) tick
+  -- What is known of a call that is not refused
+  pub none-of : refusal s c ≡ 0 → (firstMet (argumentGrounds c) ≡ 0) × HeadFacts s × (firstMet headState ≡ 0) × (firstMet (pageGrounds s c) ≡ 0)
+  none-of e =
+      let parts = neither early (earlier (firstMet headState) (firstMet (pageGrounds s c))) (sym refusal-parts ∙ e) in
+      let first = neither (firstMet (argumentGrounds c)) (firstMet (headGrounds s)) (parts .0) in
+      let last = neither (firstMet headState) (firstMet (pageGrounds s c)) (parts .1) in
+      (first .0, fits-head s (first .1), last .0, last .1)
 
-  abbrev pub startEntry : ℕ → ℕ → ℕ → List Ground
-  startEntry tick key weight = entryGrounds (startsTree s) (plan (startsTree s) (pointOf tick key weight))
+  -- What the code found: the refusal of the arguments, and then of the head
+  module _ {input head : ℕ} (of-input : input ≡ firstMet (argumentGrounds c)) (of-head : head ≡ earlier input (firstMet (headGrounds s))) where
+    is : head ≡ early
+    is = rw (← of-input) of-head
 
-  abbrev pub endHead : ℕ → FoundPass → List Ground
-  endHead tick found = endState (s .head .last) tick found
+    pub by-head : (head ≡ 0 → ⊥) → head ≡ refusal s c
+    by-head some = by-first _ is some ∙ sym refusal-parts
 
-  abbrev pub endEntry : ℕ → FoundPass → List Ground
-  endEntry tick found = entryGrounds (endsTree s) (plan (endsTree s) (endPoint tick found))
+    module _ (none : head ≡ 0) where
+      both : (firstMet (argumentGrounds c) ≡ 0) × (firstMet (headGrounds s) ≡ 0)
+      both = neither (firstMet (argumentGrounds c)) (firstMet (headGrounds s)) (sym is ∙ none)
 
-  pub start-parts : (tick key weight : ℕ)
-      → startRefusal s tick key weight ≡ earlier (startEarly tick key weight) (earlier (firstMet (startHead tick)) (firstMet (startEntry tick key weight)))
-  unfolding startRefusal
-  start-parts tick key weight =
-      let input = startInput tick key weight in
-      let rest = startHead tick ++ startEntry tick key weight in
-      earlier-both (input ++ headGrounds s) rest (omega arith, (omega arith, (omega arith, (omega arith, tt))))
-      ∙ ap₂ earlier (earlier-both input (headGrounds s) (omega arith, (omega arith, (omega arith, tt))))
-      (earlier-both (startHead tick) (startEntry tick key weight) (omega arith, (omega arith, (omega arith, tt))))
+      pub arguments-pass : firstMet (argumentGrounds c) ≡ 0
+      arguments-pass = both .0
 
-  pub end-parts : (tick number : ℕ)
-      → endRefusal s tick number
-      ≡ earlier (endEarly tick) (earlier (firstMet (endHead tick (passOf (s .head) number))) (firstMet (endEntry tick (passOf (s .head) number))))
-  unfolding endRefusal
-  end-parts tick number =
-      let found = passOf (s .head) number in
-      earlier-both (endInput tick ++ headGrounds s) (endHead tick found ++ endEntry tick found) (omega arith, (omega arith, tt))
-      ∙ ap₂ earlier (earlier-both (endInput tick) (headGrounds s) (omega arith, tt))
-      (earlier-both (endHead tick found) (endEntry tick found) (omega arith, (omega arith, (omega arith, tt))))
+      pub head-passes : HeadFacts s
+      head-passes = fits-head s (both .1)
 
-  pub question-parts : (q : Four) (k1 k2 t1 t2 : ℕ)
-      → questionRefusal s q k1 k2 t1 t2 ≡ earlier (questionEarly k1 k2 t1 t2) (firstMet (fourSpoiled q gives 26 ∷ []))
-  unfolding questionRefusal
-  question-parts q k1 k2 t1 t2 =
-      let input = questionInput k1 k2 t1 t2 in
-      earlier-both (input ++ headGrounds s) (fourSpoiled q gives 26 ∷ []) (omega arith, (omega arith, (omega arith, (omega arith, tt))))
-      ∙ ap₂ earlier (earlier-both input (headGrounds s) (omega arith, (omega arith, (omega arith, tt)))) refl
+      -- The refusal of what the head knows, and then of the pages
+      module _ {state : ℕ} (of-state : state ≡ firstMet headState) where
+        pub by-state : (state ≡ 0 → ⊥) → state ≡ refusal s c
+        by-state some = by-second is none (by-first _ of-state some) ∙ sym refusal-parts
 
-  pub lookup-parts : (found : Lookup) (t k : ℕ) → lookupRefusal s found t k ≡ earlier (lookupEarly t k) (firstMet (isSpoiled found gives 26 ∷ []))
-  unfolding lookupRefusal
-  lookup-parts found t k =
-      let input = lookupInput t k in
-      earlier-both (input ++ headGrounds s) (isSpoiled found gives 26 ∷ []) (omega arith, (omega arith, (omega arith, tt)))
-      ∙ ap₂ earlier (earlier-both input (headGrounds s) (omega arith, (omega arith, tt))) refl
+        pub by-pages : {pages : ℕ} → state ≡ 0 → pages ≡ firstMet (pageGrounds s c) → pages ≡ refusal s c
+        by-pages fine e = by-second is none (by-second of-state fine e) ∙ sym refusal-parts

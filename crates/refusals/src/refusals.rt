@@ -1,6 +1,7 @@
 // The refusal lists: the number of the first ground that is met, or 0. What a ground reads is looked at only where no earlier one is met,
 // since only then may it be trusted: the head after 20, the open passes and the trees after that. The plan, which opens pages, comes last.
 use crate::grounds::end_input;
+use crate::grounds::end_state;
 use crate::grounds::start_input;
 use crate::grounds::start_state;
 use head::find_pass;
@@ -16,14 +17,17 @@ ghost use mathlib.Core.List.{[], _∷_};
 ghost use lib.Dec.{leb};
 ghost use Prim.Native.Nat.{_≤_};
 ghost use Rattle.tree.specs.Tree.{wholePages, pagesLeft, pageLimit};
-ghost use Rattle.store.specs.Head.{lentOf, storeOf};
+ghost use Rattle.store.specs.Trees.{storeOf};
+ghost use Rattle.store.specs.declared.types.Head.{Head};
+ghost use Rattle.store.specs.Calls.{opening, start, end};
 ghost use Rattle.store.specs.Refusals.{_gives_, firstMet};
-ghost use Rattle.store.specs.Writing.{entryGrounds, tooSmall, openingRefusal, startRefusal, endRefusal};
-ghost use Rattle.refusals.specs.Grounds.{earlier, headGrounds};
+ghost use Rattle.store.specs.Writing.{tooSmall};
+ghost use Rattle.store.specs.Performing.{refusal};
+ghost use Rattle.refusals.specs.Grounds.{earlier, headGrounds, planGrounds};
 
 // Whether a table has no room for a page, or a list none for a root.
 fn too_small(table: &[u64], roots: &[u64]) -> bool
-    ensures { λ r. ⌜ r ≡ tooSmall (now (table .entry)) (now (roots .entry)) ⌝ }
+    ensures { λ r. ⌜ r ≡ tooSmall (record { table = now (table .entry); roots = now (roots .entry) }) ⌝ }
 {
     if table.len() < Page::WORDS {
         return true;
@@ -31,14 +35,14 @@ fn too_small(table: &[u64], roots: &[u64]) -> bool
     roots.len() < 1
 }
 
-// The refusal of an opening. Both trees are tested before either is written.
+// The refusal of an opening, which sees no head. Each tree is tested before one is written.
 pub fn opening_refusal(
     start_table: &[u64],
     start_roots: &[u64],
     end_table: &[u64],
     end_roots: &[u64],
 ) -> u8
-    ensures { λ r. ⌜ r ≡ openingRefusal (lentOf (now («start_table» .entry)) (now («start_roots» .entry)) (now («end_table» .entry)) (now («end_roots» .entry))) ⌝ }
+    ensures { λ r. ⌜ ((head : Head) → r ≡ refusal (storeOf head (now («start_table» .entry)) (now («start_roots» .entry)) (now («end_table» .entry)) (now («end_roots» .entry))) opening) ⌝ }
 {
     if too_small(start_table, start_roots) {
         return 8;
@@ -97,7 +101,7 @@ fn list_refusal(places: usize, used: u32) -> u8
 fn entry_refusal(table: &[u64], roots: &[u64], used: TreeUse, plan: Plan) -> u8
     requires { ⌜ used .pages ≤ wholePages (now table) ⌝ }
     requires { ⌜ used .pages ≤ pageLimit ⌝ }
-    ensures { λ r. ⌜ r ≡ firstMet (entryGrounds (record { table = now (table .entry); roots = now (roots .entry); used = used }) plan) ⌝ }
+    ensures { λ r. ⌜ r ≡ firstMet (planGrounds (record { table = now (table .entry); roots = now (roots .entry); used = used }) plan) ⌝ }
 {
     let Plan::Ready { made, root } = plan else {
         return 26;
@@ -123,7 +127,7 @@ pub fn start_refusal(
     key: u32,
     weight: u32,
 ) -> u8
-    ensures { λ r. ⌜ r ≡ startRefusal (storeOf head (now («start_table» .entry)) (now («start_roots» .entry)) (now («end_table» .entry)) (now («end_roots» .entry))) tick key weight ⌝ }
+    ensures { λ r. ⌜ r ≡ refusal (storeOf head (now («start_table» .entry)) (now («start_roots» .entry)) (now («end_table» .entry)) (now («end_roots» .entry))) (start tick key weight) ⌝ }
 {
     let input = start_input(tick, key, weight);
     let early = head_refusal(head, start_table, start_roots, end_table, end_roots, input);
@@ -149,23 +153,22 @@ pub fn end_refusal(
     tick: u32,
     number: u32,
 ) -> u8
-    ensures { λ r. ⌜ r ≡ endRefusal (storeOf head (now («start_table» .entry)) (now («start_roots» .entry)) (now («end_table» .entry)) (now («end_roots» .entry))) tick number ⌝ }
+    ensures { λ r. ⌜ r ≡ refusal (storeOf head (now («start_table» .entry)) (now («start_roots» .entry)) (now («end_table» .entry)) (now («end_roots» .entry))) (end tick number) ⌝ }
 {
     let input = end_input(tick);
     let early = head_refusal(head, start_table, start_roots, end_table, end_roots, input);
     if early != 0 {
         return early;
     }
-    if tick < head.last {
-        return 21;
-    }
     let found = find_pass(head, number);
+    let state = end_state(head.last, tick, found);
+    if state != 0 {
+        return state;
+    }
     let FoundPass::At { place: _, pass } = found else {
+        // 22 came for it
         return 22;
     };
-    if tick == pass.start {
-        return 23;
-    }
     let used = head.ends;
     let plan = plan::plan(end_table, end_roots, used, tick, pass.key as u16);
     entry_refusal(end_table, end_roots, used, plan)

@@ -67,7 +67,7 @@ placed t (Ready made Added) e h = omega (arith, h .1, leb-false (length (t .root
 placed t (Ready made Replaced) e h = replaced-not-added (h .0)
 
 -- A plan that is ready and meets neither has room
-room-for : (t : Tree) (x : Point) (made : ℕ) (root : RootChange) → plan t x ≡ Ready made root
+pub room-for : (t : Tree) (x : Point) (made : ℕ) (root : RootChange) → plan t x ≡ Ready made root
     → lacksPages t (plan t x) ≡ false → lacksRoot t (plan t x) ≡ false → Room t x
 room-for t x made root is pages place =
     record {

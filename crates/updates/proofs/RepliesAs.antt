@@ -2,7 +2,7 @@
 use Prim.Native.Nat.{ℕ}
 use mathlib.Core.Path.{_≡_, refl, ap, sym, subst}
 use mathlib.Core.List.{List}
-use Rattle.store.specs.Head.{Store}
+use Rattle.store.specs.Trees.{Store}
 use Rattle.store.specs.Answers.{Answered}
 use Rattle.updates.specs.declared.types.Reply.{Reply}
 use Rattle.updates.specs.Replies.{refusedReply, RepliedAs}
@@ -14,7 +14,7 @@ replied {r = r} {startTable = st} {startRoots = sr} {endTable = et} {endRoots = 
 
 -- Refused, with the head and every lent word as before
 pub refused-reply : (s : Store) (n : ℕ) {r : Reply} → r ≡ refusedReply n (s .head)
-    → RepliedAs (refusedAs s n) r (s .lent .startTable) (s .lent .startRoots) (s .lent .endTable) (s .lent .endRoots)
+    → RepliedAs (refusedAs s n) r (s .lent .starts .table) (s .lent .starts .roots) (s .lent .ends .table) (s .lent .ends .roots)
 refused-reply s n e =
     record {
       answer = ap (λ (x : Reply). x .answer) e;

@@ -15,7 +15,7 @@ refusedReply number head = record { answer = Refused number; head = head }
 pub record RepliedAs (a : Answered) (r : Reply) (startTable startRoots endTable endRoots : List ℕ) : Type 0 where
   pub answer : r .answer ≡ a .answer
   pub head : r .head ≡ a .store .head
-  pub start-table : startTable ≡ a .store .lent .startTable
-  pub start-roots : startRoots ≡ a .store .lent .startRoots
-  pub end-table : endTable ≡ a .store .lent .endTable
-  pub end-roots : endRoots ≡ a .store .lent .endRoots
+  pub start-table : startTable ≡ a .store .lent .starts .table
+  pub start-roots : startRoots ≡ a .store .lent .starts .roots
+  pub end-table : endTable ≡ a .store .lent .ends .table
+  pub end-roots : endRoots ≡ a .store .lent .ends .roots

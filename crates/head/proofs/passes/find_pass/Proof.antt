@@ -4,8 +4,7 @@ use lib.ListN.{length}
 use lib.Seq.{slice}
 use native.Mathlib.Omega.{arith}
 use Rattle.tree.proofs.Lists.{length-mapped}
-use Rattle.store.specs.Head.{openLimit, noPass}
-use Rattle.store.specs.Writing.{findPass, passOf}
+use Rattle.store.specs.Head.{openLimit, noPass, findPass, passOf}
 use Rattle.head.proofs.FindLaws.{find-here, find-next, find-none}
 use borrow.Author.Needs.{needs}
 use Rattle.head.proofs.passes.find_pass.Statement.{statement}

@@ -1,10 +1,13 @@
 use native.Mathlib.Omega.{arith}
-use mathlib.Core.Path.{ap, _∙_}
-use Rattle.tree.specs.Lookup.{lookup}
-use Rattle.store.specs.Head.{Store, startsTree, storeOf}
-use Rattle.store.specs.Reading.{lookUpStarts}
+use mathlib.Core.Path.{refl, ap, _∙_}
+use Rattle.store.specs.declared.types.TreeName.the-variants.{Starts}
+use Rattle.store.specs.Trees.{Store, storeOf}
+use Rattle.store.specs.Calls.{lookupIn}
+use Rattle.store.proofs.ArgumentFacts.{lookup-bounds}
+use Rattle.refusals.proofs.HeadFacts.{use-words}
+use Rattle.refusals.proofs.RefusalParts.{arguments-pass, head-passes}
 use Rattle.queries.specs.Bands.{answerOf}
-use Rattle.queries.proofs.LookupAnswers.{lookup-refused, lookup-head, lookup-key, lookup-answered}
+use Rattle.queries.proofs.LookupAnswers.{lookup-refused, lookup-answered}
 use borrow.Author.Needs.{needs}
 use Rattle.queries.proofs.reading.lookup_starts.Statement.{statement}
 use Rattle.queries.proofs.reading.lookup_starts.Tie as tie
@@ -16,40 +19,38 @@ head-refusal-requires : tie.Need-head-refusal-requires
 head-refusal-requires c κs = search needs
 
 returns : tie.Need-returns
-unfolding lookUpStarts
 returns c =
     let h = c .before in
     let a = h .before .before .before .before .before .before .args in
     let s : Store = storeOf (a .head) (a .start-table .now) (a .start-roots .now) (a .end-table .now) (a .end-roots .now) in
-    lookup-refused s (a .t) (a .k) (h .before .lookup-input .ensures) (h .head-refusal .ensures) (lookup (startsTree s) (a .t) (a .k)) (c .if1 .taken)
+    lookup-refused s Starts (a .t) (a .k) (h .before .lookup-input .ensures) (h .head-refusal .ensures) (c .if1 .taken)
 
 cast-lookup : tie.Need-cast-lookup
 cast-lookup c =
     let h = c .before .before in
     let a = h .before .before .before .before .before .before .args in
     let s : Store = storeOf (a .head) (a .start-table .now) (a .start-roots .now) (a .end-table .now) (a .end-roots .now) in
-    omega (arith, lookup-key s (a .t) (a .k) (h .before .lookup-input .ensures) (h .head-refusal .ensures) (c .before .if1 .left))
+    omega (arith, lookup-bounds Starts (a .t) (a .k) (omega (arith, h .before .before .before .before .before .before .fits .t .fits)) (arguments-pass s (lookupIn Starts (a .t) (a .k)) refl (h .before .lookup-input .ensures) (h .head-refusal .ensures) (c .before .if1 .left)) .key)
 
 lookup-requires : tie.Need-lookup-requires
 lookup-requires c κs =
     let h = c .before .before in
     let a = h .before .before .before .before .before .before .args in
     let s : Store = storeOf (a .head) (a .start-table .now) (a .start-roots .now) (a .end-table .now) (a .end-roots .now) in
-    let fit = lookup-head s (a .t) (a .k) (h .before .lookup-input .ensures) (h .head-refusal .ensures) (c .before .if1 .left) .starts in
-    (fit .words, fit .listed)
+    let fit = head-passes s (lookupIn Starts (a .t) (a .k)) refl (h .before .lookup-input .ensures) (h .head-refusal .ensures) (c .before .if1 .left) .trees Starts in
+    (use-words fit, fit .roots-listed)
 
 answer-of-requires : tie.Need-answer-of-requires
 answer-of-requires c κs = search needs
 
 returns-2 : tie.Need-returns-2
-unfolding lookUpStarts
 returns-2 c =
     let h = c .before .before .before .before in
     let a = h .before .before .before .before .before .before .args in
     let s : Store = storeOf (a .head) (a .start-table .now) (a .start-roots .now) (a .end-table .now) (a .end-roots .now) in
     c .answer-of .ensures
     ∙ ap answerOf (c .before .lookup .ensures)
-    ∙ lookup-answered s (a .t) (a .k) (h .before .lookup-input .ensures) (h .head-refusal .ensures) (c .before .before .before .if1 .left) (lookup (startsTree s) (a .t) (a .k))
+    ∙ lookup-answered s Starts (a .t) (a .k) (h .before .lookup-input .ensures) (h .head-refusal .ensures) (c .before .before .before .if1 .left)
 
 pub lookup-starts-spec : {M : Type 1} → statement M
 lookup-starts-spec =

@@ -1,10 +1,15 @@
 use Prim.Native.Nat.{_-_}
 use native.Mathlib.Omega.{arith}
-use mathlib.Core.Path.{ap, ap₂, _∙_}
-use Rattle.store.specs.Head.{Store, startsTree, endsTree, storeOf}
+use mathlib.Core.Path.{refl, ap, ap₂, _∙_}
+use Rattle.store.specs.declared.types.TreeName.the-variants.{Starts, Ends}
+use Rattle.store.specs.Trees.{Store, treeIn, storeOf}
+use Rattle.store.specs.Calls.{question}
+use Rattle.store.proofs.ArgumentFacts.{asked}
+use Rattle.refusals.proofs.HeadFacts.{use-words}
+use Rattle.refusals.proofs.RefusalParts.{arguments-pass, head-passes}
 use Rattle.queries.specs.Bands.{without, answerOf}
 use Rattle.queries.proofs.BandLaws.{band-few}
-use Rattle.queries.proofs.QuestionAnswers.{question-refused, question-head, question-band, question-answered}
+use Rattle.queries.proofs.QuestionAnswers.{question-refused, question-answered}
 use borrow.Author.Needs.{needs}
 use Rattle.queries.proofs.reading.question.Statement.{statement}
 use Rattle.queries.proofs.reading.question.Tie as tie
@@ -27,7 +32,7 @@ sub-lookup-band c =
     let h = c .before .before in
     let a = h .before .before .before .before .before .before .args in
     let s : Store = storeOf (a .head) (a .start-table .now) (a .start-roots .now) (a .end-table .now) (a .end-roots .now) in
-    let band = question-band s (a .k1) (a .k2) (a .t1) (a .t2) (h .before .question-input .ensures) (h .head-refusal .ensures) (c .before .if1 .left) in
+    let band = asked (a .k1) (a .k2) (a .t1) (a .t2) (arguments-pass s (question (a .k1) (a .k2) (a .t1) (a .t2)) refl (h .before .question-input .ensures) (h .head-refusal .ensures) (c .before .if1 .left)) in
     omega (arith, band .ticks)
 
 lookup-band-requires : tie.Need-lookup-band-requires
@@ -35,24 +40,24 @@ lookup-band-requires c κs =
     let h = c .before .before in
     let a = h .before .before .before .before .before .before .args in
     let s : Store = storeOf (a .head) (a .start-table .now) (a .start-roots .now) (a .end-table .now) (a .end-roots .now) in
-    let fit = question-head s (a .k1) (a .k2) (a .t1) (a .t2) (h .before .question-input .ensures) (h .head-refusal .ensures) (c .before .if1 .left) .starts in
-    let band = question-band s (a .k1) (a .k2) (a .t1) (a .t2) (h .before .question-input .ensures) (h .head-refusal .ensures) (c .before .if1 .left) in
-    (fit .words, (fit .listed, (band .keys, band .high)))
+    let fit = head-passes s (question (a .k1) (a .k2) (a .t1) (a .t2)) refl (h .before .question-input .ensures) (h .head-refusal .ensures) (c .before .if1 .left) .trees Starts in
+    let band = asked (a .k1) (a .k2) (a .t1) (a .t2) (arguments-pass s (question (a .k1) (a .k2) (a .t1) (a .t2)) refl (h .before .question-input .ensures) (h .head-refusal .ensures) (c .before .if1 .left)) in
+    (use-words fit, (fit .roots-listed, (band .band, band .high)))
 
 lookup-band-requires-2 : tie.Need-lookup-band-requires-2
 lookup-band-requires-2 c κs =
     let h = c .before .before .before .before in
     let a = h .before .before .before .before .before .before .args in
     let s : Store = storeOf (a .head) (a .start-table .now) (a .start-roots .now) (a .end-table .now) (a .end-roots .now) in
-    let fit = question-head s (a .k1) (a .k2) (a .t1) (a .t2) (h .before .question-input .ensures) (h .head-refusal .ensures) (c .before .before .before .if1 .left) .ends in
-    let band = question-band s (a .k1) (a .k2) (a .t1) (a .t2) (h .before .question-input .ensures) (h .head-refusal .ensures) (c .before .before .before .if1 .left) in
-    (fit .words, (fit .listed, (band .keys, band .high)))
+    let fit = head-passes s (question (a .k1) (a .k2) (a .t1) (a .t2)) refl (h .before .question-input .ensures) (h .head-refusal .ensures) (c .before .before .before .if1 .left) .trees Ends in
+    let band = asked (a .k1) (a .k2) (a .t1) (a .t2) (arguments-pass s (question (a .k1) (a .k2) (a .t1) (a .t2)) refl (h .before .question-input .ensures) (h .head-refusal .ensures) (c .before .before .before .if1 .left)) in
+    (use-words fit, (fit .roots-listed, (band .band, band .high)))
 
 without-requires : tie.Need-without-requires
 without-requires c κs =
     let a = c .before .before .before .before .before .before .before .before .before .before .before .args in
     let s : Store = storeOf (a .head) (a .start-table .now) (a .start-roots .now) (a .end-table .now) (a .end-roots .now) in
-    (band-few (startsTree s) (a .t2 - 1) (a .k1) (a .k2) (c .before .before .lookup-band .ensures), band-few (endsTree s) (a .t1) (a .k1) (a .k2) (c .lookup-band2 .ensures))
+    (band-few (treeIn s Starts) (a .t2 - 1) (a .k1) (a .k2) (c .before .before .lookup-band .ensures), band-few (treeIn s Ends) (a .t1) (a .k1) (a .k2) (c .lookup-band2 .ensures))
 
 answer-of-requires : tie.Need-answer-of-requires
 answer-of-requires c κs = search needs

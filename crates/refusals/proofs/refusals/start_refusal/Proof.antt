@@ -1,10 +1,14 @@
 use native.Mathlib.Omega.{arith}
-use mathlib.Core.Path.{ap, _∙_}
+use mathlib.Core.Path.{refl, ap, _∙_}
 use Rattle.tree.specs.declared.types.Plan.{Plan}
+use Rattle.store.specs.declared.types.TreeName.the-variants.{Starts}
+use Rattle.store.specs.Trees.{Store, treeIn, storeOf}
+use Rattle.store.specs.Calls.{start}
 use Rattle.store.specs.Refusals.{firstMet}
-use Rattle.store.specs.Head.{Store, startsTree, storeOf}
-use Rattle.store.specs.Writing.{entryGrounds}
-use Rattle.refusals.proofs.StartParts.{start-early, start-head, start-point, start-state, start-entry}
+use Rattle.store.proofs.ArgumentFacts.{start-arguments}
+use Rattle.refusals.specs.Grounds.{planGrounds}
+use Rattle.refusals.proofs.HeadFacts.{use-words}
+use Rattle.refusals.proofs.RefusalParts.{by-head, arguments-pass, head-passes, by-state, by-pages}
 use borrow.Author.Needs.{needs}
 use Rattle.refusals.proofs.refusals.start_refusal.Statement.{statement}
 use Rattle.refusals.proofs.refusals.start_refusal.Tie as tie
@@ -20,7 +24,7 @@ returns c =
     let h = c .before in
     let a = h .before .before .before .before .before .before .args in
     let s : Store = storeOf (a .head) (a .start-table .now) (a .start-roots .now) (a .end-table .now) (a .end-roots .now) in
-    start-early s (a .tick) (a .key) (a .weight) (h .before .start-input .ensures) (h .head-refusal .ensures) (c .if1 .taken)
+    by-head s (start (a .tick) (a .key) (a .weight)) refl (h .before .start-input .ensures) (h .head-refusal .ensures) (c .if1 .taken)
 
 start-state-requires : tie.Need-start-state-requires
 start-state-requires c κs = search needs
@@ -30,14 +34,14 @@ returns-2 c =
     let h = c .before .before .before in
     let a = h .before .before .before .before .before .before .args in
     let s : Store = storeOf (a .head) (a .start-table .now) (a .start-roots .now) (a .end-table .now) (a .end-roots .now) in
-    start-state s (a .tick) (a .key) (a .weight) (h .before .start-input .ensures) (h .head-refusal .ensures) (c .before .before .if1 .left) (c .before .start-state .ensures) (c .if2 .taken)
+    by-state s (start (a .tick) (a .key) (a .weight)) refl (h .before .start-input .ensures) (h .head-refusal .ensures) (c .before .before .if1 .left) (c .before .start-state .ensures) (c .if2 .taken)
 
 cast-plan : tie.Need-cast-plan
 cast-plan c =
     let h = c .before .before .before .before in
     let a = h .before .before .before .before .before .before .args in
     let s : Store = storeOf (a .head) (a .start-table .now) (a .start-roots .now) (a .end-table .now) (a .end-roots .now) in
-    let point = start-point s (a .tick) (a .key) (a .weight) (h .before .start-input .ensures) (h .head-refusal .ensures) (c .before .before .before .if1 .left) (omega (arith, h .before .before .before .before .before .before .fits .tick .fits)) in
+    let point = start-arguments (a .tick) (a .key) (a .weight) (omega (arith, h .before .before .before .before .before .before .fits .tick .fits)) (arguments-pass s (start (a .tick) (a .key) (a .weight)) refl (h .before .start-input .ensures) (h .head-refusal .ensures) (c .before .before .before .if1 .left)) .bounds in
     omega (arith, point .key)
 
 plan-requires : tie.Need-plan-requires
@@ -45,17 +49,17 @@ plan-requires c κs =
     let h = c .before .before .before .before in
     let a = h .before .before .before .before .before .before .args in
     let s : Store = storeOf (a .head) (a .start-table .now) (a .start-roots .now) (a .end-table .now) (a .end-roots .now) in
-    let fit = start-head s (a .tick) (a .key) (a .weight) (h .before .start-input .ensures) (h .head-refusal .ensures) (c .before .before .before .if1 .left) .starts in
-    let point = start-point s (a .tick) (a .key) (a .weight) (h .before .start-input .ensures) (h .head-refusal .ensures) (c .before .before .before .if1 .left) (omega (arith, h .before .before .before .before .before .before .fits .tick .fits)) in
-    (fit .words, (fit .listed, point .tick))
+    let fit = head-passes s (start (a .tick) (a .key) (a .weight)) refl (h .before .start-input .ensures) (h .head-refusal .ensures) (c .before .before .before .if1 .left) .trees Starts in
+    let point = start-arguments (a .tick) (a .key) (a .weight) (omega (arith, h .before .before .before .before .before .before .fits .tick .fits)) (arguments-pass s (start (a .tick) (a .key) (a .weight)) refl (h .before .start-input .ensures) (h .head-refusal .ensures) (c .before .before .before .if1 .left)) .bounds in
+    (use-words fit, (fit .roots-listed, point .tick))
 
 entry-refusal-requires : tie.Need-entry-refusal-requires
 entry-refusal-requires c κs =
     let h = c .before .before .before .before .before in
     let a = h .before .before .before .before .before .before .args in
     let s : Store = storeOf (a .head) (a .start-table .now) (a .start-roots .now) (a .end-table .now) (a .end-roots .now) in
-    let fit = start-head s (a .tick) (a .key) (a .weight) (h .before .start-input .ensures) (h .head-refusal .ensures) (c .before .before .before .before .if1 .left) .starts in
-    (fit .whole, fit .limit)
+    let fit = head-passes s (start (a .tick) (a .key) (a .weight)) refl (h .before .start-input .ensures) (h .head-refusal .ensures) (c .before .before .before .before .if1 .left) .trees Starts in
+    (fit .pages-held, fit .pages-limit)
 
 returns-3 : tie.Need-returns-3
 returns-3 c =
@@ -63,8 +67,8 @@ returns-3 c =
     let a = h .before .before .before .before .before .before .args in
     let s : Store = storeOf (a .head) (a .start-table .now) (a .start-roots .now) (a .end-table .now) (a .end-roots .now) in
     let planned = c .before .plan .ensures (record { count = 1; sum = a .weight }) in
-    start-entry s (a .tick) (a .key) (a .weight) (h .before .start-input .ensures) (h .head-refusal .ensures) (c .before .before .before .before .before .if1 .left) (c .before .before .before .before .start-state .ensures) (c .before .before .before .if2 .left)
-    (c .entry-refusal .ensures ∙ ap (λ (p : Plan). firstMet (entryGrounds (startsTree s) p)) planned)
+    by-pages s (start (a .tick) (a .key) (a .weight)) refl (h .before .start-input .ensures) (h .head-refusal .ensures) (c .before .before .before .before .before .if1 .left) (c .before .before .before .before .start-state .ensures) (c .before .before .before .if2 .left)
+    (c .entry-refusal .ensures ∙ ap (λ (p : Plan). firstMet (planGrounds (treeIn s Starts) p)) planned)
 
 pub start-refusal-spec : {M : Type 1} → statement M
 start-refusal-spec =

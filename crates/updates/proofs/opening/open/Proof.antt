@@ -1,8 +1,11 @@
 use mathlib.Core.Path.{refl, sym, _∙_}
-use Rattle.store.specs.Head.{Store, storeOf}
-use Rattle.store.proofs.OpeningTurns.{takes}
+use Rattle.store.specs.declared.types.TreeName.the-variants.{Starts, Ends}
+use Rattle.store.specs.Trees.{Store, storeOf}
+use Rattle.store.specs.Calls.{opening}
+use Rattle.store.specs.Performing.{served}
+use Rattle.store.proofs.OpeningReady.{takes-enough, each-enough}
+use Rattle.refusals.proofs.Outcomes.{call-refused, call-served}
 use Rattle.updates.proofs.RepliesAs.{replied, refused-reply}
-use Rattle.updates.proofs.OpeningReplies.{opening-refused, opening-done}
 use borrow.Author.Needs.{needs}
 use Rattle.updates.proofs.opening.open.Statement.{statement}
 use Rattle.updates.proofs.opening.open.Tie as tie
@@ -29,20 +32,20 @@ returns : tie.Need-returns
 returns c =
     let a = c .before .before .before .before .before .before .before .before .before .before .before .args in
     let s : Store = storeOf (a .head) (a .start-table .now) (a .start-roots .now) (a .end-table .now) (a .end-roots .now) in
-    replied (opening-refused s (c .before .before .opening-refusal .ensures) (c .before .if1 .taken)) (refused-reply s (c .before .before .opening-refusal .result) (c .refused .ensures))
+    replied (call-refused s opening (c .before .before .opening-refusal .ensures (a .head)) (c .before .if1 .taken)) (refused-reply s (c .before .before .opening-refusal .result) (c .refused .ensures))
 
 open-tree-requires : tie.Need-open-tree-requires
 open-tree-requires c κs =
     let a = c .before .before .before .before .before .before .before .before .before .before .before .before .args in
     let s : Store = storeOf (a .head) (a .start-table .now) (a .start-roots .now) (a .end-table .now) (a .end-roots .now) in
-    let enough = takes (s .lent) (sym (c .before .before .before .opening-refusal .ensures) ∙ c .before .before .if1 .left) .0 in
+    let enough = each-enough (s .lent) (takes-enough s (sym (c .before .before .before .opening-refusal .ensures (a .head)) ∙ c .before .before .if1 .left)) Starts in
     (enough .page, enough .root)
 
 open-tree-requires-2 : tie.Need-open-tree-requires-2
 open-tree-requires-2 c κs =
     let a = c .before .before .before .before .before .before .before .before .before .before .before .before .before .before .before .before .before .before .before .args in
     let s : Store = storeOf (a .head) (a .start-table .now) (a .start-roots .now) (a .end-table .now) (a .end-roots .now) in
-    let enough = takes (s .lent) (sym (c .before .before .before .before .before .before .before .before .before .before .opening-refusal .ensures) ∙ c .before .before .before .before .before .before .before .before .before .if1 .left) .1 in
+    let enough = each-enough (s .lent) (takes-enough s (sym (c .before .before .before .before .before .before .before .before .before .before .opening-refusal .ensures (a .head)) ∙ c .before .before .before .before .before .before .before .before .before .if1 .left)) Ends in
     (enough .page, enough .root)
 
 opened-head-requires : tie.Need-opened-head-requires
@@ -61,12 +64,13 @@ same-length-8 : tie.Need-same-length-8
 same-length-8 c = search needs
 
 returns-2 : tie.Need-returns-2
+unfolding served
 returns-2 c =
     let a = c .before .before .before .before .before .before .before .before .before .before .before .before .before .before .before .before .before .before .before .before .before .before .before .before .before .args in
     let s : Store = storeOf (a .head) (a .start-table .now) (a .start-roots .now) (a .end-table .now) (a .end-roots .now) in
     let starts = c .before .before .before .before .before .before .before .before .before .before .before .before .open-tree .ensures in
     let ends = c .before .before .before .before .before .open-tree2 .ensures in
-    replied (opening-done s (c .before .before .before .before .before .before .before .before .before .before .before .before .before .before .before .before .opening-refusal .ensures) (c .before .before .before .before .before .before .before .before .before .before .before .before .before .before .before .if1 .left))
+    replied (call-served s opening (c .before .before .before .before .before .before .before .before .before .before .before .before .before .before .before .before .opening-refusal .ensures (a .head)) (c .before .before .before .before .before .before .before .before .before .before .before .before .before .before .before .if1 .left))
     (record {
       answer = refl;
       head = c .opened-head .ensures;

@@ -2,10 +2,13 @@ use native.Mathlib.Omega.{arith}
 use mathlib.Core.Path.{refl, ap, sym, _∙_}
 use Rattle.tree.specs.declared.types.TreeUse.{TreeUse}
 use Rattle.store.specs.declared.types.FoundPass.the-variants.{At}
-use Rattle.store.specs.Head.{Store, storeOf}
+use Rattle.store.specs.declared.types.TreeName.the-variants.{Ends}
+use Rattle.store.specs.Trees.{Store, storeOf, withUse}
+use Rattle.store.specs.Calls.{end}
 use Rattle.store.specs.Writing.{endedHead}
+use Rattle.refusals.proofs.Outcomes.{call-refused, call-served}
 use Rattle.updates.proofs.RepliesAs.{replied, refused-reply}
-use Rattle.updates.proofs.EndReplies.{end-accepted, end-refused, end-done}
+use Rattle.updates.proofs.EndReplies.{end-accepted, served-end}
 use borrow.Author.Needs.{needs}
 use Rattle.updates.proofs.writing.end.Statement.{statement}
 use Rattle.updates.proofs.writing.end.Tie as tie
@@ -27,7 +30,7 @@ returns c =
     let n = c .before .before in
     let a = n .before .before .before .before .before .before .before .args in
     let s : Store = storeOf (a .head) (a .start-table .now) (a .start-roots .now) (a .end-table .now) (a .end-roots .now) in
-    replied (end-refused s (a .tick) (a .number) (n .end-refusal .ensures) (c .before .if1 .taken)) (refused-reply s (n .end-refusal .result) (c .refused .ensures))
+    replied (call-refused s (end (a .tick) (a .number)) (n .end-refusal .ensures) (c .before .if1 .taken)) (refused-reply s (n .end-refusal .result) (c .refused .ensures))
 
 find-pass-requires : tie.Need-find-pass-requires
 find-pass-requires c κs =
@@ -104,10 +107,10 @@ returns-3 c =
     let place = f .found .given .0 .0 in
     let pass = f .found .given .0 .1 .0 in
     let entered = rw (c .before .before .before .before .before .before .before .before .before .before .one-pass .ensures) at (c .before .before .before .before .before .enter .ensures) in
-    replied (end-done s (a .tick) (a .number) (n .end-refusal .ensures) (f .before .before .before .if1 .left) (sym (f .before .before .find-pass .ensures) ∙ f .found .given .1))
+    replied (call-served s (end (a .tick) (a .number)) (n .end-refusal .ensures) (f .before .before .before .if1 .left) ∙ served-end s (a .tick) (a .number) (sym (f .before .before .find-pass .ensures) ∙ f .found .given .1))
     (record {
       answer = refl;
-      head = c .ended-head .ensures pass ∙ ap (λ (used : TreeUse). endedHead (a .head) used (a .tick) (At place pass)) (entered .use-is);
+      head = c .ended-head .ensures pass ∙ ap (λ (used : TreeUse). endedHead (withUse (a .head) Ends used) (a .tick) (At place pass)) (entered .use-is);
       start-table = refl;
       start-roots = refl;
       end-table = entered .table-is;

@@ -1,10 +1,14 @@
 use native.Mathlib.Omega.{arith}
 use mathlib.Core.Path.{refl, ap, sym, _∙_}
 use Rattle.tree.specs.declared.types.TreeUse.{TreeUse}
-use Rattle.store.specs.Head.{Store, storeOf}
+use Rattle.store.specs.declared.types.TreeName.the-variants.{Starts}
+use Rattle.store.specs.Trees.{Store, storeOf, withUse}
+use Rattle.store.specs.Calls.{start}
 use Rattle.store.specs.Writing.{startedHead}
+use Rattle.store.specs.Performing.{served}
+use Rattle.refusals.proofs.Outcomes.{call-refused, call-served}
 use Rattle.updates.proofs.RepliesAs.{replied, refused-reply}
-use Rattle.updates.proofs.StartReplies.{start-accepted, start-refused, start-done}
+use Rattle.updates.proofs.StartReplies.{start-accepted}
 use borrow.Author.Needs.{needs}
 use Rattle.updates.proofs.writing.start.Statement.{statement}
 use Rattle.updates.proofs.writing.start.Tie as tie
@@ -26,7 +30,7 @@ returns c =
     let n = c .before .before in
     let a = n .before .before .before .before .before .before .before .args in
     let s : Store = storeOf (a .head) (a .start-table .now) (a .start-roots .now) (a .end-table .now) (a .end-roots .now) in
-    replied (start-refused s (a .tick) (a .key) (a .weight) (n .start-refusal .ensures) (c .before .if1 .taken)) (refused-reply s (n .start-refusal .result) (c .refused .ensures))
+    replied (call-refused s (start (a .tick) (a .key) (a .weight)) (n .start-refusal .ensures) (c .before .if1 .taken)) (refused-reply s (n .start-refusal .result) (c .refused .ensures))
 
 one-pass-requires : tie.Need-one-pass-requires
 one-pass-requires c κs = search needs
@@ -63,15 +67,16 @@ same-length-4 : tie.Need-same-length-4
 same-length-4 c = search needs
 
 returns-2 : tie.Need-returns-2
+unfolding served
 returns-2 c =
     let n = c .before .before .before .before .before .before .before .before .before .before .before in
     let a = n .before .before .before .before .before .before .before .args in
     let s : Store = storeOf (a .head) (a .start-table .now) (a .start-roots .now) (a .end-table .now) (a .end-roots .now) in
     let entered = rw (c .before .before .before .before .before .before .before .before .before .one-pass .ensures) at (c .before .before .before .before .before .enter .ensures) in
-    replied (start-done s (a .tick) (a .key) (a .weight) (n .start-refusal .ensures) (c .before .before .before .before .before .before .before .before .before .before .if1 .left))
+    replied (call-served s (start (a .tick) (a .key) (a .weight)) (n .start-refusal .ensures) (c .before .before .before .before .before .before .before .before .before .before .if1 .left))
     (record {
       answer = refl;
-      head = c .started-head .ensures ∙ ap (λ (used : TreeUse). startedHead (a .head) used (a .tick) (a .key) (a .weight)) (entered .use-is);
+      head = c .started-head .ensures ∙ ap (λ (used : TreeUse). startedHead (withUse (a .head) Starts used) (a .tick) (a .key) (a .weight)) (entered .use-is);
       start-table = entered .table-is;
       start-roots = entered .roots-are;
       end-table = refl;
