@@ -10,8 +10,9 @@ use lib.Dec.{ltb, eqb}
 use lib.Seq.{take-take}
 use native.Mathlib.Decide.{decLe}
 use borrow.Author.Tests.{lt-ltb, le-ltb}
-use Rattle.store.specs.Head.{Store}
-use Rattle.store.specs.Calls.{Call, start, end, question, perform}
+use Rattle.store.specs.Trees.{Store}
+use Rattle.store.specs.Calls.{Call, start, end, question}
+use Rattle.store.specs.Performing.{perform}
 use Rattle.command.specs.Bytes.{numberOf, operand}
 use Rattle.command.specs.Stream.{Kind, unknown, command, startCommand, endCommand, questionCommand, kindOf, operandBytes, cutShort, Ran, stops, answers, runKind, runOne, thenRest, runFor}
 

@@ -7,10 +7,11 @@ use lib.Dec.{ltb, eqb}
 use Rattle.tree.specs.Row.{pageWords}
 use Rattle.store.specs.declared.types.Answer.{Answer}
 use Rattle.store.specs.declared.types.Answer.the-variants.{Refused, Opened, Started, Ended, Totals}
-use Rattle.store.specs.Head.{Lent, Store, openedHead}
+use Rattle.store.specs.Trees.{LentTree, Lent, Store}
+use Rattle.store.specs.Head.{openedHead}
 use Rattle.store.specs.Answers.{Answered}
-use Rattle.store.specs.Writing.{openStore}
-use Rattle.store.specs.Calls.{Call, start, end, question, perform}
+use Rattle.store.specs.Calls.{Call, opening, start, end, question}
+use Rattle.store.specs.Performing.{perform}
 use Rattle.command.specs.Bytes.{bytesOf, operand}
 
 -- A command byte and how many operand bytes follow it
@@ -88,17 +89,14 @@ runFor (suc n) s (b ∷ bytes) =
 abbrev pub programPages : ℕ
 programPages = 12
 
+abbrev pub programTree : LentTree
+programTree = record { table = replicate (programPages * pageWords) 0; roots = replicate programPages 0 }
+
 unfoldable pub programLent : Lent
-programLent =
-    record {
-      startTable = replicate (programPages * pageWords) 0;
-      startRoots = replicate programPages 0;
-      endTable = replicate (programPages * pageWords) 0;
-      endRoots = replicate programPages 0;
-    }
+programLent = record { starts = programTree; ends = programTree }
 
 unfoldable pub programStore : Store
-programStore = openStore (record { head = openedHead; lent = programLent }) .store
+programStore = perform (record { head = openedHead; lent = programLent }) opening .store
 
 -- The whole input to the whole output
 unfoldable pub output : List ℕ → List ℕ

@@ -7,8 +7,8 @@ use lib.ListN.{length}
 use lib.Dec.{ltb}
 use Rattle.store.specs.declared.types.Answer.{Answer}
 use Rattle.store.specs.declared.types.Answer.the-variants.{Refused, Opened, Started, Ended, Totals}
-use Rattle.store.specs.Head.{Store}
-use Rattle.store.specs.Calls.{perform}
+use Rattle.store.specs.Trees.{Lent, Store}
+use Rattle.store.specs.Performing.{perform}
 use Rattle.command.specs.Stream.{Kind, unknown, command, kindOf, written, cutShort, stops, answers, runKind, runOne}
 use Rattle.interpret.specs.declared.run.Ran.{Ran}
 use Rattle.interpret.specs.Runs.{longestAnswer, RanAs}
@@ -33,6 +33,6 @@ kind-fits s bytes (command n call) = go (ltb (length bytes) n)
 output-fits : (s : Store) (code : ℕ) (bytes : List ℕ) → length (runOne s code bytes .output) ≤ longestAnswer
 output-fits s code bytes = kind-fits s bytes (kindOf code)
 
-pub ran-fits : (s : Store) (code : ℕ) (bytes : List ℕ) (r : Ran) (before out startTable startRoots endTable endRoots : List ℕ)
-    → RanAs (runOne s code bytes) r before out startTable startRoots endTable endRoots → r .length ≤ longestAnswer
-ran-fits s code bytes r before out startTable startRoots endTable endRoots x = omega (arith, x .size, output-fits s code bytes)
+pub ran-fits : (s : Store) (code : ℕ) (bytes : List ℕ) (r : Ran) (before out : List ℕ) (lent : Lent)
+    → RanAs (runOne s code bytes) r before out lent → r .length ≤ longestAnswer
+ran-fits s code bytes r before out lent x = omega (arith, x .size, output-fits s code bytes)

@@ -9,12 +9,10 @@ use borrow.Author.Tests.{lt-ltb, le-ltb}
 use Rattle.words.specs.Overwrite.{overwrite}
 use Rattle.store.specs.declared.types.Head.{Head}
 use Rattle.store.specs.declared.types.Answer.{Answer}
-use Rattle.store.specs.Head.{Store, storeOf}
+use Rattle.store.specs.Trees.{Lent, lentOf, Store, storeOf}
 use Rattle.store.specs.Answers.{Answered, unlessRefused}
-use Rattle.store.specs.Reading.{fourLookups, questionRefusal, askQuestion}
-use Rattle.store.specs.Writing.{startPass, endPass}
-use Rattle.store.specs.Calls.{Call, start, end, question, perform}
-use Rattle.store.proofs.Turns.{asksAs}
+use Rattle.store.specs.Calls.{Call, start, end, question}
+use Rattle.store.specs.Performing.{refusal, served, perform}
 use Rattle.updates.specs.declared.types.Reply.{Reply}
 use Rattle.updates.specs.Replies.{RepliedAs}
 use Rattle.command.specs.Bytes.{operand}
@@ -24,10 +22,8 @@ use Rattle.interpret.specs.declared.run.Ran.{Ran}
 use Rattle.interpret.specs.Runs.{RanAs}
 
 -- A command that comes to another
-pub ran : {a b : stream.Ran} {r : Ran} {before out startTable startRoots endTable endRoots : List ℕ} → a ≡ b
-    → RanAs b r before out startTable startRoots endTable endRoots → RanAs a r before out startTable startRoots endTable endRoots
-ran {r = r} {before = before} {out = out} {startTable = st} {startRoots = sr} {endTable = et} {endRoots = er} e x =
-    subst (λ (y : stream.Ran). RanAs y r before out st sr et er) (sym e) x
+pub ran : {a b : stream.Ran} {r : Ran} {before out : List ℕ} {lent : Lent} → a ≡ b → RanAs b r before out lent → RanAs a r before out lent
+ran {r = r} {before = before} {out = out} {lent = lent} e x = subst (λ (y : stream.Ran). RanAs y r before out lent) (sym e) x
 
 -- Too few operand bytes, or enough
 cut : (s : Store) (bytes : List ℕ) (n : ℕ) (call : List ℕ → Call) → length bytes < n → runKind s bytes (command n call) ≡ stops s cutShort
@@ -38,93 +34,82 @@ whole : (s : Store) (bytes : List ℕ) (n : ℕ) (call : List ℕ → Call) → 
 whole s bytes n call h = ap (λ (b : Bool). cond b (stops s cutShort) (answers (perform s (call bytes)))) (le-ltb (length bytes) n h)
 
 -- A question leaves the store as it was
-question-keeps : (s : Store) (k1 k2 t1 t2 : ℕ) → askQuestion s k1 k2 t1 t2 .store ≡ s
-unfolding askQuestion
-question-keeps s k1 k2 t1 t2 = go (questionRefusal s (fourLookups s k1 k2 t1 t2) k1 k2 t1 t2)
+question-keeps : (s : Store) (k1 k2 t1 t2 : ℕ) → perform s (question k1 k2 t1 t2) .store ≡ s
+unfolding served
+question-keeps s k1 k2 t1 t2 = go (refusal s (question k1 k2 t1 t2))
   where
-    go : (n : ℕ) → unlessRefused n s (asksAs s k1 k2 t1 t2) .store ≡ s
+    go : (n : ℕ) → unlessRefused n s (served s (question k1 k2 t1 t2)) .store ≡ s
     go zero = refl
     go (suc n) = refl
 
-module _ (head : Head) (startTable startRoots endTable endRoots : List ℕ) where
-  abbrev s : Store
-  s = storeOf head startTable startRoots endTable endRoots
+module _ (s : Store) where
 
-  stopped : (n : ℕ) (r : Ran) (before out : List ℕ) → out ≡ overwrite before 0 (n ∷ []) → r ≡ record { head = head; length = 1; on = false }
-      → RanAs (stops s (n ∷ [])) r before out startTable startRoots endTable endRoots
+  stopped : (n : ℕ) (r : Ran) (before out : List ℕ) → out ≡ overwrite before 0 (n ∷ []) → r ≡ record { head = s .head; length = 1; on = false }
+      → RanAs (stops s (n ∷ [])) r before out (s .lent)
   stopped n r before out e is =
       record {
         output = e;
         size = ap (λ (x : Ran). x .length) is;
         on = ap (λ (x : Ran). x .on) is;
         head = ap (λ (x : Ran). x .head) is;
-        start-table = refl;
-        start-roots = refl;
-        end-table = refl;
-        end-roots = refl;
+        lent-is = refl;
       }
 
   pub cut-short : (bytes : List ℕ) (n : ℕ) (call : List ℕ → Call) → length bytes < n → (r : Ran) (before out : List ℕ)
-      → out ≡ overwrite before 0 cutShort → r ≡ record { head = head; length = 1; on = false }
-      → RanAs (runKind s bytes (command n call)) r before out startTable startRoots endTable endRoots
+      → out ≡ overwrite before 0 cutShort → r ≡ record { head = s .head; length = 1; on = false }
+      → RanAs (runKind s bytes (command n call)) r before out (s .lent)
   cut-short bytes n call h r before out e is = ran (cut s bytes n call h) (stopped 7 r before out e is)
 
   pub unknown-stops : (bytes : List ℕ) (r : Ran) (before out : List ℕ) → out ≡ overwrite before 0 unknownCommand
-      → r ≡ record { head = head; length = 1; on = false }
-      → RanAs (runKind s bytes unknown) r before out startTable startRoots endTable endRoots
+      → r ≡ record { head = s .head; length = 1; on = false }
+      → RanAs (runKind s bytes unknown) r before out (s .lent)
   unknown-stops bytes r before out e is = stopped 6 r before out e is
 
   -- A byte that stands for a kind of command
-  pub of-kind : (bytes : List ℕ) (code : ℕ) (kind : Kind) → kindOf code ≡ kind → (r : Ran) (before out st sr et er : List ℕ)
-      → RanAs (runKind s bytes kind) r before out st sr et er → RanAs (runOne s code bytes) r before out st sr et er
-  of-kind bytes code kind e r before out st sr et er x = ran (ap (λ (k : Kind). runKind s bytes k) e) x
+  pub of-kind : (bytes : List ℕ) (code : ℕ) (kind : Kind) → kindOf code ≡ kind → (r : Ran) (before out : List ℕ) (lent : Lent)
+      → RanAs (runKind s bytes kind) r before out lent → RanAs (runOne s code bytes) r before out lent
+  of-kind bytes code kind e r before out lent x = ran (ap (λ (k : Kind). runKind s bytes k) e) x
 
   answered : (bytes : List ℕ) (n : ℕ) (call : List ℕ → Call) → n ≤ length bytes → (done : Answered) → perform s (call bytes) ≡ done
-      → (reply : Reply) (st sr et er : List ℕ) → RepliedAs done reply st sr et er
+      → (reply : Reply) (lent : Lent) → RepliedAs done reply lent
       → (size : ℕ) (before out : List ℕ) → out ≡ overwrite before 0 (written (reply .answer)) → size ≡ length (written (reply .answer))
-      → RanAs (runKind s bytes (command n call)) (record { head = reply .head; length = size; on = true }) before out st sr et er
-  answered bytes n call h done e reply st sr et er replies size before out o l =
+      → RanAs (runKind s bytes (command n call)) (record { head = reply .head; length = size; on = true }) before out lent
+  answered bytes n call h done e reply lent replies size before out o l =
       ran (whole s bytes n call h ∙ ap answers e)
       (record {
         output = o ∙ ap (λ (x : Answer). overwrite before 0 (written x)) (replies .answer);
         size = l ∙ ap (λ (x : Answer). length (written x)) (replies .answer);
         on = refl;
         head = replies .head;
-        start-table = replies .start-table;
-        start-roots = replies .start-roots;
-        end-table = replies .end-table;
-        end-roots = replies .end-roots;
+        lent-is = replies .lent-is;
       })
 
   module _ (bytes : List ℕ) (size : ℕ) (before out : List ℕ) where
     pub ran-start : 8 ≤ length bytes → (tick key weight : ℕ) → tick ≡ operand bytes 0 4 → key ≡ operand bytes 4 2 → weight ≡ operand bytes 6 2
-        → (reply : Reply) (st sr et er : List ℕ) → RepliedAs (startPass s tick key weight) reply st sr et er
+        → (reply : Reply) (lent : Lent) → RepliedAs (perform s (start tick key weight)) reply lent
         → out ≡ overwrite before 0 (written (reply .answer)) → size ≡ length (written (reply .answer))
-        → RanAs (runKind s bytes (command 8 startCommand)) (record { head = reply .head; length = size; on = true }) before out st sr et er
-    ran-start h tick key weight t k w reply st sr et er replies o l =
-        answered bytes 8 startCommand h (startPass s tick key weight) (sym (λ i. startPass s (t i) (k i) (w i))) reply st sr et er replies size before out o l
+        → RanAs (runKind s bytes (command 8 startCommand)) (record { head = reply .head; length = size; on = true }) before out lent
+    ran-start h tick key weight t k w reply lent replies o l =
+        answered bytes 8 startCommand h (perform s (start tick key weight)) (sym (λ i. perform s (start (t i) (k i) (w i)))) reply lent replies size before out o l
 
     pub ran-end : 8 ≤ length bytes → (tick number : ℕ) → tick ≡ operand bytes 0 4 → number ≡ operand bytes 4 4
-        → (reply : Reply) (st sr et er : List ℕ) → RepliedAs (endPass s tick number) reply st sr et er
+        → (reply : Reply) (lent : Lent) → RepliedAs (perform s (end tick number)) reply lent
         → out ≡ overwrite before 0 (written (reply .answer)) → size ≡ length (written (reply .answer))
-        → RanAs (runKind s bytes (command 8 endCommand)) (record { head = reply .head; length = size; on = true }) before out st sr et er
-    ran-end h tick number t n reply st sr et er replies o l =
-        answered bytes 8 endCommand h (endPass s tick number) (sym (λ i. endPass s (t i) (n i))) reply st sr et er replies size before out o l
+        → RanAs (runKind s bytes (command 8 endCommand)) (record { head = reply .head; length = size; on = true }) before out lent
+    ran-end h tick number t n reply lent replies o l =
+        answered bytes 8 endCommand h (perform s (end tick number)) (sym (λ i. perform s (end (t i) (n i)))) reply lent replies size before out o l
 
     pub ran-question : 12 ≤ length bytes → (k1 k2 t1 t2 : ℕ) → k1 ≡ operand bytes 0 2 → k2 ≡ operand bytes 2 2 → t1 ≡ operand bytes 4 4
-        → t2 ≡ operand bytes 8 4 → (said : Answer) → said ≡ askQuestion s k1 k2 t1 t2 .answer
+        → t2 ≡ operand bytes 8 4 → (said : Answer) → said ≡ perform s (question k1 k2 t1 t2) .answer
         → out ≡ overwrite before 0 (written said) → size ≡ length (written said)
-        → RanAs (runKind s bytes (command 12 questionCommand)) (record { head = head; length = size; on = true }) before out startTable startRoots endTable endRoots
+        → RanAs (runKind s bytes (command 12 questionCommand)) (record { head = s .head; length = size; on = true }) before out (s .lent)
     ran-question h k1 k2 t1 t2 a b c d said is o l =
         let kept = sym (question-keeps s k1 k2 t1 t2) in
-        answered bytes 12 questionCommand h (askQuestion s k1 k2 t1 t2) (sym (λ i. askQuestion s (a i) (b i) (c i) (d i)))
-        (record { answer = said; head = head }) startTable startRoots endTable endRoots
+        answered bytes 12 questionCommand h (perform s (question k1 k2 t1 t2)) (sym (λ i. perform s (question (a i) (b i) (c i) (d i))))
+        (record { answer = said; head = s .head }) (s .lent)
         (record {
           answer = is;
           head = ap (λ (x : Store). x .head) kept;
-          start-table = ap (λ (x : Store). x .lent .startTable) kept;
-          start-roots = ap (λ (x : Store). x .lent .startRoots) kept;
-          end-table = ap (λ (x : Store). x .lent .endTable) kept;
-          end-roots = ap (λ (x : Store). x .lent .endRoots) kept;
+          lent-is = ap (λ (x : Store). x .lent) kept;
         })
         size before out o l

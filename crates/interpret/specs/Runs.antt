@@ -4,6 +4,7 @@ use mathlib.Core.Path.{_≡_}
 use mathlib.Core.List.{List}
 use lib.ListN.{length}
 use Rattle.words.specs.Overwrite.{overwrite}
+use Rattle.store.specs.Trees.{Lent}
 use Rattle.command.specs.Stream as stream
 use Rattle.interpret.specs.declared.run.Ran.{Ran}
 
@@ -12,12 +13,9 @@ abbrev pub longestAnswer : ℕ
 longestAnswer = 18
 
 -- The bytes written, whether the run goes on, the head and every lent word afterwards are those that a definition says
-pub record RanAs (a : stream.Ran) (r : Ran) (before out startTable startRoots endTable endRoots : List ℕ) : Type 0 where
+pub record RanAs (a : stream.Ran) (r : Ran) (before out : List ℕ) (lent : Lent) : Type 0 where
   pub output : out ≡ overwrite before 0 (a .output)
   pub size : r .length ≡ length (a .output)
   pub on : r .on ≡ a .on
   pub head : r .head ≡ a .store .head
-  pub start-table : startTable ≡ a .store .lent .startTable
-  pub start-roots : startRoots ≡ a .store .lent .startRoots
-  pub end-table : endTable ≡ a .store .lent .endTable
-  pub end-roots : endRoots ≡ a .store .lent .endRoots
+  pub lent-is : lent ≡ a .store .lent

@@ -1,5 +1,6 @@
 use Rattle.command.specs.Stream.{startCommand}
 use Rattle.interpret.proofs.RunLaws.{cut-short, ran-start}
+use Rattle.store.specs.Trees.{storeOf}
 use borrow.Author.Needs.{needs}
 use Rattle.interpret.proofs.run.run_start.Statement.{statement}
 use Rattle.interpret.proofs.run.run_start.Tie as tie
@@ -14,7 +15,7 @@ returns : tie.Need-returns
 returns c =
     let a = c .before .before .before .before .before .before .before .before .before .before .before .args in
     let stopped = c .before .before .stop .ensures in
-    cut-short (a .head) (a .start-table .now) (a .start-roots .now) (a .end-table .now) (a .end-roots .now) (a .operands .now) 8 startCommand (c .before .before .before .before .if1 .taken) _ _ _ (stopped .0) (stopped .1)
+    cut-short (storeOf (a .head) (a .start-table .now) (a .start-roots .now) (a .end-table .now) (a .end-roots .now)) (a .operands .now) 8 startCommand (c .before .before .before .before .if1 .taken) _ _ _ (stopped .0) (stopped .1)
 
 number4-requires : tie.Need-number4-requires
 number4-requires c κs = search needs
@@ -45,8 +46,8 @@ returns-2 c =
     let called = c .before .before .before .before .before .before .before .before .before in
     let a = called .before .before .before .before .before .before .before .before .before .before .before .before .before .args in
     let put = c .before .before .before .put-answer .ensures in
-    ran-start (a .head) (a .start-table .now) (a .start-roots .now) (a .end-table .now) (a .end-roots .now) (a .operands .now) _ _ _ (called .before .before .before .before .before .before .if1 .left) _ _ _ (called .before .before .before .before .before .number4 .ensures)
-    (called .before .before .before .before .number2 .ensures) (called .before .before .before .number22 .ensures) _ _ _ _ _ (called .start .ensures) (put .0) (put .1)
+    ran-start (storeOf (a .head) (a .start-table .now) (a .start-roots .now) (a .end-table .now) (a .end-roots .now)) (a .operands .now) _ _ _ (called .before .before .before .before .before .before .if1 .left) _ _ _ (called .before .before .before .before .before .number4 .ensures)
+    (called .before .before .before .before .number2 .ensures) (called .before .before .before .number22 .ensures) _ _ (called .start .ensures) (put .0) (put .1)
 
 pub run-start-spec : {M : Type 1} → statement M
 run-start-spec =

@@ -3,6 +3,7 @@ use Rattle.store.specs.declared.types.TreeName.the-variants.{Starts, Ends}
 use Rattle.store.specs.Trees.{Store, storeOf}
 use Rattle.store.specs.Calls.{opening}
 use Rattle.store.specs.Performing.{served}
+use Rattle.store.proofs.TreeLaws.{same-lent}
 use Rattle.store.proofs.OpeningReady.{takes-enough, each-enough}
 use Rattle.refusals.proofs.Outcomes.{call-refused, call-served}
 use Rattle.updates.proofs.RepliesAs.{replied, refused-reply}
@@ -74,10 +75,7 @@ returns-2 c =
     (record {
       answer = refl;
       head = c .opened-head .ensures;
-      start-table = starts .0;
-      start-roots = starts .1;
-      end-table = ends .0;
-      end-roots = ends .1;
+      lent-is = same-lent (starts .0) (starts .1) (ends .0) (ends .1);
     })
 
 pub open-spec : {M : Type 1} → statement M

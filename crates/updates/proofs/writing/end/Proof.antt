@@ -6,6 +6,7 @@ use Rattle.store.specs.declared.types.TreeName.the-variants.{Ends}
 use Rattle.store.specs.Trees.{Store, storeOf, withUse}
 use Rattle.store.specs.Calls.{end}
 use Rattle.store.specs.Writing.{endedHead}
+use Rattle.store.proofs.TreeLaws.{same-lent}
 use Rattle.refusals.proofs.Outcomes.{call-refused, call-served}
 use Rattle.updates.proofs.RepliesAs.{replied, refused-reply}
 use Rattle.updates.proofs.EndReplies.{end-accepted, served-end}
@@ -111,10 +112,7 @@ returns-3 c =
     (record {
       answer = refl;
       head = c .ended-head .ensures pass ∙ ap (λ (used : TreeUse). endedHead (withUse (a .head) Ends used) (a .tick) (At place pass)) (entered .use-is);
-      start-table = refl;
-      start-roots = refl;
-      end-table = entered .table-is;
-      end-roots = entered .roots-are;
+      lent-is = same-lent refl refl (entered .table-is) (entered .roots-are);
     })
 
 pub end-spec : {M : Type 1} → statement M

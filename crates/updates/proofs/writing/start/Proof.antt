@@ -6,6 +6,7 @@ use Rattle.store.specs.Trees.{Store, storeOf, withUse}
 use Rattle.store.specs.Calls.{start}
 use Rattle.store.specs.Writing.{startedHead}
 use Rattle.store.specs.Performing.{served}
+use Rattle.store.proofs.TreeLaws.{same-lent}
 use Rattle.refusals.proofs.Outcomes.{call-refused, call-served}
 use Rattle.updates.proofs.RepliesAs.{replied, refused-reply}
 use Rattle.updates.proofs.StartReplies.{start-accepted}
@@ -77,10 +78,7 @@ returns-2 c =
     (record {
       answer = refl;
       head = c .started-head .ensures ∙ ap (λ (used : TreeUse). startedHead (withUse (a .head) Starts used) (a .tick) (a .key) (a .weight)) (entered .use-is);
-      start-table = entered .table-is;
-      start-roots = entered .roots-are;
-      end-table = refl;
-      end-roots = refl;
+      lent-is = same-lent (entered .table-is) (entered .roots-are) refl refl;
     })
 
 pub start-spec : {M : Type 1} → statement M
