@@ -7,14 +7,15 @@ use lib.ListN.{length}
 use Rattle.store.specs.declared.types.Head.{Head}
 use Rattle.store.specs.declared.types.Answer.{Answer}
 use Rattle.store.specs.declared.types.Answer.the-variants.{Refused, Opened, Started, Ended, Totals}
-use Rattle.store.specs.Head.{Store, storeOf}
+use Rattle.store.specs.Trees.{Lent, Store}
 use Rattle.store.specs.Answers.{refusalOf, Answered, unlessRefused}
-use Rattle.store.specs.Writing.{startRefusal, startPass, endRefusal, endPass, openingRefusal, openStore}
-use Rattle.store.proofs.Turns.{opensAs, startsAs, endsAs}
+use Rattle.store.specs.Calls.{Call}
+use Rattle.store.specs.Performing.{refusal, served, perform}
+use Rattle.store.proofs.Outcomes.{served-answers}
 use Rattle.updates.specs.declared.types.Reply.{Reply}
 use Rattle.updates.specs.Replies.{RepliedAs}
 use Rattle.firmware.specs.Heads.{Fields, passNumbers, headOf, fieldsOf, numbersOf}
-use Rattle.firmware.specs.Exported.{Slices, storeIn, numberSaid, Told, Tells, Leaves}
+use Rattle.firmware.specs.Exported.{storeIn, numberSaid, Told, Tells, Leaves}
 use Rattle.firmware.proofs.HeadNumbers.{numbers-back}
 
 pub told : {a b : Answer} {r : ℕ} {before after : Told} → a ≡ b → Tells a r before after → Tells b r before after
@@ -26,36 +27,21 @@ unchanged : (n : ℕ) (s : Store) (done : Answered) → refusalOf (done .answer)
 unchanged zero s done e some = absurd (some e)
 unchanged (suc n) s done e some = refl
 
-pub start-unchanged : (s : Store) (tick key weight : ℕ) → (refusalOf (startPass s tick key weight .answer) ≡ 0 → ⊥) → startPass s tick key weight .store ≡ s
-unfolding startPass
-start-unchanged s tick key weight = unchanged (startRefusal s tick key weight) s (startsAs s tick key weight) refl
-
-pub end-unchanged : (s : Store) (tick number : ℕ) → (refusalOf (endPass s tick number .answer) ≡ 0 → ⊥) → endPass s tick number .store ≡ s
-unfolding endPass
-end-unchanged s tick number = unchanged (endRefusal s tick number) s (endsAs s tick number) refl
-
-pub open-unchanged : (s : Store) → (refusalOf (openStore s .answer) ≡ 0 → ⊥) → openStore s .store ≡ s
-unfolding openStore
-open-unchanged s = unchanged (openingRefusal (s .lent)) s (opensAs s) refl
+pub call-unchanged : (s : Store) (c : Call) → (refusalOf (perform s c .answer) ≡ 0 → ⊥) → perform s c .store ≡ s
+call-unchanged s c = unchanged (refusal s c) s (served s c) (served-answers s c)
 
 -- What a call of the store handed back, of the head that the numbers make
-pub handed : (call : Store → Answered) (f : Fields) (passes : List ℕ) (m after : Slices) (head : Head) (reply : Reply)
-    → head ≡ headOf f passes
-    → RepliedAs (call (storeOf head (m .startTable) (m .startList) (m .endTable) (m .endList))) reply (after .startTable) (after .startList) (after .endTable) (after .endList)
-    → RepliedAs (call (storeIn f passes m)) reply (after .startTable) (after .startList) (after .endTable) (after .endList)
-handed call f passes m after head reply e h =
-    subst
-    (λ (x : Head).
-    RepliedAs (call (storeOf x (m .startTable) (m .startList) (m .endTable) (m .endList))) reply (after .startTable) (after .startList) (after .endTable) (after .endList))
-    e h
+pub handed : (c : Call) (f : Fields) (passes : List ℕ) (lent after : Lent) (head : Head) (reply : Reply) → head ≡ headOf f passes
+    → RepliedAs (perform (record { head = head; lent = lent }) c) reply after → RepliedAs (perform (storeIn f passes lent) c) reply after
+handed c f passes lent after head reply e h = subst (λ (x : Head). RepliedAs (perform (record { head = x; lent = lent }) c) reply after) e h
 
-module _ (a : Answered) (f : Fields) (passes : List ℕ) (m after : Slices) (long : length passes ≡ passNumbers) (reply : Reply)
-    (is : RepliedAs a reply (after .startTable) (after .startList) (after .endTable) (after .endList)) where
+module _ (a : Answered) (f : Fields) (passes : List ℕ) (lent after : Lent) (long : length passes ≡ passNumbers) (reply : Reply)
+    (is : RepliedAs a reply after) where
   said : (r : ℕ) → r ≡ refusalOf (reply .answer) → r ≡ refusalOf (a .answer)
   said r e = e ∙ ap refusalOf (is .answer)
 
   -- Refused: no field and no number of a pass was written
-  pub leaves-refused : (r : ℕ) → r ≡ refusalOf (reply .answer) → (r ≡ 0 → ⊥) → ((refusalOf (a .answer) ≡ 0 → ⊥) → a .store ≡ storeIn f passes m)
+  pub leaves-refused : (r : ℕ) → r ≡ refusalOf (reply .answer) → (r ≡ 0 → ⊥) → ((refusalOf (a .answer) ≡ 0 → ⊥) → a .store ≡ storeIn f passes lent)
       → Leaves a r f passes after
   leaves-refused r e some same =
       let kept = same (λ z. some (said r e ∙ z)) in
@@ -63,10 +49,7 @@ module _ (a : Answered) (f : Fields) (passes : List ℕ) (m after : Slices) (lon
         refusal = said r e;
         fields = sym (ap (λ (x : Store). fieldsOf (x .head)) kept);
         passes-are = sym (ap (λ (x : Store). numbersOf (x .head .passes)) kept ∙ numbers-back passes long);
-        start-table = is .start-table;
-        start-list = is .start-roots;
-        end-table = is .end-table;
-        end-list = is .end-roots;
+        lent-is = is .lent-is;
       }
 
   -- Done: the head that the call handed back was written
@@ -77,10 +60,7 @@ module _ (a : Answered) (f : Fields) (passes : List ℕ) (m after : Slices) (lon
         refusal = sym none ∙ said r e;
         fields = fs ∙ ap fieldsOf (is .head);
         passes-are = ps ∙ ap (λ (h : Head). numbersOf (h .passes)) (is .head);
-        start-table = is .start-table;
-        start-list = is .start-roots;
-        end-table = is .end-table;
-        end-list = is .end-roots;
+        lent-is = is .lent-is;
       }
 
 -- A pass number that a refused start leaves as it was

@@ -5,19 +5,13 @@ use mathlib.Core.List.{List}
 use lib.ListN.{length}
 use Rattle.store.specs.declared.types.Answer.{Answer}
 use Rattle.store.specs.declared.types.Answer.the-variants.{Refused, Opened, Started, Ended, Totals}
-use Rattle.store.specs.Head.{Store, storeOf}
+use Rattle.store.specs.Trees.{Lent, Store}
 use Rattle.store.specs.Answers.{refusalOf, Answered}
 use Rattle.firmware.specs.Heads.{Fields, passNumbers, headOf, fieldsOf, numbersOf}
 
--- The four lent slices of a store, page table and root list of the starts, then of the ends
-pub record Slices : Type 0 where
-  pub startTable : List ℕ
-  pub startList : List ℕ
-  pub endTable : List ℕ
-  pub endList : List ℕ
-
-abbrev pub storeIn : Fields → List ℕ → Slices → Store
-storeIn f passes m = storeOf (headOf f passes) (m .startTable) (m .startList) (m .endTable) (m .endList)
+-- The store that the fields of a head, its open passes and the lent slices make
+abbrev pub storeIn : Fields → List ℕ → Lent → Store
+storeIn f passes m = record { head = headOf f passes; lent = m }
 
 -- The pass number of an answer; where it has none, what stood in the lent number before
 abbrev pub numberSaid : ℕ → Answer → ℕ
@@ -54,17 +48,14 @@ pub record Shut (r : ℕ) (before after : Told) : Type 0 where
   pub same : after ≡ before
 
 -- A writing call that comes to a: the refusal, the head's fields, its open passes and every lent word
-pub record Leaves (a : Answered) (r : ℕ) (f : Fields) (passes : List ℕ) (m : Slices) : Type 0 where
+pub record Leaves (a : Answered) (r : ℕ) (f : Fields) (passes : List ℕ) (lent : Lent) : Type 0 where
   pub refusal : r ≡ refusalOf (a .answer)
   pub fields : f ≡ fieldsOf (a .store .head)
   pub passes-are : passes ≡ numbersOf (a .store .head .passes)
-  pub start-table : m .startTable ≡ a .store .lent .startTable
-  pub start-list : m .startList ≡ a .store .lent .startRoots
-  pub end-table : m .endTable ≡ a .store .lent .endTable
-  pub end-list : m .endList ≡ a .store .lent .endRoots
+  pub lent-is : lent ≡ a .store .lent
 
 -- A writing call that is handed a list of open passes of another length: 20, and nothing changes
-pub record Kept (r : ℕ) (before after : Fields) (passesBefore passesAfter : List ℕ) (lentBefore lentAfter : Slices) : Type 0 where
+pub record Untouched (r : ℕ) (before after : Fields) (passesBefore passesAfter : List ℕ) (lentBefore lentAfter : Lent) : Type 0 where
   pub refusal : r ≡ 20
   pub fields : after ≡ before
   pub passes : passesAfter ≡ passesBefore

@@ -4,7 +4,10 @@ use crate::heads::head_of;
 use store::Answer;
 ghost use mathlib.Core.Path.{_≡_};
 ghost use lib.ListN.{length};
-ghost use Rattle.store.specs.Reading.{askQuestion, lookUpStarts, lookUpEnds};
+ghost use Rattle.store.specs.declared.types.TreeName.the-variants.{Starts, Ends};
+ghost use Rattle.store.specs.Trees.{lentOf};
+ghost use Rattle.store.specs.Calls.{question, lookupIn};
+ghost use Rattle.store.specs.Performing.{perform};
 ghost use Rattle.firmware.specs.Heads.{passNumbers};
 ghost use Rattle.firmware.specs.Exported.{storeIn, Tells, Shut};
 
@@ -53,7 +56,7 @@ pub extern "C" fn nimbleshale_question(
     sum: &mut u64,
     pages: &mut u32,
 ) -> u8
-    ensures { λ r. ⌜ (length (now (passes .entry)) ≡ passNumbers → Tells (askQuestion (storeIn (record { last = last; started = started; count = «count_open»; startPages = «start_pages»; startRoots = «start_roots»; endPages = «end_pages»; endRoots = «end_roots» }) (now (passes .entry)) (record { startTable = now («start_table» .entry); startList = now («start_list» .entry); endTable = now («end_table» .entry); endList = now («end_list» .entry) })) k1 k2 t1 t2 .answer) r (record { count = now (count .entry); sum = now (sum .entry); pages = now (pages .entry) }) (record { count = now (count .exit); sum = now (sum .exit); pages = now (pages .exit) })) ⌝ }
+    ensures { λ r. ⌜ (length (now (passes .entry)) ≡ passNumbers → Tells (perform (storeIn (record { last = last; started = started; count = «count_open»; startPages = «start_pages»; startRoots = «start_roots»; endPages = «end_pages»; endRoots = «end_roots» }) (now (passes .entry)) (lentOf (now («start_table» .entry)) (now («start_list» .entry)) (now («end_table» .entry)) (now («end_list» .entry)))) (question k1 k2 t1 t2) .answer) r (record { count = now (count .entry); sum = now (sum .entry); pages = now (pages .entry) }) (record { count = now (count .exit); sum = now (sum .exit); pages = now (pages .exit) })) ⌝ }
     ensures { λ r. ⌜ ((length (now (passes .entry)) ≡ passNumbers → ⊥) → Shut r (record { count = now (count .entry); sum = now (sum .entry); pages = now (pages .entry) }) (record { count = now (count .exit); sum = now (sum .exit); pages = now (pages .exit) })) ⌝ }
 {
     if passes.len() != 256 {
@@ -104,7 +107,7 @@ pub extern "C" fn nimbleshale_lookup_starts(
     sum: &mut u64,
     pages: &mut u32,
 ) -> u8
-    ensures { λ r. ⌜ (length (now (passes .entry)) ≡ passNumbers → Tells (lookUpStarts (storeIn (record { last = last; started = started; count = «count_open»; startPages = «start_pages»; startRoots = «start_roots»; endPages = «end_pages»; endRoots = «end_roots» }) (now (passes .entry)) (record { startTable = now («start_table» .entry); startList = now («start_list» .entry); endTable = now («end_table» .entry); endList = now («end_list» .entry) })) t k .answer) r (record { count = now (count .entry); sum = now (sum .entry); pages = now (pages .entry) }) (record { count = now (count .exit); sum = now (sum .exit); pages = now (pages .exit) })) ⌝ }
+    ensures { λ r. ⌜ (length (now (passes .entry)) ≡ passNumbers → Tells (perform (storeIn (record { last = last; started = started; count = «count_open»; startPages = «start_pages»; startRoots = «start_roots»; endPages = «end_pages»; endRoots = «end_roots» }) (now (passes .entry)) (lentOf (now («start_table» .entry)) (now («start_list» .entry)) (now («end_table» .entry)) (now («end_list» .entry)))) (lookupIn Starts t k) .answer) r (record { count = now (count .entry); sum = now (sum .entry); pages = now (pages .entry) }) (record { count = now (count .exit); sum = now (sum .exit); pages = now (pages .exit) })) ⌝ }
     ensures { λ r. ⌜ ((length (now (passes .entry)) ≡ passNumbers → ⊥) → Shut r (record { count = now (count .entry); sum = now (sum .entry); pages = now (pages .entry) }) (record { count = now (count .exit); sum = now (sum .exit); pages = now (pages .exit) })) ⌝ }
 {
     if passes.len() != 256 {
@@ -145,7 +148,7 @@ pub extern "C" fn nimbleshale_lookup_ends(
     sum: &mut u64,
     pages: &mut u32,
 ) -> u8
-    ensures { λ r. ⌜ (length (now (passes .entry)) ≡ passNumbers → Tells (lookUpEnds (storeIn (record { last = last; started = started; count = «count_open»; startPages = «start_pages»; startRoots = «start_roots»; endPages = «end_pages»; endRoots = «end_roots» }) (now (passes .entry)) (record { startTable = now («start_table» .entry); startList = now («start_list» .entry); endTable = now («end_table» .entry); endList = now («end_list» .entry) })) t k .answer) r (record { count = now (count .entry); sum = now (sum .entry); pages = now (pages .entry) }) (record { count = now (count .exit); sum = now (sum .exit); pages = now (pages .exit) })) ⌝ }
+    ensures { λ r. ⌜ (length (now (passes .entry)) ≡ passNumbers → Tells (perform (storeIn (record { last = last; started = started; count = «count_open»; startPages = «start_pages»; startRoots = «start_roots»; endPages = «end_pages»; endRoots = «end_roots» }) (now (passes .entry)) (lentOf (now («start_table» .entry)) (now («start_list» .entry)) (now («end_table» .entry)) (now («end_list» .entry)))) (lookupIn Ends t k) .answer) r (record { count = now (count .entry); sum = now (sum .entry); pages = now (pages .entry) }) (record { count = now (count .exit); sum = now (sum .exit); pages = now (pages .exit) })) ⌝ }
     ensures { λ r. ⌜ ((length (now (passes .entry)) ≡ passNumbers → ⊥) → Shut r (record { count = now (count .entry); sum = now (sum .entry); pages = now (pages .entry) }) (record { count = now (count .exit); sum = now (sum .exit); pages = now (pages .exit) })) ⌝ }
 {
     if passes.len() != 256 {

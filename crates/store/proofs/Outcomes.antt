@@ -97,7 +97,7 @@ pub record Alike (a : Answered) (turn : Fed → BookTurn) : Type 0 where
   pub next : Agrees (a .store) (turn (fedBy (refusalOf (a .answer))) .book)
 
 -- A call that is served gives no refusal
-served-answers : (s : Store) (c : Call) → refusalOf (served s c .answer) ≡ 0
+pub served-answers : (s : Store) (c : Call) → refusalOf (served s c .answer) ≡ 0
 unfolding served
 served-answers s opening = refl
 served-answers s (start tick key weight) = refl

@@ -1,7 +1,9 @@
 use mathlib.Core.Path.{refl, ap, _∙_}
 use Rattle.store.specs.declared.types.Head.{Head}
-use Rattle.store.specs.Head.{storeOf}
-use Rattle.store.specs.Reading.{lookUpStarts}
+use Rattle.store.specs.declared.types.TreeName.the-variants.{Starts}
+use Rattle.store.specs.Trees.{storeOf}
+use Rattle.store.specs.Calls.{lookupIn}
+use Rattle.store.specs.Performing.{perform}
 use Rattle.firmware.proofs.ExportedLaws.{told}
 use borrow.Author.Needs.{needs}
 use Rattle.firmware.proofs.reading.nimbleshale_lookup_starts.Statement.{statement}
@@ -23,7 +25,7 @@ returns-2 : tie.Need-returns-2
 returns-2 c =
     let a = c .before .before .before .before .before .before .before .before .before .before .before .before .args in
     let said = c .before .before .before .before .lookup-starts .ensures
-    ∙ ap (λ (h : Head). lookUpStarts (storeOf h (a .start-table .now) (a .start-list .now) (a .end-table .now) (a .end-list .now)) (a .t) (a .k) .answer) (c .before .before .before .before .before .head-of .ensures) in
+    ∙ ap (λ (h : Head). perform (storeOf h (a .start-table .now) (a .start-list .now) (a .end-table .now) (a .end-list .now)) (lookupIn Starts (a .t) (a .k)) .answer) (c .before .before .before .before .before .head-of .ensures) in
     (λ e. told said (c .tell .ensures), λ n. absurd (n (c .before .before .before .before .before .before .if1 .left)))
 
 pub nimbleshale-lookup-starts-spec : {M : Type 1} → statement M

@@ -1,7 +1,8 @@
 use mathlib.Core.Path.{refl, ap, _∙_}
 use Rattle.store.specs.declared.types.Head.{Head}
-use Rattle.store.specs.Head.{storeOf}
-use Rattle.store.specs.Reading.{askQuestion}
+use Rattle.store.specs.Trees.{storeOf}
+use Rattle.store.specs.Calls.{question}
+use Rattle.store.specs.Performing.{perform}
 use Rattle.firmware.proofs.ExportedLaws.{told}
 use borrow.Author.Needs.{needs}
 use Rattle.firmware.proofs.reading.nimbleshale_question.Statement.{statement}
@@ -23,7 +24,7 @@ returns-2 : tie.Need-returns-2
 returns-2 c =
     let a = c .before .before .before .before .before .before .before .before .before .before .before .before .args in
     let said = c .before .before .before .before .question .ensures
-    ∙ ap (λ (h : Head). askQuestion (storeOf h (a .start-table .now) (a .start-list .now) (a .end-table .now) (a .end-list .now)) (a .k1) (a .k2) (a .t1) (a .t2) .answer) (c .before .before .before .before .before .head-of .ensures) in
+    ∙ ap (λ (h : Head). perform (storeOf h (a .start-table .now) (a .start-list .now) (a .end-table .now) (a .end-list .now)) (question (a .k1) (a .k2) (a .t1) (a .t2)) .answer) (c .before .before .before .before .before .head-of .ensures) in
     (λ e. told said (c .tell .ensures), λ n. absurd (n (c .before .before .before .before .before .before .if1 .left)))
 
 pub nimbleshale-question-spec : {M : Type 1} → statement M

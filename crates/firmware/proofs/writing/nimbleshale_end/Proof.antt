@@ -1,9 +1,10 @@
 use Prim.Native.Nat.{ℕ}
 use mathlib.Core.Path.{refl, ap, _∙_}
-use Rattle.store.specs.Head.{Store}
-use Rattle.store.specs.Writing.{endPass}
+use Rattle.store.specs.Trees.{lentOf}
+use Rattle.store.specs.Calls.{end}
+use Rattle.store.specs.Performing.{perform}
 use Rattle.firmware.specs.Exported.{storeIn}
-use Rattle.firmware.proofs.ExportedLaws.{end-unchanged, handed, leaves-refused, leaves-done}
+use Rattle.firmware.proofs.ExportedLaws.{call-unchanged, handed, leaves-refused, leaves-done}
 use borrow.Author.Needs.{needs}
 use Rattle.firmware.proofs.writing.nimbleshale_end.Statement.{statement}
 use Rattle.firmware.proofs.writing.nimbleshale_end.Tie as tie
@@ -32,8 +33,8 @@ same-length-3 c = search needs
 returns-2 : tie.Need-returns-2
 returns-2 c =
     let a = c .before .before .before .before .before .before .before .before .before .before .before .before .before .before .before .before .before .before .before .before .before .before .before .before .args in
-    let is = handed (λ (s : Store). endPass s (a .tick) (a .number)) (record { last = a .last .now; started = a .started .now; count = a .count-open .now; startPages = a .start-pages .now; startRoots = a .start-roots .now; endPages = a .end-pages .now; endRoots = a .end-roots .now }) (a .passes .now) (record { startTable = a .start-table .now; startList = a .start-list .now; endTable = a .end-table .now; endList = a .end-list .now }) _ _ _ (c .before .before .before .before .before .before .before .before .before .head-of .ensures) (c .before .before .before .before .before .before .end .ensures) in
-    (λ e. leaves-refused (endPass (storeIn (record { last = a .last .now; started = a .started .now; count = a .count-open .now; startPages = a .start-pages .now; startRoots = a .start-roots .now; endPages = a .end-pages .now; endRoots = a .end-roots .now }) (a .passes .now) (record { startTable = a .start-table .now; startList = a .start-list .now; endTable = a .end-table .now; endList = a .end-list .now })) (a .tick) (a .number)) (record { last = a .last .now; started = a .started .now; count = a .count-open .now; startPages = a .start-pages .now; startRoots = a .start-roots .now; endPages = a .end-pages .now; endRoots = a .end-roots .now }) (a .passes .now) (record { startTable = a .start-table .now; startList = a .start-list .now; endTable = a .end-table .now; endList = a .end-list .now }) _ (c .before .before .before .before .before .before .before .before .before .before .before .before .before .before .before .before .before .before .if1 .left) _ is _ (c .before .refusal-of .ensures) (c .if2 .taken) (end-unchanged (storeIn (record { last = a .last .now; started = a .started .now; count = a .count-open .now; startPages = a .start-pages .now; startRoots = a .start-roots .now; endPages = a .end-pages .now; endRoots = a .end-roots .now }) (a .passes .now) (record { startTable = a .start-table .now; startList = a .start-list .now; endTable = a .end-table .now; endList = a .end-list .now })) (a .tick) (a .number)), λ n. absurd (n (c .before .before .before .before .before .before .before .before .before .before .before .before .before .before .before .before .before .before .if1 .left)))
+    let is = handed (end (a .tick) (a .number)) (record { last = a .last .now; started = a .started .now; count = a .count-open .now; startPages = a .start-pages .now; startRoots = a .start-roots .now; endPages = a .end-pages .now; endRoots = a .end-roots .now }) (a .passes .now) (lentOf (a .start-table .now) (a .start-list .now) (a .end-table .now) (a .end-list .now)) _ _ _ (c .before .before .before .before .before .before .before .before .before .head-of .ensures) (c .before .before .before .before .before .before .end .ensures) in
+    (λ e. leaves-refused (perform (storeIn (record { last = a .last .now; started = a .started .now; count = a .count-open .now; startPages = a .start-pages .now; startRoots = a .start-roots .now; endPages = a .end-pages .now; endRoots = a .end-roots .now }) (a .passes .now) (lentOf (a .start-table .now) (a .start-list .now) (a .end-table .now) (a .end-list .now))) (end (a .tick) (a .number))) (record { last = a .last .now; started = a .started .now; count = a .count-open .now; startPages = a .start-pages .now; startRoots = a .start-roots .now; endPages = a .end-pages .now; endRoots = a .end-roots .now }) (a .passes .now) (lentOf (a .start-table .now) (a .start-list .now) (a .end-table .now) (a .end-list .now)) _ (c .before .before .before .before .before .before .before .before .before .before .before .before .before .before .before .before .before .before .if1 .left) _ is _ (c .before .refusal-of .ensures) (c .if2 .taken) (call-unchanged (storeIn (record { last = a .last .now; started = a .started .now; count = a .count-open .now; startPages = a .start-pages .now; startRoots = a .start-roots .now; endPages = a .end-pages .now; endRoots = a .end-roots .now }) (a .passes .now) (lentOf (a .start-table .now) (a .start-list .now) (a .end-table .now) (a .end-list .now))) (end (a .tick) (a .number))), λ n. absurd (n (c .before .before .before .before .before .before .before .before .before .before .before .before .before .before .before .before .before .before .if1 .left)))
 
 put-head-requires : tie.Need-put-head-requires
 put-head-requires c κs = c .before .before .before .before .before .before .before .before .before .before .before .before .before .before .before .before .before .before .before .before .before .before .before .before .before .before .before .if1 .left
@@ -50,8 +51,8 @@ same-length-6 c = search needs
 returns-3 : tie.Need-returns-3
 returns-3 c =
     let a = c .before .before .before .before .before .before .before .before .before .before .before .before .before .before .before .before .before .before .before .before .before .before .before .before .before .before .before .before .before .before .before .before .before .before .before .before .args in
-    let is = handed (λ (s : Store). endPass s (a .tick) (a .number)) (record { last = a .last .now; started = a .started .now; count = a .count-open .now; startPages = a .start-pages .now; startRoots = a .start-roots .now; endPages = a .end-pages .now; endRoots = a .end-roots .now }) (a .passes .now) (record { startTable = a .start-table .now; startList = a .start-list .now; endTable = a .end-table .now; endList = a .end-list .now }) _ _ _ (c .before .before .before .before .before .before .before .before .before .before .before .before .before .before .before .before .before .before .before .before .before .head-of .ensures) (c .before .before .before .before .before .before .before .before .before .before .before .before .before .before .before .before .before .before .end .ensures) in
-    (λ x. leaves-done (endPass (storeIn (record { last = a .last .now; started = a .started .now; count = a .count-open .now; startPages = a .start-pages .now; startRoots = a .start-roots .now; endPages = a .end-pages .now; endRoots = a .end-roots .now }) (a .passes .now) (record { startTable = a .start-table .now; startList = a .start-list .now; endTable = a .end-table .now; endList = a .end-list .now })) (a .tick) (a .number)) (record { last = a .last .now; started = a .started .now; count = a .count-open .now; startPages = a .start-pages .now; startRoots = a .start-roots .now; endPages = a .end-pages .now; endRoots = a .end-roots .now }) (a .passes .now) (record { startTable = a .start-table .now; startList = a .start-list .now; endTable = a .end-table .now; endList = a .end-list .now }) _ (c .before .before .before .before .before .before .before .before .before .before .before .before .before .before .before .before .before .before .before .before .before .before .before .before .before .before .before .before .before .before .if1 .left) _ is _ (c .before .before .before .before .before .before .before .before .before .before .before .before .before .refusal-of .ensures) (c .before .before .before .before .before .before .before .before .before .before .before .before .if2 .left) _ _ (c .before .before .put-head .ensures .0) (c .before .before .put-head .ensures .1), λ n. absurd (n (c .before .before .before .before .before .before .before .before .before .before .before .before .before .before .before .before .before .before .before .before .before .before .before .before .before .before .before .before .before .before .if1 .left)))
+    let is = handed (end (a .tick) (a .number)) (record { last = a .last .now; started = a .started .now; count = a .count-open .now; startPages = a .start-pages .now; startRoots = a .start-roots .now; endPages = a .end-pages .now; endRoots = a .end-roots .now }) (a .passes .now) (lentOf (a .start-table .now) (a .start-list .now) (a .end-table .now) (a .end-list .now)) _ _ _ (c .before .before .before .before .before .before .before .before .before .before .before .before .before .before .before .before .before .before .before .before .before .head-of .ensures) (c .before .before .before .before .before .before .before .before .before .before .before .before .before .before .before .before .before .before .end .ensures) in
+    (λ x. leaves-done (perform (storeIn (record { last = a .last .now; started = a .started .now; count = a .count-open .now; startPages = a .start-pages .now; startRoots = a .start-roots .now; endPages = a .end-pages .now; endRoots = a .end-roots .now }) (a .passes .now) (lentOf (a .start-table .now) (a .start-list .now) (a .end-table .now) (a .end-list .now))) (end (a .tick) (a .number))) (record { last = a .last .now; started = a .started .now; count = a .count-open .now; startPages = a .start-pages .now; startRoots = a .start-roots .now; endPages = a .end-pages .now; endRoots = a .end-roots .now }) (a .passes .now) (lentOf (a .start-table .now) (a .start-list .now) (a .end-table .now) (a .end-list .now)) _ (c .before .before .before .before .before .before .before .before .before .before .before .before .before .before .before .before .before .before .before .before .before .before .before .before .before .before .before .before .before .before .if1 .left) _ is _ (c .before .before .before .before .before .before .before .before .before .before .before .before .before .refusal-of .ensures) (c .before .before .before .before .before .before .before .before .before .before .before .before .if2 .left) _ _ (c .before .before .put-head .ensures .0) (c .before .before .put-head .ensures .1), λ n. absurd (n (c .before .before .before .before .before .before .before .before .before .before .before .before .before .before .before .before .before .before .before .before .before .before .before .before .before .before .before .before .before .before .if1 .left)))
 
 pub nimbleshale-end-spec : {M : Type 1} → statement M
 nimbleshale-end-spec =
