@@ -13,15 +13,17 @@ use Rattle.tree.specs.RowSteps.{Point}
 use Rattle.tree.specs.PointSums.{dominated}
 use Rattle.store.specs.Passes.{End, stillOpen, endedAt, Pass, sumWhere, countWhere}
 use Rattle.store.specs.Writing.{pointOf}
-use Rattle.store.specs.Points.{startPoints, endPointsOf, endPoints}
-use Rattle.store.specs.Book.{Book, isOpen, totals, bookSays}
+use Rattle.store.specs.declared.types.TreeName.{TreeName}
+use Rattle.store.specs.declared.types.TreeName.the-variants.{Starts, Ends}
+use Rattle.store.specs.Points.{endPointsOf, pointsOfPass, pointsOf}
+use Rattle.store.specs.Book.{Book, isOpen, says, bookSays}
 use Rattle.store.proofs.SumLaws.{sum-where-append, sum-where-one}
 use Rattle.pass_book.specs.declared.types.Asked.{Asked}
 use Rattle.pass_book.specs.declared.types.Asked.the-variants as ask
 use Rattle.pass_book.specs.declared.types.ListedPass.{ListedPass}
 use Rattle.pass_book.specs.PassList.{passOf, passAt, passesIn}
 use Rattle.pass_book.specs.BookCalls.{askedCall}
-use Rattle.pass_book.specs.Counted.{isBelow, endBelow, endsBelow, counts, worth, totalOf}
+use Rattle.pass_book.specs.Counted.{isBelow, endBelow, pointBelow, counts, worth, totalOf}
 use Rattle.pass_book.proofs.PassLaws.{end-open}
 
 -- A sum over one pass more
@@ -89,28 +91,29 @@ module _ (asked : Asked) (ws : List ℕ) (n : ℕ) (few : n < 4294967295) (p : L
 
 -- A sum over the points of the passes is one over the passes, where a number of a point is one of its pass
 module _ (f : Point → ℕ) (g : Pass → ℕ) (of-pass : (p : Pass) (tick : ℕ) → f (pointOf tick (p .key) (p .weight)) ≡ g p) (t k : ℕ) where
-  pub start-sums : (ps : List Pass) → sumWhere f (dominated t k) (startPoints ps) ≡ sumWhere g (λ (p : Pass). isBelow t k (p .start) (p .key)) ps
-  unfolding sumWhere startPoints
-  start-sums [] = refl
-  start-sums (p ∷ ps) =
-      ap₂ (λ (m n : ℕ). cond (isBelow t k (p .start) (p .key)) m 0 + n) (of-pass p (p .start)) (start-sums ps)
-
   end-sum : (p : Pass) (e : End) → sumWhere f (dominated t k) (endPointsOf p e) ≡ cond (endBelow t k (p .key) e) (g p) 0
   unfolding sumWhere
   end-sum p stillOpen = refl
   end-sum p (endedAt e) =
       sum-where-one f (dominated t k) (pointOf e (p .key) (p .weight)) ∙ ap (λ (m : ℕ). cond (isBelow t k e (p .key)) m 0) (of-pass p e)
 
-  pub end-sums : (ps : List Pass) → sumWhere f (dominated t k) (endPoints ps) ≡ sumWhere g (endsBelow t k) ps
-  unfolding sumWhere endPoints
-  end-sums [] = refl
-  end-sums (p ∷ ps) =
-      sum-where-append f (dominated t k) (endPointsOf p (p .end)) (endPoints ps) ∙ ap₂ (λ (m n : ℕ). m + n) (end-sum p (p .end)) (end-sums ps)
+  pass-sum : (name : TreeName) (p : Pass) → sumWhere f (dominated t k) (pointsOfPass name p) ≡ cond (pointBelow name t k p) (g p) 0
+  pass-sum Starts p =
+      sum-where-one f (dominated t k) (pointOf (p .start) (p .key) (p .weight))
+      ∙ ap (λ (m : ℕ). cond (isBelow t k (p .start) (p .key)) m 0) (of-pass p (p .start))
+  pass-sum Ends p = end-sum p (p .end)
+
+  pub tree-sums : (name : TreeName) (ps : List Pass) → sumWhere f (dominated t k) (pointsOf name ps) ≡ sumWhere g (pointBelow name t k) ps
+  unfolding sumWhere pointsOf
+  tree-sums name [] = refl
+  tree-sums name (p ∷ ps) =
+      sum-where-append f (dominated t k) (pointsOfPass name p) (pointsOf name ps) ∙ ap₂ (λ (m n : ℕ). m + n) (pass-sum name p) (tree-sums name ps)
 
 -- What the book says to a question or a lookup
-pub totals-said : (b : Book) (asked : Asked) → bookSays b (askedCall asked) ≡ totals (totalOf asked (b .passes) .count) (totalOf asked (b .passes) .sum)
+pub totals-said : (b : Book) (asked : Asked)
+    → bookSays b (askedCall asked) ≡ says (totalOf asked (b .passes) .count ∷ (totalOf asked (b .passes) .sum ∷ []))
 totals-said b (ask.Question k1 k2 t1 t2) = refl
-totals-said b (ask.LookupStarts t k) =
-    ap₂ totals (start-sums (λ (p : Point). p .value .count) (λ (p : Pass). 1) (λ p tick. refl) t k (b .passes)) (start-sums (λ (p : Point). p .value .sum) (λ (p : Pass). p .weight) (λ p tick. refl) t k (b .passes))
-totals-said b (ask.LookupEnds t k) =
-    ap₂ totals (end-sums (λ (p : Point). p .value .count) (λ (p : Pass). 1) (λ p tick. refl) t k (b .passes)) (end-sums (λ (p : Point). p .value .sum) (λ (p : Pass). p .weight) (λ p tick. refl) t k (b .passes))
+totals-said b (ask.Lookup tree t k) =
+    ap₂ (λ (count sum : ℕ). says (count ∷ (sum ∷ [])))
+    (tree-sums (λ (p : Point). p .value .count) (λ (p : Pass). 1) (λ p tick. refl) t k tree (b .passes))
+    (tree-sums (λ (p : Point). p .value .sum) (λ (p : Pass). p .weight) (λ p tick. refl) t k tree (b .passes))

@@ -8,13 +8,13 @@ use Rattle.words.specs.Words.{openEnd}
 use Rattle.store.specs.Calls.{Call, start, end}
 use Rattle.store.specs.Passes.{Pass}
 use Rattle.store.specs.declared.types.Answer.the-variants.{Refused}
-use Rattle.store.specs.Book.{Book, BookTurn, Fed, neither, lacksPages, lacksRoot, refused, unlessFed, unlessMet, bookRefusal, bookDoes, bookTurn}
+use Rattle.store.specs.Book.{Book, BookTurn, Fed, neither, pagesLacked, rootLacked, refused, unlessFed, unlessMet, bookRefusal, bookDoes, bookDone, bookTurn}
 use Rattle.pass_book.specs.declared.types.PassBook.{PassBook}
 use Rattle.pass_book.specs.declared.types.Asked.{Asked}
 use Rattle.pass_book.specs.declared.types.Asked.the-variants as ask
 use Rattle.pass_book.specs.BookCalls.{askedCall}
 use Rattle.pass_book.specs.PassList.{withPass, bookIn}
-use Rattle.pass_book.specs.Turns.{lacked, bookDone, TurnsAs}
+use Rattle.pass_book.specs.Turns.{lacked, TurnsAs}
 use Rattle.pass_book.proofs.PassLaws.{passes-more, passes-ended}
 
 module _ (b : Book) (c : Call) where
@@ -27,13 +27,13 @@ module _ (b : Book) (c : Call) where
 
   fed-refuses : (fed : Fed) (n : ℕ) → n ≡ lacked fed → (n ≡ 0 → ⊥) → unlessFed b (bookDone b c) fed ≡ stays n
   fed-refuses neither n is some = absurd (some is)
-  fed-refuses lacksPages n is some = rw is refl
-  fed-refuses lacksRoot n is some = rw is refl
+  fed-refuses pagesLacked n is some = rw is refl
+  fed-refuses rootLacked n is some = rw is refl
 
   fed-lets : (fed : Fed) (n : ℕ) → n ≡ lacked fed → n ≡ 0 → unlessFed b (bookDone b c) fed ≡ bookDone b c
   fed-lets neither n is none = refl
-  fed-lets lacksPages n is none = absurd (omega arith)
-  fed-lets lacksRoot n is none = absurd (omega arith)
+  fed-lets pagesLacked n is none = absurd (omega arith)
+  fed-lets rootLacked n is none = absurd (omega arith)
 
   pub turn-refused : (fed : Fed) (r : ℕ) → r ≡ bookRefusal b c → (r ≡ 0 → ⊥) → bookTurn b c fed ≡ stays r
   unfolding bookTurn
@@ -69,5 +69,4 @@ stays-as ws b n e = rw e (record { answer = refl; book = refl })
 -- "a question or a lookup": the book stays
 pub asked-stays : (b : Book) (asked : Asked) → bookDoes b (askedCall asked) ≡ b
 asked-stays b (ask.Question k1 k2 t1 t2) = refl
-asked-stays b (ask.LookupStarts t k) = refl
-asked-stays b (ask.LookupEnds t k) = refl
+asked-stays b (ask.Lookup tree t k) = refl

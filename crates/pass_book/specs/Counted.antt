@@ -5,26 +5,32 @@ use mathlib.Core.Bool.{Bool, false, cond, _&&_}
 use lib.Dec.{leb}
 use Rattle.words.specs.Value.{zero}
 use Rattle.words.specs.declared.value.Value.{Value}
+use Rattle.store.specs.declared.types.TreeName.{TreeName}
+use Rattle.store.specs.declared.types.TreeName.the-variants.{Starts, Ends}
 use Rattle.store.specs.Passes.{End, stillOpen, endedAt, Pass, meets, sumWhere, countWhere}
 use Rattle.pass_book.specs.declared.types.Asked.{Asked}
 use Rattle.pass_book.specs.declared.types.Asked.the-variants as ask
 
 -- "points with tick ≤ t and key ≤ k"
-abbrev pub isBelow : ℕ → ℕ → ℕ → ℕ → Bool
+abbrev pub isBelow : (t k tick key : ℕ) → Bool
 isBelow t k tick key = leb tick t && leb key k
 
 -- "once ended, a point of the ends tree at its end"
-abbrev pub endBelow : ℕ → ℕ → ℕ → End → Bool
+abbrev pub endBelow : (t k key : ℕ) → End → Bool
 endBelow t k key stillOpen = false
 endBelow t k key (endedAt e) = isBelow t k e key
 
-abbrev pub endsBelow : ℕ → ℕ → Pass → Bool
+abbrev pub endsBelow : (t k : ℕ) → Pass → Bool
 endsBelow t k p = endBelow t k (p .key) (p .end)
+
+-- A pass as a point of a tree
+abbrev pub pointBelow : TreeName → (t k : ℕ) → Pass → Bool
+pointBelow Starts t k p = isBelow t k (p .start) (p .key)
+pointBelow Ends t k p = endsBelow t k p
 
 abbrev pub counts : Asked → Pass → Bool
 counts (ask.Question k1 k2 t1 t2) p = meets k1 k2 t1 t2 p
-counts (ask.LookupStarts t k) p = isBelow t k (p .start) (p .key)
-counts (ask.LookupEnds t k) p = endsBelow t k p
+counts (ask.Lookup tree t k) p = pointBelow tree t k p
 
 -- What a weight adds where its pass counts or not
 abbrev pub worth : ℕ → Bool → Value

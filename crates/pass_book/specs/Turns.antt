@@ -4,19 +4,15 @@ use mathlib.Core.Path.{_≡_}
 use mathlib.Core.List.{List}
 use Rattle.store.specs.Calls.{Call}
 use Rattle.store.specs.declared.types.Answer.{Answer}
-use Rattle.store.specs.Book.{Book, BookTurn, Fed, neither, lacksPages, lacksRoot, bookPart, bookDoes, bookSays}
+use Rattle.store.specs.Book.{Book, BookTurn, Fed, neither, pagesLacked, rootLacked, bookPart, bookSays}
 use Rattle.pass_book.specs.declared.types.Turn.{Turn}
 use Rattle.pass_book.specs.PassList.{bookIn}
 
 -- 27 or 28, or 0
 abbrev pub lacked : Fed → ℕ
 lacked neither = 0
-lacked lacksPages = 27
-lacked lacksRoot = 28
-
--- The turn of a call that is not refused
-abbrev pub bookDone : Book → Call → BookTurn
-bookDone b c = record { book = bookDoes b c; answer = bookSays b c }
+lacked pagesLacked = 27
+lacked rootLacked = 28
 
 -- The answer is the book's
 abbrev pub SaysAs : Answer → Book → Call → Type 0

@@ -5,26 +5,31 @@ use crate::types::Asked;
 use crate::types::Call;
 use crate::types::ListedPass;
 use crate::types::PassBook;
+use store::Head;
+use store::OpenPass;
 ghost use mathlib.Core.Path.{_≡_};
 ghost use Prim.Native.Nat.{_*_, _≤_};
 ghost use lib.ListN.{length};
 ghost use Rattle.store.specs.Refusals.{firstMet};
-ghost use Rattle.store.specs.Book.{Book, startGrounds, endGrounds, questionGrounds, lookupGrounds, bookRefusal};
+ghost use mathlib.Core.List.{[], _∷_};
+ghost use Rattle.store.specs.Calls.{start, end, question};
+ghost use Rattle.store.specs.Grounds.{keyTooHigh, noTick, argumentGrounds};
+ghost use Rattle.store.specs.Book.{Book, bookRefusal};
 ghost use Rattle.pass_book.specs.PassList.{passOf, bookIn};
 ghost use Rattle.pass_book.specs.BookCalls.{callOf, askedCall};
 ghost use Rattle.pass_book.specs.Grounds.{passGrounds};
 
 fn start_refusal(passes: &[u32], book: PassBook, tick: u32, key: u32, weight: u32) -> u8
     requires { ⌜ book .started * 4 ≤ length (now passes) ⌝ }
-    ensures { λ r. ⌜ r ≡ firstMet (startGrounds (bookIn (now (passes .entry)) book) tick key weight) ⌝ }
+    ensures { λ r. ⌜ r ≡ bookRefusal (bookIn (now (passes .entry)) book) (start tick key weight) ⌝ }
 {
-    if 30000 <= key {
+    if OpenPass::KEY_LIMIT <= key {
         return 1;
     }
     if weight == 0 {
         return 3;
     }
-    if 10000 < weight {
+    if OpenPass::HEAVIEST < weight {
         return 3;
     }
     if tick == words::OPEN {
@@ -34,10 +39,10 @@ fn start_refusal(passes: &[u32], book: PassBook, tick: u32, key: u32, weight: u3
         return 21;
     }
     let open = open_count(passes, book.started);
-    if 64 <= open {
+    if Head::OPEN_LIMIT <= open {
         return 24;
     }
-    if 1000000 <= book.started {
+    if Head::PASS_LIMIT <= book.started {
         return 25;
     }
     0
@@ -58,7 +63,7 @@ fn pass_refusal(pass: ListedPass, tick: u32) -> u8
 
 fn end_refusal(passes: &[u32], book: PassBook, tick: u32, number: u32) -> u8
     requires { ⌜ book .started * 4 ≤ length (now passes) ⌝ }
-    ensures { λ r. ⌜ r ≡ firstMet (endGrounds (bookIn (now (passes .entry)) book) tick number) ⌝ }
+    ensures { λ r. ⌜ r ≡ bookRefusal (bookIn (now (passes .entry)) book) (end tick number) ⌝ }
 {
     if tick == words::OPEN {
         return 4;
@@ -73,12 +78,12 @@ fn end_refusal(passes: &[u32], book: PassBook, tick: u32, number: u32) -> u8
 }
 
 fn question_refusal(k1: u32, k2: u32, t1: u32, t2: u32) -> u8
-    ensures { λ r. ⌜ r ≡ firstMet (questionGrounds k1 k2 t1 t2) ⌝ }
+    ensures { λ r. ⌜ r ≡ firstMet (argumentGrounds (question k1 k2 t1 t2)) ⌝ }
 {
-    if 30000 <= k1 {
+    if OpenPass::KEY_LIMIT <= k1 {
         return 1;
     }
-    if 30000 < k2 {
+    if OpenPass::KEY_LIMIT < k2 {
         return 1;
     }
     if k2 <= k1 {
@@ -91,9 +96,9 @@ fn question_refusal(k1: u32, k2: u32, t1: u32, t2: u32) -> u8
 }
 
 fn lookup_refusal(t: u32, k: u32) -> u8
-    ensures { λ r. ⌜ r ≡ firstMet (lookupGrounds t k) ⌝ }
+    ensures { λ r. ⌜ r ≡ firstMet (keyTooHigh k ∷ (noTick t ∷ [])) ⌝ }
 {
-    if 30000 <= k {
+    if OpenPass::KEY_LIMIT <= k {
         return 1;
     }
     if t == words::OPEN {
@@ -107,8 +112,7 @@ fn asked_refusal(asked: Asked) -> u8
 {
     match asked {
         Asked::Question { k1, k2, t1, t2 } => question_refusal(k1, k2, t1, t2),
-        Asked::LookupStarts { t, k } => lookup_refusal(t, k),
-        Asked::LookupEnds { t, k } => lookup_refusal(t, k),
+        Asked::Lookup { tree: _, t, k } => lookup_refusal(t, k),
     }
 }
 

@@ -2,13 +2,14 @@
 use crate::list::pass_at;
 use crate::types::Asked;
 use crate::types::ListedPass;
+use store::TreeName;
 use words::Value;
 ghost use mathlib.Core.Path.{_≡_};
 ghost use Prim.Native.Nat.{_*_, _≤_};
 ghost use lib.ListN.{length};
 ghost use Rattle.store.specs.Passes.{meets};
 ghost use Rattle.pass_book.specs.PassList.{passOf, passesIn};
-ghost use Rattle.pass_book.specs.Counted.{isBelow, endsBelow, counts, worth, totalOf};
+ghost use Rattle.pass_book.specs.Counted.{isBelow, endsBelow, pointBelow, counts, worth, totalOf};
 
 // "the passes with k1 ≤ key < k2, s < t2, and either open or e > t1"
 fn meets_band(pass: ListedPass, k1: u32, k2: u32, t1: u32, t2: u32) -> bool
@@ -49,14 +50,23 @@ fn ends_below(pass: ListedPass, t: u32, k: u32) -> bool
     is_below(pass.end, pass.key, t, k)
 }
 
+// Whether a pass is a point of a tree that a lookup adds.
+fn point_below(pass: ListedPass, tree: TreeName, t: u32, k: u32) -> bool
+    ensures { λ r. ⌜ r ≡ pointBelow tree t k (passOf pass) ⌝ }
+{
+    match tree {
+        TreeName::Starts => is_below(pass.start, pass.key, t, k),
+        TreeName::Ends => ends_below(pass, t, k),
+    }
+}
+
 // Whether a pass counts in a question or a lookup.
 fn is_counted(pass: ListedPass, asked: Asked) -> bool
     ensures { λ r. ⌜ r ≡ counts asked (passOf pass) ⌝ }
 {
     match asked {
         Asked::Question { k1, k2, t1, t2 } => meets_band(pass, k1, k2, t1, t2),
-        Asked::LookupStarts { t, k } => is_below(pass.start, pass.key, t, k),
-        Asked::LookupEnds { t, k } => ends_below(pass, t, k),
+        Asked::Lookup { tree, t, k } => point_below(pass, tree, t, k),
     }
 }
 

@@ -15,10 +15,10 @@ ghost use lib.ListN.{length};
 ghost use Rattle.words.specs.Words.{openEnd};
 ghost use Rattle.store.specs.Head.{passLimit};
 ghost use Rattle.store.specs.Calls.{start, end};
-ghost use Rattle.store.specs.Book.{fedBy, bookRefusal, bookDoes, bookTurn};
+ghost use Rattle.store.specs.Book.{fedBy, bookRefusal, bookDoes, bookDone, bookTurn};
 ghost use Rattle.pass_book.specs.PassList.{bookIn};
 ghost use Rattle.pass_book.specs.BookCalls.{callOf, askedCall};
-ghost use Rattle.pass_book.specs.Turns.{lacked, bookDone, SaysAs, TurnsAs};
+ghost use Rattle.pass_book.specs.Turns.{lacked, SaysAs, TurnsAs};
 
 // 27 or 28, where the store's answer was one of them, else 0: of its answers the book is fed no more.
 fn lacking(refusal: u8) -> u8

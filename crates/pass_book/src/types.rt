@@ -1,5 +1,6 @@
 // What the book takes and gives.
 use store::Answer;
+use store::TreeName;
 
 // A pass as the list has it, in four numbers. Its end is 4,294,967,295 while it is open.
 pub struct ListedPass {
@@ -18,8 +19,7 @@ pub struct PassBook {
 // The calls that only read, and so are answered with totals or refused.
 pub enum Asked {
     Question { k1: u32, k2: u32, t1: u32, t2: u32 },
-    LookupStarts { t: u32, k: u32 },
-    LookupEnds { t: u32, k: u32 },
+    Lookup { tree: TreeName, t: u32, k: u32 },
 }
 
 pub enum Call {

@@ -41,7 +41,7 @@ ended-length number tick [] = refl
 ended-length zero tick (p ∷ passes) = refl
 ended-length (suc number) tick (p ∷ passes) = ap suc (ended-length number tick passes)
 
-open-inside : (number : ℕ) (passes : List Pass) → getD passes number neverStarted .end ≡ stillOpen → number < length passes
+pub open-inside : (number : ℕ) (passes : List Pass) → getD passes number neverStarted .end ≡ stillOpen → number < length passes
 open-inside number [] e = absurd (false≢true (ap notEnded e))
 open-inside zero (p ∷ passes) e = omega arith
 open-inside (suc number) (p ∷ passes) e = omega (arith, open-inside number passes e)
@@ -55,7 +55,7 @@ ended-kept zero tick (p ∷ passes) s h =
 ended-kept (suc number) tick (p ∷ passes) s h = (h .0, ended-kept number tick passes s (h .1))
 
 -- A pass that is sought and found open
-found-open : (p : Pass) (e : End) (began : ℕ) → openOr p e ≡ openSince began → (e ≡ stillOpen) × (began ≡ p .start)
+pub found-open : (p : Pass) (e : End) (began : ℕ) → openOr p e ≡ openSince began → (e ≡ stillOpen) × (began ≡ p .start)
 found-open p stillOpen began is = (refl, sym (ap began-at is))
   where
     began-at : Sought → ℕ

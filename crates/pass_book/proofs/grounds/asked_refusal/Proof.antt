@@ -15,12 +15,6 @@ enum-known-asked-2 c = search needs
 lookup-refusal-requires : tie.Need-lookup-refusal-requires
 lookup-refusal-requires c κs = search needs
 
-enum-known-asked-3 : tie.Need-enum-known-asked-3
-enum-known-asked-3 c = search needs
-
-lookup-refusal-requires-2 : tie.Need-lookup-refusal-requires-2
-lookup-refusal-requires-2 c κs = search needs
-
 returns : tie.Need-returns
 unfolding bookRefusal
 returns c = λ b. rw (c .before .before .asked .given .1) (c .question-refusal .ensures)
@@ -28,10 +22,6 @@ returns c = λ b. rw (c .before .before .asked .given .1) (c .question-refusal .
 returns-2 : tie.Need-returns-2
 unfolding bookRefusal
 returns-2 c = λ b. rw (c .before .before .asked2 .given .1) (c .lookup-refusal .ensures)
-
-returns-3 : tie.Need-returns-3
-unfolding bookRefusal
-returns-3 c = λ b. rw (c .before .before .asked3 .given .1) (c .lookup-refusal2 .ensures)
 
 pub asked-refusal-spec : {M : Type 1} → statement M
 asked-refusal-spec =
@@ -41,8 +31,5 @@ asked-refusal-spec =
     question-refusal-requires
     enum-known-asked-2
     lookup-refusal-requires
-    enum-known-asked-3
-    lookup-refusal-requires-2
     returns
-    returns-2
-    returns-3)
+    returns-2)

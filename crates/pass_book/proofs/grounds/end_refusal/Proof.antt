@@ -5,20 +5,21 @@ use Rattle.pass_book.specs.Grounds.{passGrounds}
 use Rattle.pass_book.proofs.GroundLaws.{end-unknown, end-by-pass}
 use Rattle.tree.proofs.ReplacedRows.{tests}
 use Rattle.store.specs.Refusals.{firstMet}
+use Rattle.store.specs.Book.{bookRefusal}
 use borrow.Author.Needs.{needs}
 use Rattle.pass_book.proofs.grounds.end_refusal.Statement.{statement}
 use Rattle.pass_book.proofs.grounds.end_refusal.Tie as tie
 
 returns : tie.Need-returns
-unfolding firstMet
+unfolding bookRefusal firstMet
 returns c = search (needs, tests)
 
 returns-2 : tie.Need-returns-2
-unfolding firstMet
+unfolding bookRefusal firstMet
 returns-2 c = search (needs, tests)
 
 returns-3 : tie.Need-returns-3
-unfolding firstMet
+unfolding bookRefusal firstMet
 returns-3 c =
     let second = c .before .before in
     let first = second .before .before in
@@ -31,7 +32,7 @@ pass-refusal-requires : tie.Need-pass-refusal-requires
 pass-refusal-requires c κs = search needs
 
 returns-4 : tie.Need-returns-4
-unfolding firstMet
+unfolding bookRefusal firstMet
 returns-4 c =
     let known = c .before .before in
     let second = known .before .before in

@@ -1,4 +1,5 @@
 use Rattle.store.specs.Refusals.{firstMet}
+use Rattle.store.specs.Book.{bookRefusal}
 use Rattle.tree.proofs.ReplacedRows.{tests}
 use Rattle.pass_book.proofs.GroundLaws.{start-all-open, start-all-started, start-accepted}
 use borrow.Author.Needs.{needs}
@@ -6,23 +7,23 @@ use Rattle.pass_book.proofs.grounds.start_refusal.Statement.{statement}
 use Rattle.pass_book.proofs.grounds.start_refusal.Tie as tie
 
 returns : tie.Need-returns
-unfolding firstMet
+unfolding bookRefusal firstMet
 returns c = search (needs, tests)
 
 returns-2 : tie.Need-returns-2
-unfolding firstMet
+unfolding bookRefusal firstMet
 returns-2 c = search (needs, tests)
 
 returns-3 : tie.Need-returns-3
-unfolding firstMet
+unfolding bookRefusal firstMet
 returns-3 c = search (needs, tests)
 
 returns-4 : tie.Need-returns-4
-unfolding firstMet
+unfolding bookRefusal firstMet
 returns-4 c = search (needs, tests)
 
 returns-5 : tie.Need-returns-5
-unfolding firstMet
+unfolding bookRefusal firstMet
 returns-5 c = search (needs, tests)
 
 open-count-requires : tie.Need-open-count-requires

@@ -1,6 +1,8 @@
 use Rattle.pass_book.proofs.TurnLaws.{asked-stays}
 use mathlib.Core.Path.{refl, ap, sym}
-use Rattle.store.specs.Book.{started as said-number}
+use Prim.Native.Nat.{ℕ}
+use mathlib.Core.List.{[], _∷_}
+use Rattle.store.specs.Book.{says}
 use Rattle.pass_book.specs.PassList.{passesIn}
 use Rattle.pass_book.proofs.PassLaws.{passes-length}
 use Rattle.pass_book.proofs.GroundLaws.{started-few, end-known, end-early}
@@ -45,7 +47,7 @@ returns-2 : tie.Need-returns-2
 returns-2 c =
     let done = c .before .before in
     let a = done .before .before .before .before .before .before .args in
-    rw (done .before .before .before .call .given .1) (record { answer = ap said-number (sym (passes-length (a .passes .now) (a .book .started))); book = done .with-start .ensures })
+    rw (done .before .before .before .call .given .1) (record { answer = ap (λ (n : ℕ). says (n ∷ [])) (sym (passes-length (a .passes .now) (a .book .started))); book = done .with-start .ensures })
 
 same-length-2 : tie.Need-same-length-2
 same-length-2 c = search needs
