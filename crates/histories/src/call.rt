@@ -3,7 +3,28 @@ use pass_book::Asked;
 use pass_book::Call;
 use store::Answer;
 use store::Head;
+use store::TreeName;
 use updates::Reply;
+
+fn look_up(
+    head: Head,
+    start_table: &[u64],
+    start_roots: &[u64],
+    end_table: &[u64],
+    end_roots: &[u64],
+    tree: TreeName,
+    t: u32,
+    k: u32,
+) -> Answer {
+    match tree {
+        TreeName::Starts => {
+            queries::lookup_starts(head, start_table, start_roots, end_table, end_roots, t, k)
+        }
+        TreeName::Ends => {
+            queries::lookup_ends(head, start_table, start_roots, end_table, end_roots, t, k)
+        }
+    }
+}
 
 fn ask(
     head: Head,
@@ -25,12 +46,16 @@ fn ask(
             t1,
             t2,
         ),
-        Asked::LookupStarts { t, k } => {
-            queries::lookup_starts(head, start_table, start_roots, end_table, end_roots, t, k)
-        }
-        Asked::LookupEnds { t, k } => {
-            queries::lookup_ends(head, start_table, start_roots, end_table, end_roots, t, k)
-        }
+        Asked::Lookup { tree, t, k } => look_up(
+            head,
+            start_table,
+            start_roots,
+            end_table,
+            end_roots,
+            tree,
+            t,
+            k,
+        ),
     }
 }
 

@@ -1,6 +1,7 @@
 // Pages opened, by the words that the store holds: the lengths of the paths of a question's or a lookup's lookups.
 use pass_book::Asked;
 use store::Head;
+use store::TreeName;
 ghost use Prim.Native.Nat.{_≤_};
 
 // A word of a lent slice, and 0 beyond its end.
@@ -129,10 +130,10 @@ pub fn pages_opened(
             t1,
             t2,
         ),
-        Asked::LookupStarts { t, k } => {
-            path_length(start_table, start_roots, head.starts.roots, t, k)
-        }
-        Asked::LookupEnds { t, k } => path_length(end_table, end_roots, head.ends.roots, t, k),
+        Asked::Lookup { tree, t, k } => match tree {
+            TreeName::Starts => path_length(start_table, start_roots, head.starts.roots, t, k),
+            TreeName::Ends => path_length(end_table, end_roots, head.ends.roots, t, k),
+        },
     }
 }
 

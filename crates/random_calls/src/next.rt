@@ -12,6 +12,7 @@ use pass_book::Asked;
 use pass_book::Call;
 use pass_book::PassBook;
 use pass_book::open_count;
+use store::TreeName;
 ghost use mathlib.Core.Path.{_≡_};
 ghost use Prim.Native.Nat.{_≤_, _<_, min, max};
 
@@ -103,13 +104,18 @@ fn question_call(random: &mut u64, shape: Shape, book: PassBook) -> Call {
     })
 }
 
+fn drawn_tree(random: &mut u64) -> TreeName {
+    if one_in(random, 2) {
+        return TreeName::Starts;
+    }
+    TreeName::Ends
+}
+
 fn lookup_call(random: &mut u64, shape: Shape, book: PassBook) -> Call {
     let t = asked_tick(random, book.last);
     let k = asked_key(random, shape, book);
-    if one_in(random, 2) {
-        return Call::Ask(Asked::LookupStarts { t, k });
-    }
-    Call::Ask(Asked::LookupEnds { t, k })
+    let tree = drawn_tree(random);
+    Call::Ask(Asked::Lookup { tree, t, k })
 }
 
 // The next call. Once in `anew` times, and where the list has no room for another pass, it is an opening anew; now and then it is one to be

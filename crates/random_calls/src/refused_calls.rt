@@ -3,6 +3,7 @@ use crate::random::draw;
 use pass_book::Asked;
 use pass_book::Call;
 use pass_book::PassBook;
+use store::TreeName;
 
 fn odd_key(random: &mut u64) -> u32 {
     match draw(random, 6) {
@@ -56,8 +57,16 @@ pub fn odd_call(random: &mut u64, book: PassBook) -> Call {
             tick: at,
             number: draw(random, book.started % 1000000 + 1),
         },
-        2 => Call::Ask(Asked::LookupStarts { t: at, k: of }),
-        3 => Call::Ask(Asked::LookupEnds { t: at, k: of }),
+        2 => Call::Ask(Asked::Lookup {
+            tree: TreeName::Starts,
+            t: at,
+            k: of,
+        }),
+        3 => Call::Ask(Asked::Lookup {
+            tree: TreeName::Ends,
+            t: at,
+            k: of,
+        }),
         _ => odd_question(random, book.last),
     }
 }

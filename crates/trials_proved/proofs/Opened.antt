@@ -1,4 +1,4 @@
--- P2 for any memory that opening takes: in a store just opened the head fits, and a lookup in either tree finds nothing in one page.
+-- P2 for any memory that opening takes: in a store just opened the head fits, and a lookup in each tree finds nothing in one page.
 use Prim.Native.Nat.{ℕ, zero, suc, _/_, _≤_, _<_, zero-le}
 use native.Mathlib.Omega.{arith}
 use mathlib.Core.Path.{_≡_, refl, sym, ap, ap₂, subst, _∙_}
@@ -15,12 +15,16 @@ use Rattle.tree.specs.Tree.{Tree}
 use Rattle.tree.specs.Lookup.{lookup}
 use Rattle.store.specs.declared.types.Answer.{Answer}
 use Rattle.store.specs.declared.types.Answer.the-variants.{Refused, Opened, Started, Ended, Totals}
-use Rattle.store.specs.Head.{Lent, Store, headFits, useFits, openedHead, startsTree, endsTree}
-use Rattle.store.specs.Refusals.{firstMet}
-use Rattle.store.specs.Answers.{Answered, unlessRefused}
-use Rattle.store.specs.Writing.{openedLent, openingRefusal, openStore}
 use Rattle.tree.specs.Grown.{firstPage}
-use Rattle.store.specs.Reading.{lookupRefusal, lookupIn, lookUpStarts, lookUpEnds}
+use Rattle.store.specs.declared.types.TreeName.{TreeName}
+use Rattle.store.specs.declared.types.TreeName.the-variants.{Starts, Ends}
+use Rattle.store.specs.Trees.{LentTree, Lent, Store, treeIn}
+use Rattle.store.specs.Head.{headFits, useFits}
+use Rattle.store.specs.Refusals.{firstMet}
+use Rattle.store.specs.Calls.{opening, lookupIn}
+use Rattle.store.specs.Answers.{Answered, unlessRefused}
+use Rattle.store.specs.Writing.{openedStore}
+use Rattle.store.specs.Performing.{refusal, served, perform}
 use Rattle.trials_proved.specs.Computing.{computing}
 
 -- The tree that opening makes, over whatever else the slices hold
@@ -41,21 +45,17 @@ one-page rest = rw (length-append firstPage rest, page-long) (omega arith)
 use-fits : (rest roots : List ℕ) → useFits (firstTree rest roots) ≡ true
 use-fits rest roots = rw (le-leb 1 _ (one-page rest), le-leb 1 (suc (length roots)) (omega arith)) refl
 
--- The store that opening leaves
-abbrev openedStore : Lent → Store
-openedStore m = record { head = openedHead; lent = openedLent m }
-
 head-fits : (m : Lent) → headFits (openedStore m) ≡ true
 unfolding computing
 head-fits m =
-    ap₂ _&&_ (use-fits (drop pageWords (m .startTable)) (drop 1 (m .startRoots)))
-    (use-fits (drop pageWords (m .endTable)) (drop 1 (m .endRoots)))
+    ap₂ _&&_ (use-fits (drop pageWords (m .starts .table)) (drop 1 (m .starts .roots)))
+    (use-fits (drop pageWords (m .ends .table)) (drop 1 (m .ends .roots)))
 
 -- A lookup that no refusal stops says what it found
-lookup-says : (s : Store) (found : Lookup) (t k : ℕ) → t < openEnd → k < keyLimit → headFits s ≡ true → found ≡ Found nothing 1
-    → lookupIn s found t k .answer ≡ Totals 0 0 1
-unfolding lookupRefusal firstMet
-lookup-says s found t k ht hk fits e = simp (e, lt-leb keyLimit k hk, ne-eqb t openEnd (λ (same : t ≡ openEnd). omega arith), fits)
+lookup-says : (s : Store) (tree : TreeName) (t k : ℕ) → t < openEnd → k < keyLimit → headFits s ≡ true → lookup (treeIn s tree) t k ≡ Found nothing 1
+    → perform s (lookupIn tree t k) .answer ≡ Totals 0 0 1
+unfolding refusal served firstMet
+lookup-says s tree t k ht hk fits e = simp (e, lt-leb keyLimit k hk, ne-eqb t openEnd (λ (same : t ≡ openEnd). omega arith), fits)
 
 -- No refusal is the answer `Opened`
 abbrev IsOpened : Answer → Type 0
@@ -69,26 +69,17 @@ unrefused : (n : ℕ) (s : Store) (done : Answered) → unlessRefused n s done .
 unrefused zero s done e = refl
 unrefused (suc n) s done e = absurd (subst IsOpened (sym e) tt)
 
-opened-store : (s : Store) → openStore s .answer ≡ Opened → openStore s .store ≡ openedStore (s .lent)
-unfolding openStore
-opened-store s e =
-    ap (λ (a : Answered). a .store) (unrefused (openingRefusal (s .lent)) s (record { answer = Opened; store = openedStore (s .lent) }) e)
+opened-store : (s : Store) → perform s opening .answer ≡ Opened → perform s opening .store ≡ openedStore (s .lent)
+unfolding served
+opened-store s e = ap (λ (a : Answered). a .store) (unrefused (refusal s opening) s (served s opening) e)
 
-module _ (s : Store) (opened : openStore s .answer ≡ Opened) (t k : ℕ) (ht : t < openEnd) (hk : k < keyLimit) where
-  -- The store that opening leaves over this memory
-  abbrev o : Store
-  o = openedStore (s .lent)
+nothing-in : (m : Lent) (tree : TreeName) (t k : ℕ) → t < openEnd → k < keyLimit → lookup (treeIn (openedStore m) tree) t k ≡ Found nothing 1
+unfolding computing
+nothing-in m Starts t k ht hk = nothing-found (drop pageWords (m .starts .table)) (drop 1 (m .starts .roots)) t k ht hk
+nothing-in m Ends t k ht hk = nothing-found (drop pageWords (m .ends .table)) (drop 1 (m .ends .roots)) t k ht hk
 
-  pub starts-empty : lookUpStarts (openStore s .store) t k .answer ≡ Totals 0 0 1
-  unfolding computing
-  starts-empty =
-      ap (λ (x : Store). lookUpStarts x t k .answer) (opened-store s opened)
-      ∙ lookup-says o (lookup (startsTree o) t k) t k ht hk (head-fits (s .lent))
-      (nothing-found (drop pageWords (s .lent .startTable)) (drop 1 (s .lent .startRoots)) t k ht hk)
-
-  pub ends-empty : lookUpEnds (openStore s .store) t k .answer ≡ Totals 0 0 1
-  unfolding computing
-  ends-empty =
-      ap (λ (x : Store). lookUpEnds x t k .answer) (opened-store s opened)
-      ∙ lookup-says o (lookup (endsTree o) t k) t k ht hk (head-fits (s .lent))
-      (nothing-found (drop pageWords (s .lent .endTable)) (drop 1 (s .lent .endRoots)) t k ht hk)
+pub opened-empty : (s : Store) → perform s opening .answer ≡ Opened → (tree : TreeName) (t k : ℕ) → t < openEnd → k < keyLimit
+    → perform (perform s opening .store) (lookupIn tree t k) .answer ≡ Totals 0 0 1
+opened-empty s opened tree t k ht hk =
+    ap (λ (x : Store). perform x (lookupIn tree t k) .answer) (opened-store s opened)
+    ∙ lookup-says (openedStore (s .lent)) tree t k ht hk (head-fits (s .lent)) (nothing-in (s .lent) tree t k ht hk)

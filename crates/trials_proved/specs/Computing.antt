@@ -13,11 +13,9 @@ use Rattle.tree.specs.RowSteps.{gainRows, leafRows, relinkRow}
 use Rattle.tree.specs.Overflow.{finishPage}
 use Rattle.tree.specs.Enter.{enterFrom, enterRoot}
 use Rattle.tree.specs.Plan.{descentSound, plan, enter}
-use Rattle.store.specs.Head.{passesFit, numbersRise, headFits}
+use Rattle.store.specs.Head.{findPass, passesFit, numbersRise, headFits}
 use Rattle.store.specs.Refusals.{firstMet}
-use Rattle.store.specs.Writing.{openingRefusal, openStore, startRefusal, startPass, findPass, endRefusal, endPass}
-use Rattle.store.specs.Reading.{lookupRefusal, lookUpStarts, lookUpEnds, questionRefusal, askQuestion}
-use Rattle.store.specs.Calls.{performAll, storeAfter}
+use Rattle.store.specs.Performing.{refusal, served, performAll, storeAfter}
 use Rattle.command.specs.Bytes.{numberOf, bytesOf}
 use Rattle.command.specs.Stream.{runFor, programLent, programStore, output}
 
@@ -30,11 +28,11 @@ unfolding pages rootFor lookupFrom lookup gainRows leafRows relinkRow finishPage
 trees = tt
 
 unfoldable pub refusals : Unit {0}
-unfolding passesFit numbersRise headFits firstMet openingRefusal startRefusal endRefusal lookupRefusal questionRefusal
+unfolding findPass passesFit numbersRise headFits firstMet refusal
 refusals = tt
 
 unfoldable pub calls : Unit {0}
-unfolding trees refusals openStore startPass findPass endPass lookUpStarts lookUpEnds askQuestion performAll storeAfter
+unfolding trees refusals served performAll storeAfter
 calls = tt
 
 unfoldable pub computing : Unit {0}

@@ -1,11 +1,20 @@
--- What the trials of document 01's table start from: the bytes of P1, and the program's store just opened.
-use Prim.Native.Nat.{ℕ}
+-- Document 01, "Table of trials (P: proved)": P1 to P8, of the definitions. `proofs/Table` proves it.
+use Prim.Native.Nat.{ℕ, _<_}
+use mathlib.Core.Path.{_≡_}
 use mathlib.Core.List.{List, [], _∷_, _++_}
 use lib.ListN.{replicate}
+use Rattle.words.specs.Words.{keyLimit, openEnd}
+use Rattle.tree.specs.Row.{word, rowStart, rowAt}
+use Rattle.tree.specs.Fresh.{newRow}
 use Rattle.store.specs.declared.types.Answer.{Answer}
-use Rattle.store.specs.Head.{Store, openedHead}
-use Rattle.store.specs.Calls.{Call, performAll, storeAfter}
-use Rattle.command.specs.Stream.{programLent, programStore}
+use Rattle.store.specs.declared.types.Answer.the-variants.{Refused, Opened, Started, Ended, Totals}
+use Rattle.store.specs.declared.types.TreeName.{TreeName}
+use Rattle.store.specs.declared.types.TreeName.the-variants.{Starts}
+use Rattle.store.specs.Trees.{Store}
+use Rattle.store.specs.Head.{openedHead}
+use Rattle.store.specs.Calls.{Call, opening, start, end, question, lookupIn}
+use Rattle.store.specs.Performing.{perform, performAll, storeAfter}
+use Rattle.command.specs.Stream.{programLent, programStore, output}
 
 -- "01 0A000000 9411 6400; 01 14000000 9808 3200; 02 1E000000 00000000;
 -- 03 A00F 8813 1E000000 28000000; 03 0000 3075 19000000 1A000000; 02 1E000000 00000000"
@@ -38,3 +47,33 @@ answers calls = performAll programStore calls
 
 abbrev pub after : List Call → Store
 after calls = storeAfter programStore calls
+
+-- One row for each trial, under its words
+pub record Table : Type 0 where
+  -- P1. "Whole input (hexadecimal): .. Whole output: .."
+  pub p1 : output p1Input ≡ p1Output
+  -- P2. "Lookup in an opened store: 0, 0, one page." Over any memory that opening takes, at any tick and key, in each tree
+  pub p2 : (perform programMemory opening .answer ≡ Opened)
+      × ((s : Store) → perform s opening .answer ≡ Opened → (tree : TreeName) (t k : ℕ) → t < openEnd → k < keyLimit
+      → perform (perform s opening .store) (lookupIn tree t k) .answer ≡ Totals 0 0 1)
+  -- P3. "Key 29,999 accepted, 30,000 gives 1." The refusal in any store, whatever the tick and the weight
+  pub p3 : (perform programStore (start 0 29999 100) .answer ≡ Started 0)
+      × ((s : Store) (tick weight : ℕ) → perform s (start tick 30000 weight) .answer ≡ Refused 1)
+  -- P4. "Weight 1 and 10,000 accepted; 0 and 10,001 give 3." The refusals in any store, whatever the tick and the key below 30,000
+  pub p4 : (perform programStore (start 0 4500 1) .answer ≡ Started 0)
+      × (perform programStore (start 0 4500 10000) .answer ≡ Started 0)
+      × ((s : Store) (tick key : ℕ) → key < keyLimit → perform s (start tick key 0) .answer ≡ Refused 3)
+      × ((s : Store) (tick key : ℕ) → key < keyLimit → perform s (start tick key 10001) .answer ≡ Refused 3)
+  -- P5. "A tick equal to the last accepted; one less gives 21." In a start and in an end
+  pub p5 : answers (start 10 4500 100 ∷ start 20 2200 50 ∷ start 20 2200 50 ∷ start 19 2200 50 ∷ end 19 0 ∷ end 20 0 ∷ [])
+      ≡ Started 0 ∷ Started 1 ∷ Started 2 ∷ Refused 21 ∷ Refused 21 ∷ Ended ∷ []
+  -- P6. "A pass of ticks 10 to 30 is counted in 29 to 30, not in 30 to 40."
+  pub p6 : answers (start 10 4500 100 ∷ end 30 0 ∷ question 4500 4501 29 30 ∷ question 4500 4501 30 40 ∷ [])
+      ≡ Started 0 ∷ Ended ∷ Totals 1 100 4 ∷ Totals 0 0 4 ∷ []
+  -- P7. "End at the start tick gives 23, one later is accepted."
+  pub p7 : answers (start 10 4500 100 ∷ end 10 0 ∷ end 11 0 ∷ []) ≡ Started 0 ∷ Refused 23 ∷ Ended ∷ []
+  -- P8. "Two starts at tick 0, key 0: still one row, count 2." Word 1 of page 0 of the starts, its one row, and what a lookup says
+  pub p8 : (word (after (start 0 0 100 ∷ start 0 0 50 ∷ []) .lent .starts .table) 1 ≡ 1)
+      × (rowAt (after (start 0 0 100 ∷ start 0 0 50 ∷ []) .lent .starts .table) (rowStart 0)
+      ≡ newRow 0 0 keyLimit 0 (record { count = 2; sum = 150 }))
+      × (answers (start 0 0 100 ∷ start 0 0 50 ∷ lookupIn Starts 0 0 ∷ []) ≡ Started 0 ∷ Started 1 ∷ Totals 2 150 1 ∷ [])
