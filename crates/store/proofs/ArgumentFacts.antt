@@ -1,11 +1,11 @@
--- What a call's arguments, and what is known beside them, say where none of their grounds is met.
+-- The grounds of a call's arguments, and of what a head or a book knows, in words, both ways.
 use Prim.Native.Nat.{ℕ, zero, suc, _≤_, _<_}
 use native.Mathlib.Omega.{arith}
 use mathlib.Core.Path.{_≡_, refl, ap, sym, _∙_}
 use mathlib.Core.Bool.{Bool, true, false, cond, _||_, false≢true}
 use mathlib.Core.List.{List, [], _∷_, _++_}
 use lib.Dec.{leb, ltb, eqb}
-use borrow.Author.Tests.{leb-false, ltb-false, eqb-false}
+use borrow.Author.Tests.{lt-leb, leb-false, le-ltb, ltb-false, ne-eqb, eqb-false}
 use Rattle.words.specs.Lists.{All}
 use Rattle.words.specs.Words.{keyLimit, openEnd}
 use Rattle.tree.proofs.Lists.{all-map, all-append}
@@ -15,6 +15,81 @@ use Rattle.store.specs.Calls.{Call, opening, start, end, question, looku
 use Rattle.store.specs.Refusals.{Ground, firstMet}
 use Rattle.store.specs.Grounds.{Sought, noneOpen, openSince, Known, startsAt, isNone, argumentGrounds, stateGrounds}
 use Rattle.store.proofs.RefusalLaws.{or-false, Numbered, first-both, none-met}
+
+-- A tick and a key that a lookup may have
+pub record InBounds (t k : ℕ) : Type 0 where
+  pub tick : t < openEnd
+  pub key : k < keyLimit
+
+-- The arguments of a start
+pub record StartArguments (tick key weight : ℕ) : Type 0 where
+  pub bounds : InBounds tick key
+  pub some : 1 ≤ weight
+  pub weight-fits : weight ≤ weightLimit
+
+-- A band and ticks that a question may have
+pub record Asked (k1 k2 t1 t2 : ℕ) : Type 0 where
+  pub low : k1 < keyLimit
+  pub high : k2 ≤ keyLimit
+  pub band : k1 < k2
+  pub ticks : t1 < t2
+
+-- What a head or a book knows that does not refuse a start
+pub record MayStart (known : Known) (tick : ℕ) : Type 0 where
+  pub later : known .last ≤ tick
+  pub place : known .count < openLimit
+  pub number : known .started < passLimit
+
+-- or an end: the pass is open, and started at another tick
+pub record MayEnd (known : Known) (tick : ℕ) : Type 0 where
+  pub later : known .last ≤ tick
+  pub began : ℕ
+  pub is-open : known .pass ≡ openSince began
+  pub other : tick ≡ began → ⊥
+
+-- "A condition that holds is always refused; nothing else is." These are not refused
+module _ (tick key weight : ℕ) where
+  pub start-passes : StartArguments tick key weight → firstMet (argumentGrounds (start tick key weight)) ≡ 0
+  unfolding firstMet
+  start-passes h =
+      rw (
+        lt-leb keyLimit key (h .bounds .key),
+        ne-eqb weight 0 (λ e. omega (arith, e, h .some)),
+        le-ltb weightLimit weight (h .weight-fits),
+        ne-eqb tick openEnd (λ e. omega (arith, e, h .bounds .tick)),
+      ) refl
+
+  pub start-may : (known : Known) → MayStart known tick → firstMet (stateGrounds known (start tick key weight)) ≡ 0
+  unfolding firstMet
+  start-may known h =
+      rw (
+        le-ltb tick (known .last) (h .later),
+        lt-leb openLimit (known .count) (h .place),
+        lt-leb passLimit (known .started) (h .number),
+      ) refl
+
+module _ (tick number : ℕ) where
+  pub end-passes : tick < openEnd → firstMet (argumentGrounds (end tick number)) ≡ 0
+  unfolding firstMet
+  end-passes h = rw (ne-eqb tick openEnd (λ e. omega (arith, e, h))) refl
+
+  pub end-may : (known : Known) → MayEnd known tick → firstMet (stateGrounds known (end tick number)) ≡ 0
+  unfolding firstMet
+  end-may known h = rw (le-ltb tick (known .last) (h .later), h .is-open, ne-eqb tick (h .began) (h .other)) refl
+
+pub question-passes : (k1 k2 t1 t2 : ℕ) → Asked k1 k2 t1 t2 → firstMet (argumentGrounds (question k1 k2 t1 t2)) ≡ 0
+unfolding firstMet
+question-passes k1 k2 t1 t2 h =
+    rw (
+      lt-leb keyLimit k1 (h .low),
+      le-ltb keyLimit k2 (h .high),
+      lt-leb k2 k1 (h .band),
+      lt-leb t2 t1 (h .ticks),
+    ) refl
+
+pub lookup-passes : (tree : TreeName) (t k : ℕ) → InBounds t k → firstMet (argumentGrounds (lookupIn tree t k)) ≡ 0
+unfolding firstMet
+lookup-passes tree t k h = rw (lt-leb keyLimit k (h .key), ne-eqb t openEnd (λ e. omega (arith, e, h .tick))) refl
 
 -- The numbers that the book knows: none of 20, 26, 27 and 28
 pub record Usual (n : ℕ) : Type 0 where
@@ -37,18 +112,18 @@ AllUsual gs = All (λ (g : Ground). Usual (g .number)) gs
 pub arguments-usual : (c : Call) → AllUsual (argumentGrounds c)
 arguments-usual opening = tt
 arguments-usual (start tick key weight) =
-    (of-input 1 (omega arith) (omega arith), (of-input 3 (omega arith) (omega arith), (of-input 4 (omega arith) (omega arith), tt)))
-arguments-usual (end tick number) = (of-input 4 (omega arith) (omega arith), tt)
+    (of-input _ (omega arith) (omega arith), (of-input _ (omega arith) (omega arith), (of-input _ (omega arith) (omega arith), tt)))
+arguments-usual (end tick number) = (of-input _ (omega arith) (omega arith), tt)
 arguments-usual (question k1 k2 t1 t2) =
-    (of-input 1 (omega arith) (omega arith), (of-input 2 (omega arith) (omega arith), (of-input 5 (omega arith) (omega arith), tt)))
-arguments-usual (lookupIn tree t k) = (of-input 1 (omega arith) (omega arith), (of-input 4 (omega arith) (omega arith), tt))
+    (of-input _ (omega arith) (omega arith), (of-input _ (omega arith) (omega arith), (of-input _ (omega arith) (omega arith), tt)))
+arguments-usual (lookupIn tree t k) = (of-input _ (omega arith) (omega arith), (of-input _ (omega arith) (omega arith), tt))
 
 pub states-usual : (known : Known) (c : Call) → AllUsual (stateGrounds known c)
 states-usual known opening = tt
 states-usual known (start tick key weight) =
-    (of-state 21 (omega arith) (omega arith), (of-state 24 (omega arith) (omega arith), (of-state 25 (omega arith) (omega arith), tt)))
+    (of-state _ (omega arith) (omega arith), (of-state _ (omega arith) (omega arith), (of-state _ (omega arith) (omega arith), tt)))
 states-usual known (end tick number) =
-    (of-state 21 (omega arith) (omega arith), (of-state 22 (omega arith) (omega arith), (of-state 23 (omega arith) (omega arith), tt)))
+    (of-state _ (omega arith) (omega arith), (of-state _ (omega arith) (omega arith), (of-state _ (omega arith) (omega arith), tt)))
 states-usual known (question k1 k2 t1 t2) = tt
 states-usual known (lookupIn tree t k) = tt
 
@@ -68,21 +143,10 @@ below-open tick wide e = below (eqb-false tick openEnd e)
     below : (tick ≡ openEnd → ⊥) → tick < openEnd
     below n = omega (arith, n)
 
--- A tick and a key that a lookup may have
-pub record InBounds (t k : ℕ) : Type 0 where
-  pub tick : t < openEnd
-  pub key : k < keyLimit
-
 pub lookup-bounds : (tree : TreeName) (t k : ℕ) → t ≤ openEnd → firstMet (argumentGrounds (lookupIn tree t k)) ≡ 0 → InBounds t k
 lookup-bounds tree t k wide e =
     let none = none-met (argumentGrounds (lookupIn tree t k)) (arguments-numbered (lookupIn tree t k)) e in
     record { tick = below-open t wide (none .1 .0); key = leb-false keyLimit k (none .0) }
-
--- The arguments of a start
-pub record StartArguments (tick key weight : ℕ) : Type 0 where
-  pub bounds : InBounds tick key
-  pub some : 1 ≤ weight
-  pub weight-fits : weight ≤ weightLimit
 
 pub start-arguments : (tick key weight : ℕ) → tick ≤ openEnd → firstMet (argumentGrounds (start tick key weight)) ≡ 0 → StartArguments tick key weight
 start-arguments tick key weight wide e =
@@ -97,16 +161,8 @@ start-arguments tick key weight wide e =
     above : (weight ≡ 0 → ⊥) → 1 ≤ weight
     above n = omega (arith, n)
 
--- The tick of an end
 pub end-tick : (tick number : ℕ) → tick ≤ openEnd → firstMet (argumentGrounds (end tick number)) ≡ 0 → tick < openEnd
 end-tick tick number wide e = below-open tick wide (none-met (argumentGrounds (end tick number)) (arguments-numbered (end tick number)) e .0)
-
--- A band and ticks that a question may have
-pub record Asked (k1 k2 t1 t2 : ℕ) : Type 0 where
-  pub low : k1 < keyLimit
-  pub high : k2 ≤ keyLimit
-  pub band : k1 < k2
-  pub ticks : t1 < t2
 
 pub asked : (k1 k2 t1 t2 : ℕ) → firstMet (argumentGrounds (question k1 k2 t1 t2)) ≡ 0 → Asked k1 k2 t1 t2
 asked k1 k2 t1 t2 e =
@@ -119,12 +175,6 @@ asked k1 k2 t1 t2 e =
       ticks = leb-false t2 t1 (none .1 .1 .0);
     }
 
--- What is known where a start is not refused for it
-pub record MayStart (known : Known) (tick : ℕ) : Type 0 where
-  pub later : known .last ≤ tick
-  pub place : known .count < openLimit
-  pub number : known .started < passLimit
-
 pub may-start : (known : Known) (tick key weight : ℕ) → firstMet (stateGrounds known (start tick key weight)) ≡ 0 → MayStart known tick
 may-start known tick key weight e =
     let none = none-met (stateGrounds known (start tick key weight)) (states-numbered known (start tick key weight)) e in
@@ -133,13 +183,6 @@ may-start known tick key weight e =
       place = leb-false openLimit (known .count) (none .1 .0);
       number = leb-false passLimit (known .started) (none .1 .1 .0);
     }
-
--- and where an end is not: the pass is open, and started at another tick
-pub record MayEnd (known : Known) (tick : ℕ) : Type 0 where
-  pub later : known .last ≤ tick
-  pub began : ℕ
-  pub is-open : known .pass ≡ openSince began
-  pub other : tick ≡ began → ⊥
 
 pub may-end : (known : Known) (tick number : ℕ) → firstMet (stateGrounds known (end tick number)) ≡ 0 → MayEnd known tick
 may-end known tick number e =

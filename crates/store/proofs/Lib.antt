@@ -3,6 +3,7 @@ pub mod SumLaws
 pub mod Intersections
 pub mod TreeLaws
 pub mod RefusalLaws
+pub mod NumberOrder
 pub mod ArgumentFacts
 pub mod PointLaws
 pub mod QuestionSums

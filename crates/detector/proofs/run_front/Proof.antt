@@ -1,7 +1,7 @@
 use mathlib.Core.Path.{sym}
 use lib.ListN.{take}
 use lib.Seq.{length-take-le}
-use Rattle.store.specs.Head.{storeOf}
+use Rattle.store.specs.Trees.{storeOf}
 use Rattle.interpret.proofs.OutputLength.{ran-fits}
 use borrow.Author.Needs.{needs}
 use Rattle.detector.proofs.run_front.Statement.{statement}
@@ -32,7 +32,7 @@ same-length-5 c = search needs
 returns : tie.Need-returns
 returns c =
     let a = c .before .before .before .before .before .before .before .before .before .before .before .before .before .before .before .before .before .before .before .before .before .before .before .args in
-    ran-fits (storeOf (a .head) (a .start-table .now) (a .start-roots .now) (a .end-table .now) (a .end-roots .now)) (a .code) (take (a .came) (a .operands .now)) _ _ _ _ _ _ _
+    ran-fits (storeOf (a .head) (a .start-table .now) (a .start-roots .now) (a .end-table .now) (a .end-roots .now)) (a .code) (take (a .came) (a .operands .now)) _ _ _ _
     (c .before .before .before .before .before .before .before .before .before .before .run-command .ensures)
 
 pub run-front-spec : {M : Type 1} → statement M

@@ -1,0 +1,67 @@
+-- The refusal lists are in order: "Input refusals come first, then state ones, each list in number order".
+use Prim.Native.Nat.{ℕ, _≤_}
+use native.Mathlib.Omega.{arith}
+use mathlib.Core.Bool.{Bool}
+use mathlib.Core.List.{List, [], _∷_, _++_}
+use Rattle.store.specs.Trees.{Store, treeIn}
+use Rattle.store.specs.Calls.{Call, opening, start, end, question, lookupIn}
+use Rattle.store.specs.Refusals.{Ground}
+use Rattle.store.specs.Grounds.{Known, argumentGrounds, stateGrounds}
+use Rattle.store.specs.Writing.{Entry, planOf, planSpoiled, lacksPages, lacksRoot, entriesOf, entryGrounds}
+use Rattle.store.specs.Reading.{isSpoiled, PointLookup, foundIn, lookupsOf, lookupGrounds}
+use Rattle.store.specs.Performing.{headKnows, opensOverTooLittle, headUnfit, pageGrounds, grounds}
+use Rattle.store.proofs.RefusalLaws.{each}
+
+-- Numbers that rise, from one number to another
+abbrev pub Rises : ℕ → List Ground → ℕ → Type 0
+Rises from [] to = from ≤ to
+Rises from (g ∷ gs) to = (from ≤ g .number) × Rises (g .number) gs to
+
+rises-on : (from to more : ℕ) (gs hs : List Ground) → Rises from gs to → Rises to hs more → Rises from (gs ++ hs) more
+rises-on from to more [] [] h k = omega (arith, h, k)
+rises-on from to more [] (x ∷ hs) h k = (omega (arith, h, k .0), k .1)
+rises-on from to more (g ∷ gs) hs h k = (h .0, rises-on (g .number) to more gs hs (h .1) k)
+
+rises-each : {A : Type 0} (test : A → Bool) (from n : ℕ) → from ≤ n → (xs : List A) → Rises from (each test n xs) n
+rises-each test from n h [] = h
+rises-each test from n h (x ∷ xs) = (h, rises-each test n n (omega arith) xs)
+
+arguments-rise : (c : Call) → Rises 1 (argumentGrounds c) 8
+arguments-rise opening = omega arith
+arguments-rise (start tick key weight) = (omega arith, (omega arith, (omega arith, omega arith)))
+arguments-rise (end tick number) = (omega arith, omega arith)
+arguments-rise (question k1 k2 t1 t2) = (omega arith, (omega arith, (omega arith, omega arith)))
+arguments-rise (lookupIn tree t k) = (omega arith, (omega arith, omega arith))
+
+states-rise : (known : Known) (c : Call) → Rises 20 (stateGrounds known c) 26
+states-rise known opening = omega arith
+states-rise known (start tick key weight) = (omega arith, (omega arith, (omega arith, omega arith)))
+states-rise known (end tick number) = (omega arith, (omega arith, (omega arith, omega arith)))
+states-rise known (question k1 k2 t1 t2) = omega arith
+states-rise known (lookupIn tree t k) = omega arith
+
+module _ (s : Store) where
+  abbrev spoils : Entry → Bool
+  spoils e = planSpoiled (planOf s e)
+
+  abbrev short : Entry → Bool
+  short e = lacksPages (treeIn s (e .tree)) (planOf s e)
+
+  abbrev crowded : Entry → Bool
+  crowded e = lacksRoot (treeIn s (e .tree)) (planOf s e)
+
+  entries-rise : (es : List Entry) → Rises 26 (entryGrounds s es) 28
+  entries-rise es =
+      rises-on 26 26 28 (each spoils 26 es) (each short 27 es ++ each crowded 28 es) (rises-each spoils 26 26 (omega arith) es)
+      (rises-on 26 27 28 (each short 27 es) (each crowded 28 es) (rises-each short 26 27 (omega arith) es) (rises-each crowded 27 28 (omega arith) es))
+
+  pages-rise : (c : Call) → Rises 26 (pageGrounds s c) 28
+  pages-rise c =
+      rises-on 26 26 28 (lookupGrounds s (lookupsOf c)) (entryGrounds s (entriesOf (s .head) c))
+      (rises-each (λ (l : PointLookup). isSpoiled (foundIn s l)) 26 26 (omega arith) (lookupsOf c)) (entries-rise (entriesOf (s .head) c))
+
+pub in-number-order : (s : Store) (c : Call) → Rises 1 (grounds s c) 28
+in-number-order s c =
+    let state = stateGrounds (headKnows (s .head) c) c in
+    rises-on 1 8 28 (argumentGrounds c) (opensOverTooLittle s c ∷ (headUnfit s c ∷ (state ++ pageGrounds s c))) (arguments-rise c)
+    (omega arith, (omega arith, rises-on 20 26 28 state (pageGrounds s c) (states-rise (headKnows (s .head) c) c) (pages-rise s c)))
