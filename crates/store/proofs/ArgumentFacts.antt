@@ -14,7 +14,8 @@ use Rattle.store.specs.Head.{passLimit, openLimit, weightLimit}
 use Rattle.store.specs.Calls.{Call, opening, start, end, question, lookupIn}
 use Rattle.store.specs.Refusals.{Ground, firstMet}
 use Rattle.store.specs.Grounds.{Sought, noneOpen, openSince, Known, startsAt, isNone, argumentGrounds, stateGrounds}
-use Rattle.store.proofs.RefusalLaws.{or-false, Numbered, first-both, none-met}
+use Rattle.store.proofs.RefusalLaws.{or-false, Numbered, none-met}
+use Rattle.store.proofs.NumberOrder.{Rises, rises-most, arguments-rise, states-rise}
 
 -- A tick and a key that a lookup may have
 pub record InBounds (t k : ℕ) : Type 0 where
@@ -99,33 +100,43 @@ pub record Usual (n : ℕ) : Type 0 where
   pub not-27 : n ≡ 27 → ⊥
   pub not-28 : n ≡ 28 → ⊥
 
-of-input : (n : ℕ) → 1 ≤ n → n ≤ 19 → Usual n
-of-input n h i = record { some = h; not-20 = λ e. omega arith; not-26 = λ e. omega arith; not-27 = λ e. omega arith; not-28 = λ e. omega arith }
-
-of-state : (n : ℕ) → 21 ≤ n → n ≤ 25 → Usual n
-of-state n h i =
-    record { some = omega arith; not-20 = λ e. omega arith; not-26 = λ e. omega arith; not-27 = λ e. omega arith; not-28 = λ e. omega arith }
-
 abbrev pub AllUsual : List Ground → Type 0
 AllUsual gs = All (λ (g : Ground). Usual (g .number)) gs
 
+-- Of the input below 20, and of the state from 21 to 25
+low-usual : (from : ℕ) (gs : List Ground) → 1 ≤ from → Rises from gs 5 → AllUsual gs
+low-usual from [] some h = tt
+low-usual from (g ∷ gs) some h =
+    let most = rises-most (g .number) 5 gs (h .1) in (
+      record {
+        some = omega (arith, h .0);
+        not-20 = λ e. omega arith;
+        not-26 = λ e. omega arith;
+        not-27 = λ e. omega arith;
+        not-28 = λ e. omega arith;
+      },
+      low-usual (g .number) gs (omega (arith, h .0)) (h .1),
+    )
+
+high-usual : (from : ℕ) (gs : List Ground) → 21 ≤ from → Rises from gs 25 → AllUsual gs
+high-usual from [] some h = tt
+high-usual from (g ∷ gs) some h =
+    let most = rises-most (g .number) 25 gs (h .1) in (
+      record {
+        some = omega (arith, h .0);
+        not-20 = λ e. omega (arith, h .0);
+        not-26 = λ e. omega arith;
+        not-27 = λ e. omega arith;
+        not-28 = λ e. omega arith;
+      },
+      high-usual (g .number) gs (omega (arith, h .0)) (h .1),
+    )
+
 pub arguments-usual : (c : Call) → AllUsual (argumentGrounds c)
-arguments-usual opening = tt
-arguments-usual (start tick key weight) =
-    (of-input _ (omega arith) (omega arith), (of-input _ (omega arith) (omega arith), (of-input _ (omega arith) (omega arith), tt)))
-arguments-usual (end tick number) = (of-input _ (omega arith) (omega arith), tt)
-arguments-usual (question k1 k2 t1 t2) =
-    (of-input _ (omega arith) (omega arith), (of-input _ (omega arith) (omega arith), (of-input _ (omega arith) (omega arith), tt)))
-arguments-usual (lookupIn tree t k) = (of-input _ (omega arith) (omega arith), (of-input _ (omega arith) (omega arith), tt))
+arguments-usual c = low-usual 1 (argumentGrounds c) (omega arith) (arguments-rise c)
 
 pub states-usual : (known : Known) (c : Call) → AllUsual (stateGrounds known c)
-states-usual known opening = tt
-states-usual known (start tick key weight) =
-    (of-state _ (omega arith) (omega arith), (of-state _ (omega arith) (omega arith), (of-state _ (omega arith) (omega arith), tt)))
-states-usual known (end tick number) =
-    (of-state _ (omega arith) (omega arith), (of-state _ (omega arith) (omega arith), (of-state _ (omega arith) (omega arith), tt)))
-states-usual known (question k1 k2 t1 t2) = tt
-states-usual known (lookupIn tree t k) = tt
+states-usual known c = high-usual 21 (stateGrounds known c) (omega arith) (states-rise known c)
 
 pub usual-numbered : (gs : List Ground) → AllUsual gs → Numbered gs
 usual-numbered gs h = all-map (λ (g : Ground). Usual (g .number)) (λ (g : Ground). 1 ≤ g .number) (λ g u. u .some) gs h

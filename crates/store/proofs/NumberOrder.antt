@@ -26,14 +26,23 @@ rises-each : {A : Type 0} (test : A → Bool) (from n : ℕ) → from ≤ n → 
 rises-each test from n h [] = h
 rises-each test from n h (x ∷ xs) = (h, rises-each test n n (omega arith) xs)
 
-arguments-rise : (c : Call) → Rises 1 (argumentGrounds c) 8
+-- From a lower number on
+rises-from : (less from to : ℕ) (gs : List Ground) → less ≤ from → Rises from gs to → Rises less gs to
+rises-from less from to [] l h = omega (arith, l, h)
+rises-from less from to (g ∷ gs) l h = (omega (arith, l, h .0), h .1)
+
+pub rises-most : (from to : ℕ) (gs : List Ground) → Rises from gs to → from ≤ to
+rises-most from to [] h = h
+rises-most from to (g ∷ gs) h = omega (arith, h .0, rises-most (g .number) to gs (h .1))
+
+pub arguments-rise : (c : Call) → Rises 1 (argumentGrounds c) 5
 arguments-rise opening = omega arith
 arguments-rise (start tick key weight) = (omega arith, (omega arith, (omega arith, omega arith)))
 arguments-rise (end tick number) = (omega arith, omega arith)
 arguments-rise (question k1 k2 t1 t2) = (omega arith, (omega arith, (omega arith, omega arith)))
 arguments-rise (lookupIn tree t k) = (omega arith, (omega arith, omega arith))
 
-states-rise : (known : Known) (c : Call) → Rises 20 (stateGrounds known c) 26
+pub states-rise : (known : Known) (c : Call) → Rises 21 (stateGrounds known c) 25
 states-rise known opening = omega arith
 states-rise known (start tick key weight) = (omega arith, (omega arith, (omega arith, omega arith)))
 states-rise known (end tick number) = (omega arith, (omega arith, (omega arith, omega arith)))
@@ -63,5 +72,6 @@ module _ (s : Store) where
 pub in-number-order : (s : Store) (c : Call) → Rises 1 (grounds s c) 28
 in-number-order s c =
     let state = stateGrounds (headKnows (s .head) c) c in
-    rises-on 1 8 28 (argumentGrounds c) (opensOverTooLittle s c ∷ (headUnfit s c ∷ (state ++ pageGrounds s c))) (arguments-rise c)
-    (omega arith, (omega arith, rises-on 20 26 28 state (pageGrounds s c) (states-rise (headKnows (s .head) c) c) (pages-rise s c)))
+    let later = rises-on 21 25 28 state (pageGrounds s c) (states-rise (headKnows (s .head) c) c) (rises-from 25 26 28 (pageGrounds s c) (omega arith) (pages-rise s c)) in
+    rises-on 1 5 28 (argumentGrounds c) (opensOverTooLittle s c ∷ (headUnfit s c ∷ (state ++ pageGrounds s c))) (arguments-rise c)
+    (omega arith, (omega arith, rises-from 20 21 28 (state ++ pageGrounds s c) (omega arith) later))
