@@ -9,7 +9,7 @@ use Rattle.store.specs.declared.types.Answer.{Answer}
 use Rattle.store.specs.declared.types.Answer.the-variants.{Refused, Opened, Started, Ended, Totals}
 use Rattle.store.specs.Trees.{LentTree, Lent, Store}
 use Rattle.store.specs.Head.{openedHead}
-use Rattle.store.specs.Answers.{Answered}
+use Rattle.store.specs.Answers.{refusalOf, valuesOf, Answered}
 use Rattle.store.specs.Calls.{Call, opening, start, end, question}
 use Rattle.store.specs.Performing.{perform}
 use Rattle.command.specs.Bytes.{bytesOf, operand}
@@ -35,13 +35,22 @@ abbrev pub kindOf : ℕ → Kind
 kindOf byte =
     cond (eqb byte 1) (command 8 startCommand) (cond (eqb byte 2) (command 8 endCommand) (cond (eqb byte 3) (command 12 questionCommand) unknown))
 
--- What a command writes: "00h, pass number 4"; "00h"; "00h, count 8, sum 8, pages opened 1". "A refusal writes its number as one byte."
+-- So many bytes for each value of an answer: "Writes 00h, pass number 4."; "Writes 00h."; "Writes 00h, count 8, sum 8, pages opened 1."
+abbrev pub widthsOf : Answer → List ℕ
+widthsOf (Refused n) = []
+widthsOf Opened = []
+widthsOf (Started n) = 4 ∷ []
+widthsOf Ended = []
+widthsOf (Totals count sum pages) = 8 ∷ (8 ∷ (1 ∷ []))
+
+abbrev pub spelled : (widths values : List ℕ) → List ℕ
+spelled [] values = []
+spelled (w ∷ widths) [] = []
+spelled (w ∷ widths) (v ∷ values) = bytesOf w v ++ spelled widths values
+
+-- What a command writes. "A refusal writes its number as one byte."
 abbrev pub written : Answer → List ℕ
-written (Refused n) = bytesOf 1 n
-written Opened = 0 ∷ []
-written (Started n) = 0 ∷ bytesOf 4 n
-written Ended = 0 ∷ []
-written (Totals count sum pages) = 0 ∷ (bytesOf 8 count ++ (bytesOf 8 sum ++ bytesOf 1 pages))
+written a = bytesOf 1 (refusalOf a) ++ spelled (widthsOf a) (valuesOf a)
 
 abbrev pub unknownCommand : List ℕ
 unknownCommand = 6 ∷ []

@@ -8,7 +8,7 @@ use Rattle.store.specs.declared.types.Head.{Head}
 use Rattle.store.specs.declared.types.Answer.{Answer}
 use Rattle.store.specs.declared.types.Answer.the-variants.{Refused, Opened, Started, Ended, Totals}
 use Rattle.store.specs.Trees.{Lent, Store}
-use Rattle.store.specs.Answers.{refusalOf, Answered, unlessRefused}
+use Rattle.store.specs.Answers.{refusalOf, valuesOf, Answered, unlessRefused}
 use Rattle.store.specs.Calls.{Call}
 use Rattle.store.specs.Performing.{refusal, served, perform}
 use Rattle.store.proofs.Outcomes.{served-answers}
@@ -64,10 +64,10 @@ module _ (a : Answered) (f : Fields) (passes : List ℕ) (lent after : Lent) (lo
       }
 
 -- A pass number that a refused start leaves as it was
-pub start-number-kept : {x y : Answer} (old r : ℕ) → r ≡ refusalOf x → (r ≡ 0 → ⊥) → x ≡ y → old ≡ numberSaid old y
+pub start-number-kept : {x y : Answer} (old r : ℕ) → r ≡ refusalOf x → (r ≡ 0 → ⊥) → x ≡ y → old ≡ numberSaid old (valuesOf y)
 start-number-kept {x} {y} old r e some is = go y (λ z. some (e ∙ ap refusalOf is ∙ z))
   where
-    go : (b : Answer) → (refusalOf b ≡ 0 → ⊥) → old ≡ numberSaid old b
+    go : (b : Answer) → (refusalOf b ≡ 0 → ⊥) → old ≡ numberSaid old (valuesOf b)
     go (Refused n) f = refl
     go Opened f = refl
     go (Started n) f = absurd (f refl)

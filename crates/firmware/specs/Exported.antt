@@ -1,25 +1,22 @@
 -- What an exported call says and leaves. Numbers stand for what C is given: 0 or the number of the refusal, and lent numbers.
 use Prim.Native.Nat.{ℕ}
 use mathlib.Core.Path.{_≡_}
-use mathlib.Core.List.{List}
+use mathlib.Core.List.{List, [], _∷_}
 use lib.ListN.{length}
 use Rattle.store.specs.declared.types.Answer.{Answer}
-use Rattle.store.specs.declared.types.Answer.the-variants.{Refused, Opened, Started, Ended, Totals}
 use Rattle.store.specs.Trees.{Lent, Store}
-use Rattle.store.specs.Answers.{refusalOf, Answered}
+use Rattle.store.specs.Answers.{refusalOf, valuesOf, Answered}
 use Rattle.firmware.specs.Heads.{Fields, passNumbers, headOf, fieldsOf, numbersOf}
 
 -- The store that the fields of a head, its open passes and the lent slices make
 abbrev pub storeIn : Fields → List ℕ → Lent → Store
 storeIn f passes m = record { head = headOf f passes; lent = m }
 
--- The pass number of an answer; where it has none, what stood in the lent number before
-abbrev pub numberSaid : ℕ → Answer → ℕ
-numberSaid old (Refused n) = old
-numberSaid old Opened = old
-numberSaid old (Started n) = n
-numberSaid old Ended = old
-numberSaid old (Totals count sum pages) = old
+-- The pass number that an answer's values are; where they are not, what stood in the lent number before
+abbrev pub numberSaid : ℕ → (values : List ℕ) → ℕ
+numberSaid old [] = old
+numberSaid old (number ∷ []) = number
+numberSaid old (v ∷ (w ∷ values)) = old
 
 -- The totals as lent numbers
 pub record Told : Type 0 where
@@ -27,20 +24,19 @@ pub record Told : Type 0 where
   pub sum : ℕ
   pub pages : ℕ
 
--- An answer's totals; where it has none, what stood in the lent numbers before
-abbrev pub totalsTold : Told → Answer → Told
-totalsTold old (Refused n) = old
-totalsTold old Opened = old
-totalsTold old (Started n) = old
-totalsTold old Ended = old
-totalsTold old (Totals count sum pages) = record { count = count; sum = sum; pages = pages }
+-- The totals that an answer's values are; where they are not, what stood in the lent numbers before
+abbrev pub totalsTold : Told → (values : List ℕ) → Told
+totalsTold old [] = old
+totalsTold old (v ∷ []) = old
+totalsTold old (v ∷ (w ∷ [])) = old
+totalsTold old (count ∷ (sum ∷ (pages ∷ values))) = record { count = count; sum = sum; pages = pages }
 
 -- A reading call that answers a: the refusal, and the totals
 pub record Tells (a : Answer) (r : ℕ) (before after : Told) : Type 0 where
   pub refusal : r ≡ refusalOf a
-  pub count : after .count ≡ totalsTold before a .count
-  pub sum : after .sum ≡ totalsTold before a .sum
-  pub pages : after .pages ≡ totalsTold before a .pages
+  pub count : after .count ≡ totalsTold before (valuesOf a) .count
+  pub sum : after .sum ≡ totalsTold before (valuesOf a) .sum
+  pub pages : after .pages ≡ totalsTold before (valuesOf a) .pages
 
 -- A list of open passes of another length than 256 numbers is no head: 20, and nothing changes
 pub record Shut (r : ℕ) (before after : Told) : Type 0 where

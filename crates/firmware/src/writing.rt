@@ -5,7 +5,7 @@ use crate::heads::put_head;
 use store::Answer;
 ghost use mathlib.Core.Path.{_≡_};
 ghost use lib.ListN.{length};
-ghost use Rattle.store.specs.Answers.{refusalOf};
+ghost use Rattle.store.specs.Answers.{refusalOf, valuesOf};
 ghost use Rattle.store.specs.Trees.{lentOf};
 ghost use Rattle.store.specs.Calls.{opening, start, end};
 ghost use Rattle.store.specs.Performing.{perform};
@@ -31,7 +31,7 @@ fn refusal_of(answer: Answer) -> u8
 
 // The pass number that an answer says, or the old one where it says none.
 fn number_of(answer: Answer, old: u32) -> u32
-    ensures { λ r. ⌜ r ≡ numberSaid old answer ⌝ }
+    ensures { λ r. ⌜ r ≡ numberSaid old (valuesOf answer) ⌝ }
 {
     match answer {
         Answer::Refused(_) => old,
@@ -67,7 +67,7 @@ pub extern "C" fn nimbleshale_start(
     number: &mut u32,
 ) -> u8
     ensures { λ r. ⌜ (length (now (passes .entry)) ≡ passNumbers → Leaves (perform (storeIn (record { last = now (last .entry); started = now (started .entry); count = now («count_open» .entry); startPages = now («start_pages» .entry); startRoots = now («start_roots» .entry); endPages = now («end_pages» .entry); endRoots = now («end_roots» .entry) }) (now (passes .entry)) (lentOf (now («start_table» .entry)) (now («start_list» .entry)) (now («end_table» .entry)) (now («end_list» .entry)))) (start tick key weight)) r (record { last = now (last .exit); started = now (started .exit); count = now («count_open» .exit); startPages = now («start_pages» .exit); startRoots = now («start_roots» .exit); endPages = now («end_pages» .exit); endRoots = now («end_roots» .exit) }) (now (passes .exit)) (lentOf (now («start_table» .exit)) (now («start_list» .exit)) (now («end_table» .entry)) (now («end_list» .entry)))) ⌝ }
-    ensures { λ _. ⌜ (length (now (passes .entry)) ≡ passNumbers → now (number .exit) ≡ numberSaid (now (number .entry)) (perform (storeIn (record { last = now (last .entry); started = now (started .entry); count = now («count_open» .entry); startPages = now («start_pages» .entry); startRoots = now («start_roots» .entry); endPages = now («end_pages» .entry); endRoots = now («end_roots» .entry) }) (now (passes .entry)) (lentOf (now («start_table» .entry)) (now («start_list» .entry)) (now («end_table» .entry)) (now («end_list» .entry)))) (start tick key weight) .answer)) ⌝ }
+    ensures { λ _. ⌜ (length (now (passes .entry)) ≡ passNumbers → now (number .exit) ≡ numberSaid (now (number .entry)) (valuesOf (perform (storeIn (record { last = now (last .entry); started = now (started .entry); count = now («count_open» .entry); startPages = now («start_pages» .entry); startRoots = now («start_roots» .entry); endPages = now («end_pages» .entry); endRoots = now («end_roots» .entry) }) (now (passes .entry)) (lentOf (now («start_table» .entry)) (now («start_list» .entry)) (now («end_table» .entry)) (now («end_list» .entry)))) (start tick key weight) .answer))) ⌝ }
     ensures { λ r. ⌜ ((length (now (passes .entry)) ≡ passNumbers → ⊥) → Untouched r (record { last = now (last .entry); started = now (started .entry); count = now («count_open» .entry); startPages = now («start_pages» .entry); startRoots = now («start_roots» .entry); endPages = now («end_pages» .entry); endRoots = now («end_roots» .entry) }) (record { last = now (last .exit); started = now (started .exit); count = now («count_open» .exit); startPages = now («start_pages» .exit); startRoots = now («start_roots» .exit); endPages = now («end_pages» .exit); endRoots = now («end_roots» .exit) }) (now (passes .entry)) (now (passes .exit)) (lentOf (now («start_table» .entry)) (now («start_list» .entry)) (now («end_table» .entry)) (now («end_list» .entry))) (lentOf (now («start_table» .exit)) (now («start_list» .exit)) (now («end_table» .entry)) (now («end_list» .entry)))) ⌝ }
     ensures { λ _. ⌜ ((length (now (passes .entry)) ≡ passNumbers → ⊥) → now (number .exit) ≡ now (number .entry)) ⌝ }
 {

@@ -12,14 +12,13 @@ use Rattle.store.specs.Performing.{perform}
 use Rattle.command.specs.Stream.{Kind, unknown, command, kindOf, written, cutShort, stops, answers, runKind, runOne}
 use Rattle.interpret.specs.declared.run.Ran.{Ran}
 use Rattle.interpret.specs.Runs.{longestAnswer, RanAs}
-use Rattle.interpret.proofs.ByteLaws.{bytes-length}
-use Rattle.interpret.proofs.AnswerLaws.{started-length, totals-length}
+use Rattle.interpret.proofs.AnswerLaws.{code-length, started-length, totals-length}
 
 written-fits : (a : Answer) → length (written a) ≤ longestAnswer
-written-fits (Refused n) = omega (arith, bytes-length 1 n)
-written-fits Opened = omega arith
+written-fits (Refused n) = omega (arith, code-length n)
+written-fits Opened = omega (arith, code-length 0)
 written-fits (Started n) = omega (arith, started-length n)
-written-fits Ended = omega arith
+written-fits Ended = omega (arith, code-length 0)
 written-fits (Totals count sum pages) = omega (arith, totals-length count sum pages)
 
 kind-fits : (s : Store) (bytes : List ℕ) (kind : Kind) → length (runKind s bytes kind .output) ≤ longestAnswer

@@ -1,6 +1,8 @@
 use Prim.Native.Nat.{ℕ}
 use mathlib.Core.Path.{refl, ap, _∙_}
+use Rattle.store.specs.declared.types.Answer.{Answer}
 use Rattle.store.specs.Trees.{lentOf}
+use Rattle.store.specs.Answers.{valuesOf}
 use Rattle.store.specs.Calls.{start}
 use Rattle.store.specs.Performing.{perform}
 use Rattle.firmware.specs.Exported.{storeIn, numberSaid}
@@ -55,7 +57,7 @@ returns-3 : tie.Need-returns-3
 returns-3 c =
     let a = c .before .before .before .before .before .before .before .before .before .before .before .before .before .before .before .before .before .before .before .before .before .before .before .before .before .before .before .before .before .before .before .before .before .before .before .before .before .before .args in
     let is = handed (start (a .tick) (a .key) (a .weight)) (record { last = a .last .now; started = a .started .now; count = a .count-open .now; startPages = a .start-pages .now; startRoots = a .start-roots .now; endPages = a .end-pages .now; endRoots = a .end-roots .now }) (a .passes .now) (lentOf (a .start-table .now) (a .start-list .now) (a .end-table .now) (a .end-list .now)) _ _ _ (c .before .before .before .before .before .before .before .before .before .before .before .before .before .before .before .before .before .before .before .before .before .before .before .head-of .ensures) (c .before .before .before .before .before .before .before .before .before .before .before .before .before .before .before .before .before .before .before .before .start .ensures) in
-    (λ x. leaves-done (perform (storeIn (record { last = a .last .now; started = a .started .now; count = a .count-open .now; startPages = a .start-pages .now; startRoots = a .start-roots .now; endPages = a .end-pages .now; endRoots = a .end-roots .now }) (a .passes .now) (lentOf (a .start-table .now) (a .start-list .now) (a .end-table .now) (a .end-list .now))) (start (a .tick) (a .key) (a .weight))) (record { last = a .last .now; started = a .started .now; count = a .count-open .now; startPages = a .start-pages .now; startRoots = a .start-roots .now; endPages = a .end-pages .now; endRoots = a .end-roots .now }) (a .passes .now) (lentOf (a .start-table .now) (a .start-list .now) (a .end-table .now) (a .end-list .now)) _ (c .before .before .before .before .before .before .before .before .before .before .before .before .before .before .before .before .before .before .before .before .before .before .before .before .before .before .before .before .before .before .before .before .if1 .left) _ is _ (c .before .before .before .before .before .before .before .before .before .before .before .before .before .before .before .refusal-of .ensures) (c .before .before .before .before .before .before .before .before .before .before .before .before .before .before .if2 .left) _ _ (c .before .before .put-head .ensures .0) (c .before .before .put-head .ensures .1), (λ x. c .before .before .before .before .before .before .before .before .before .before .before .number-of .ensures ∙ ap (numberSaid (a .number .now)) (is .answer), (λ n. absurd (n (c .before .before .before .before .before .before .before .before .before .before .before .before .before .before .before .before .before .before .before .before .before .before .before .before .before .before .before .before .before .before .before .before .if1 .left)), λ n. absurd (n (c .before .before .before .before .before .before .before .before .before .before .before .before .before .before .before .before .before .before .before .before .before .before .before .before .before .before .before .before .before .before .before .before .if1 .left)))))
+    (λ x. leaves-done (perform (storeIn (record { last = a .last .now; started = a .started .now; count = a .count-open .now; startPages = a .start-pages .now; startRoots = a .start-roots .now; endPages = a .end-pages .now; endRoots = a .end-roots .now }) (a .passes .now) (lentOf (a .start-table .now) (a .start-list .now) (a .end-table .now) (a .end-list .now))) (start (a .tick) (a .key) (a .weight))) (record { last = a .last .now; started = a .started .now; count = a .count-open .now; startPages = a .start-pages .now; startRoots = a .start-roots .now; endPages = a .end-pages .now; endRoots = a .end-roots .now }) (a .passes .now) (lentOf (a .start-table .now) (a .start-list .now) (a .end-table .now) (a .end-list .now)) _ (c .before .before .before .before .before .before .before .before .before .before .before .before .before .before .before .before .before .before .before .before .before .before .before .before .before .before .before .before .before .before .before .before .if1 .left) _ is _ (c .before .before .before .before .before .before .before .before .before .before .before .before .before .before .before .refusal-of .ensures) (c .before .before .before .before .before .before .before .before .before .before .before .before .before .before .if2 .left) _ _ (c .before .before .put-head .ensures .0) (c .before .before .put-head .ensures .1), (λ x. c .before .before .before .before .before .before .before .before .before .before .before .number-of .ensures ∙ ap (λ (x : Answer). numberSaid (a .number .now) (valuesOf x)) (is .answer), (λ n. absurd (n (c .before .before .before .before .before .before .before .before .before .before .before .before .before .before .before .before .before .before .before .before .before .before .before .before .before .before .before .before .before .before .before .before .if1 .left)), λ n. absurd (n (c .before .before .before .before .before .before .before .before .before .before .before .before .before .before .before .before .before .before .before .before .before .before .before .before .before .before .before .before .before .before .before .before .if1 .left)))))
 
 pub nimbleshale-start-spec : {M : Type 1} → statement M
 nimbleshale-start-spec =

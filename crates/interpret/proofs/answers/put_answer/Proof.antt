@@ -1,11 +1,10 @@
-use mathlib.Core.Path.{refl, ap, sym, _∙_}
+use mathlib.Core.Path.{ap, sym, _∙_}
 use mathlib.Core.List.{List}
 use lib.ListN.{length}
 use Rattle.words.specs.Overwrite.{overwrite}
 use Rattle.store.specs.declared.types.Answer.{Answer}
 use Rattle.command.specs.Stream.{written}
-use Rattle.interpret.proofs.ByteLaws.{bytes-length}
-use Rattle.interpret.proofs.AnswerLaws.{one-zero, started-length, totals-length}
+use Rattle.interpret.proofs.AnswerLaws.{code-only, code-length, started-length, totals-length}
 use borrow.Author.Needs.{needs}
 use Rattle.interpret.proofs.answers.put_answer.Statement.{statement}
 use Rattle.interpret.proofs.answers.put_answer.Tie as tie
@@ -50,8 +49,8 @@ returns : tie.Need-returns
 returns c =
     let a = c .before .before .before .before .before .before .before .before .args in
     let is = c .before .before .before .before .before .answer .given .1 in (
-      c .before .before .put-number .ensures ∙ ap (λ (x : Answer). overwrite (a .out .now) 0 (written x)) (sym is),
-      sym (ap (λ (x : Answer). length (written x)) is ∙ bytes-length 1 _),
+      c .before .before .put-number .ensures ∙ ap (overwrite (a .out .now) 0) (sym (code-only _)) ∙ ap (λ (x : Answer). overwrite (a .out .now) 0 (written x)) (sym is),
+      sym (ap (λ (x : Answer). length (written x)) is ∙ code-length _),
     )
 
 same-length-2 : tie.Need-same-length-2
@@ -61,8 +60,8 @@ returns-2 : tie.Need-returns-2
 returns-2 c =
     let a = c .before .before .before .before .before .before .before .args in
     let is = c .before .before .before .before .enum-told .given .1 in (
-      c .before .before .put-number2 .ensures ∙ ap (overwrite (a .out .now) 0) one-zero ∙ ap (λ (x : Answer). overwrite (a .out .now) 0 (written x)) (sym is),
-      sym (ap (λ (x : Answer). length (written x)) is ∙ refl),
+      c .before .before .put-number2 .ensures ∙ ap (overwrite (a .out .now) 0) (sym (code-only 0)) ∙ ap (λ (x : Answer). overwrite (a .out .now) 0 (written x)) (sym is),
+      sym (ap (λ (x : Answer). length (written x)) is ∙ code-length 0),
     )
 
 same-length-3 : tie.Need-same-length-3
@@ -83,8 +82,8 @@ returns-4 : tie.Need-returns-4
 returns-4 c =
     let a = c .before .before .before .before .before .before .before .args in
     let is = c .before .before .before .before .enum-told2 .given .1 in (
-      c .before .before .put-number3 .ensures ∙ ap (overwrite (a .out .now) 0) one-zero ∙ ap (λ (x : Answer). overwrite (a .out .now) 0 (written x)) (sym is),
-      sym (ap (λ (x : Answer). length (written x)) is ∙ refl),
+      c .before .before .put-number3 .ensures ∙ ap (overwrite (a .out .now) 0) (sym (code-only 0)) ∙ ap (λ (x : Answer). overwrite (a .out .now) 0 (written x)) (sym is),
+      sym (ap (λ (x : Answer). length (written x)) is ∙ code-length 0),
     )
 
 same-length-5 : tie.Need-same-length-5
