@@ -97,8 +97,8 @@ fn contracts(reader: &mut Reader, roots: &[(&str, &str)]) -> Result<(Table, BTre
         }
         for (file, part) in parts {
             let lines = if is_specification(&file) { 0 } else { part.lines };
-            let said = if lines == 0 { "below".to_string() } else { lines.to_string() };
-            table.row(lines, &[what, &quoted(&file), &part.names.join(", "), &said]);
+            let cell = if lines == 0 { "below".to_string() } else { lines.to_string() };
+            table.row(lines, &[what, &quoted(&file), &part.names.join(", "), &cell]);
         }
     }
     Ok((table, all))
