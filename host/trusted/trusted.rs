@@ -159,8 +159,8 @@ fn list(crates: &str, roots: &[(&str, &str)]) -> Result<String> {
     let elsewhere = elsewhere(&mut reader, &roots)?;
     let files = reader.reached.keys().filter(|file| is_specification(file)).count();
     let sum = format!(
-        "\n{files} specification files have **{} lines**: {} are reached, {} are of definitions that are not, {} are `use`, files' own comments and empty\n\
-         lines. Beside them are {} lines of types and definitions elsewhere, and {} of contracts and claims: {} in all.\n",
+        "\n{files} specification files have **{} lines**: {} are reached, {} are of definitions that are not, {} are `use`, files' own comments \
+         and empty\nlines. Beside them are {} lines of types and definitions elsewhere, and {} of contracts and claims: {} in all.\n",
         said(specifications.lines),
         said(reached),
         said(others),
