@@ -1,0 +1,5 @@
+// The calls.
+mod asking;
+mod parts;
+
+pub use asking::ask;
