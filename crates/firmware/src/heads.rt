@@ -1,4 +1,4 @@
-// The open passes of a head, from 256 lent numbers and back.
+// The open passes of a head, from lent numbers and back.
 use store::Head;
 use store::OpenPass;
 use tree::TreeUse;
@@ -7,11 +7,11 @@ ghost use Prim.Native.Nat.{_+_, _≤_};
 ghost use lib.ListN.{length};
 ghost use Rattle.words.specs.Overwrite.{overwrite};
 ghost use Rattle.store.specs.Head.{openLimit};
-ghost use Rattle.firmware.specs.Heads.{passNumbers, passAt, passesFrom, passNumbersOf, numbersOf, headOf, fieldsOf};
+ghost use Rattle.firmware.specs.Heads.{numbersOfPass, passNumbers, passAt, passesFrom, passNumbersOf, numbersOf, headOf, fieldsOf};
 
 // The pass in the four numbers from a place on.
 fn read_pass(numbers: &[u32], at: usize) -> OpenPass
-    requires { ⌜ at + 4 ≤ length (now numbers) ⌝ }
+    requires { ⌜ at + numbersOfPass ≤ length (now numbers) ⌝ }
     ensures { λ r. ⌜ r ≡ passAt (now (numbers .entry)) at ⌝ }
 {
     OpenPass {
@@ -36,7 +36,7 @@ pub fn read_passes(numbers: &[u32]) -> [OpenPass; Head::PLACES]
     let mut passes = [none; Head::PLACES];
     let mut place: usize = 0;
     while place < Head::PLACES {
-        passes[place] = read_pass(numbers, 4 * place);
+        passes[place] = read_pass(numbers, OpenPass::NUMBERS * place);
         place += 1;
     }
     passes
@@ -44,7 +44,7 @@ pub fn read_passes(numbers: &[u32]) -> [OpenPass; Head::PLACES]
 
 // Writes a pass over the four numbers from a place on.
 fn write_pass(numbers: &mut [u32], at: usize, pass: OpenPass)
-    requires { ⌜ at + 4 ≤ length (now numbers) ⌝ }
+    requires { ⌜ at + numbersOfPass ≤ length (now numbers) ⌝ }
     ensures { λ _. ⌜ now (numbers .exit) ≡ overwrite (now (numbers .entry)) at (passNumbersOf pass) ⌝ }
 {
     numbers[at] = pass.number;
@@ -61,7 +61,7 @@ pub fn write_passes(numbers: &mut [u32], passes: [OpenPass; Head::PLACES])
     let mut place: usize = 0;
     while place < Head::PLACES {
         let pass = passes[place];
-        write_pass(numbers, 4 * place, pass);
+        write_pass(numbers, OpenPass::NUMBERS * place, pass);
         place += 1;
     }
 }
@@ -78,7 +78,7 @@ pub fn head_of(
     passes: &[u32],
 ) -> Head
     requires { ⌜ length (now passes) ≡ passNumbers ⌝ }
-    ensures { λ r. ⌜ r ≡ headOf (record { last = last; started = started; count = count; startPages = «start_pages»; startRoots = «start_roots»; endPages = «end_pages»; endRoots = «end_roots» }) (now (passes .entry)) ⌝ }
+    ensures { λ r. ⌜ r ≡ headOf (record { last = last; started = started; count = count; starts = record { pages = «start_pages»; roots = «start_roots» }; ends = record { pages = «end_pages»; roots = «end_roots» } }) (now (passes .entry)) ⌝ }
 {
     let open = read_passes(passes);
     Head {
@@ -110,7 +110,7 @@ pub fn put_head(
     passes: &mut [u32],
 )
     requires { ⌜ length (now passes) ≡ passNumbers ⌝ }
-    ensures { λ _. ⌜ record { last = now (last .exit); started = now (started .exit); count = now (count .exit); startPages = now («start_pages» .exit); startRoots = now («start_roots» .exit); endPages = now («end_pages» .exit); endRoots = now («end_roots» .exit) } ≡ fieldsOf head ⌝ }
+    ensures { λ _. ⌜ record { last = now (last .exit); started = now (started .exit); count = now (count .exit); starts = record { pages = now («start_pages» .exit); roots = now («start_roots» .exit) }; ends = record { pages = now («end_pages» .exit); roots = now («end_roots» .exit) } } ≡ fieldsOf head ⌝ }
     ensures { λ _. ⌜ now (passes .exit) ≡ numbersOf (head .passes) ⌝ }
 {
     *last = head.last;

@@ -2,6 +2,7 @@
 // the call is refused.
 use crate::heads::head_of;
 use store::Answer;
+use store::Head;
 ghost use mathlib.Core.Path.{_≡_};
 ghost use lib.ListN.{length};
 ghost use Rattle.store.specs.declared.types.TreeName.the-variants.{Starts, Ends};
@@ -56,10 +57,10 @@ pub extern "C" fn nimbleshale_question(
     sum: &mut u64,
     pages: &mut u32,
 ) -> u8
-    ensures { λ r. ⌜ (length (now (passes .entry)) ≡ passNumbers → Tells (perform (storeIn (record { last = last; started = started; count = «count_open»; startPages = «start_pages»; startRoots = «start_roots»; endPages = «end_pages»; endRoots = «end_roots» }) (now (passes .entry)) (lentOf (now («start_table» .entry)) (now («start_list» .entry)) (now («end_table» .entry)) (now («end_list» .entry)))) (question k1 k2 t1 t2) .answer) r (record { count = now (count .entry); sum = now (sum .entry); pages = now (pages .entry) }) (record { count = now (count .exit); sum = now (sum .exit); pages = now (pages .exit) })) ⌝ }
+    ensures { λ r. ⌜ (length (now (passes .entry)) ≡ passNumbers → Tells (perform (storeIn (record { last = last; started = started; count = «count_open»; starts = record { pages = «start_pages»; roots = «start_roots» }; ends = record { pages = «end_pages»; roots = «end_roots» } }) (now (passes .entry)) (lentOf (now («start_table» .entry)) (now («start_list» .entry)) (now («end_table» .entry)) (now («end_list» .entry)))) (question k1 k2 t1 t2) .answer) r (record { count = now (count .entry); sum = now (sum .entry); pages = now (pages .entry) }) (record { count = now (count .exit); sum = now (sum .exit); pages = now (pages .exit) })) ⌝ }
     ensures { λ r. ⌜ ((length (now (passes .entry)) ≡ passNumbers → ⊥) → Shut r (record { count = now (count .entry); sum = now (sum .entry); pages = now (pages .entry) }) (record { count = now (count .exit); sum = now (sum .exit); pages = now (pages .exit) })) ⌝ }
 {
-    if passes.len() != 256 {
+    if passes.len() != Head::PASS_NUMBERS {
         return 20;
     }
     let head = head_of(
@@ -107,10 +108,10 @@ pub extern "C" fn nimbleshale_lookup_starts(
     sum: &mut u64,
     pages: &mut u32,
 ) -> u8
-    ensures { λ r. ⌜ (length (now (passes .entry)) ≡ passNumbers → Tells (perform (storeIn (record { last = last; started = started; count = «count_open»; startPages = «start_pages»; startRoots = «start_roots»; endPages = «end_pages»; endRoots = «end_roots» }) (now (passes .entry)) (lentOf (now («start_table» .entry)) (now («start_list» .entry)) (now («end_table» .entry)) (now («end_list» .entry)))) (lookupIn Starts t k) .answer) r (record { count = now (count .entry); sum = now (sum .entry); pages = now (pages .entry) }) (record { count = now (count .exit); sum = now (sum .exit); pages = now (pages .exit) })) ⌝ }
+    ensures { λ r. ⌜ (length (now (passes .entry)) ≡ passNumbers → Tells (perform (storeIn (record { last = last; started = started; count = «count_open»; starts = record { pages = «start_pages»; roots = «start_roots» }; ends = record { pages = «end_pages»; roots = «end_roots» } }) (now (passes .entry)) (lentOf (now («start_table» .entry)) (now («start_list» .entry)) (now («end_table» .entry)) (now («end_list» .entry)))) (lookupIn Starts t k) .answer) r (record { count = now (count .entry); sum = now (sum .entry); pages = now (pages .entry) }) (record { count = now (count .exit); sum = now (sum .exit); pages = now (pages .exit) })) ⌝ }
     ensures { λ r. ⌜ ((length (now (passes .entry)) ≡ passNumbers → ⊥) → Shut r (record { count = now (count .entry); sum = now (sum .entry); pages = now (pages .entry) }) (record { count = now (count .exit); sum = now (sum .exit); pages = now (pages .exit) })) ⌝ }
 {
-    if passes.len() != 256 {
+    if passes.len() != Head::PASS_NUMBERS {
         return 20;
     }
     let head = head_of(
@@ -148,10 +149,10 @@ pub extern "C" fn nimbleshale_lookup_ends(
     sum: &mut u64,
     pages: &mut u32,
 ) -> u8
-    ensures { λ r. ⌜ (length (now (passes .entry)) ≡ passNumbers → Tells (perform (storeIn (record { last = last; started = started; count = «count_open»; startPages = «start_pages»; startRoots = «start_roots»; endPages = «end_pages»; endRoots = «end_roots» }) (now (passes .entry)) (lentOf (now («start_table» .entry)) (now («start_list» .entry)) (now («end_table» .entry)) (now («end_list» .entry)))) (lookupIn Ends t k) .answer) r (record { count = now (count .entry); sum = now (sum .entry); pages = now (pages .entry) }) (record { count = now (count .exit); sum = now (sum .exit); pages = now (pages .exit) })) ⌝ }
+    ensures { λ r. ⌜ (length (now (passes .entry)) ≡ passNumbers → Tells (perform (storeIn (record { last = last; started = started; count = «count_open»; starts = record { pages = «start_pages»; roots = «start_roots» }; ends = record { pages = «end_pages»; roots = «end_roots» } }) (now (passes .entry)) (lentOf (now («start_table» .entry)) (now («start_list» .entry)) (now («end_table» .entry)) (now («end_list» .entry)))) (lookupIn Ends t k) .answer) r (record { count = now (count .entry); sum = now (sum .entry); pages = now (pages .entry) }) (record { count = now (count .exit); sum = now (sum .exit); pages = now (pages .exit) })) ⌝ }
     ensures { λ r. ⌜ ((length (now (passes .entry)) ≡ passNumbers → ⊥) → Shut r (record { count = now (count .entry); sum = now (sum .entry); pages = now (pages .entry) }) (record { count = now (count .exit); sum = now (sum .exit); pages = now (pages .exit) })) ⌝ }
 {
-    if passes.len() != 256 {
+    if passes.len() != Head::PASS_NUMBERS {
         return 20;
     }
     let head = head_of(

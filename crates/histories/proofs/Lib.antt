@@ -1,2 +1,2 @@
 -- Laws of the comparison of answers.
-pub mod SameFields
+pub mod SameNumbers

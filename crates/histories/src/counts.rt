@@ -2,7 +2,7 @@
 use store::Answer;
 ghost use mathlib.Core.Path.{_≡_};
 ghost use mathlib.Core.Bool.{true};
-ghost use Rattle.histories.specs.Answers.{fieldsOf};
+ghost use Rattle.histories.specs.Answers.{answerNumbers};
 
 pub struct Counts {
     pub calls: u64,
@@ -16,42 +16,42 @@ pub struct Counts {
 }
 
 // An answer as numbers: its kind, and the fields that it has.
-struct Fields {
+struct AnswerNumbers {
     kind: u8,
     number: u64,
     sum: u64,
     pages: u32,
 }
 
-fn fields_of(answer: Answer) -> Fields
-    ensures { λ r. ⌜ r ≡ fieldsOf answer ⌝ }
+fn answer_numbers(answer: Answer) -> AnswerNumbers
+    ensures { λ r. ⌜ r ≡ answerNumbers answer ⌝ }
 {
     match answer {
-        Answer::Refused(refusal) => Fields {
+        Answer::Refused(refusal) => AnswerNumbers {
             kind: 0,
             number: refusal as u64,
             sum: 0,
             pages: 0,
         },
-        Answer::Opened => Fields {
+        Answer::Opened => AnswerNumbers {
             kind: 1,
             number: 0,
             sum: 0,
             pages: 0,
         },
-        Answer::Started(number) => Fields {
+        Answer::Started(number) => AnswerNumbers {
             kind: 2,
             number: number as u64,
             sum: 0,
             pages: 0,
         },
-        Answer::Ended => Fields {
+        Answer::Ended => AnswerNumbers {
             kind: 3,
             number: 0,
             sum: 0,
             pages: 0,
         },
-        Answer::Totals { count, sum, pages } => Fields {
+        Answer::Totals { count, sum, pages } => AnswerNumbers {
             kind: 4,
             number: count,
             sum,
@@ -64,8 +64,8 @@ fn fields_of(answer: Answer) -> Fields
 pub fn same(found: Answer, wanted: Answer) -> bool
     ensures { λ r. ⌜ (r ≡ true → found ≡ wanted) ⌝ }
 {
-    let left = fields_of(found);
-    let right = fields_of(wanted);
+    let left = answer_numbers(found);
+    let right = answer_numbers(wanted);
     if left.kind != right.kind {
         return false;
     }

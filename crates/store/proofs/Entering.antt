@@ -82,8 +82,8 @@ room-for t x made root is pages place =
     free f = leb-false (length (t .roots)) (t .used .roots) f
 
 module _ (s : Store) where
-  abbrev pub Planned : Entry → Type 0
-  Planned e = (made : ℕ) × (root : RootChange) × (planOf s e ≡ Ready made root)
+  abbrev pub PlanReady : Entry → Type 0
+  PlanReady e = (made : ℕ) × (root : RootChange) × (planOf s e ≡ Ready made root)
 
   abbrev pub HasRoom : Entry → Type 0
   HasRoom e = Room (treeIn s (e .tree)) (e .point)
@@ -104,11 +104,11 @@ module _ (s : Store) where
   abbrev crowded : Entry → Bool
   crowded e = lacksRoot (treeIn s (e .tree)) (planOf s e)
 
-  never-spoiled : (es : List Entry) → All Planned es → All (λ (e : Entry). spoils e ≡ false) es
+  never-spoiled : (es : List Entry) → All PlanReady es → All (λ (e : Entry). spoils e ≡ false) es
   never-spoiled [] h = tt
   never-spoiled (e ∷ es) h = (ap planSpoiled (h .0 .2), never-spoiled es (h .1))
 
-  rooms : (es : List Entry) → All Planned es → All (λ (e : Entry). short e ≡ false) es → All (λ (e : Entry). crowded e ≡ false) es → All HasRoom es
+  rooms : (es : List Entry) → All PlanReady es → All (λ (e : Entry). short e ≡ false) es → All (λ (e : Entry). crowded e ≡ false) es → All HasRoom es
   rooms [] h p q = tt
   rooms (e ∷ es) h p q =
       (room-for (treeIn s (e .tree)) (e .point) (h .0 .0) (h .0 .1) (h .0 .2) (p .0) (q .0), rooms es (h .1) (p .1) (q .1))
@@ -127,7 +127,7 @@ module _ (s : Store) where
       go [] h = tt
       go (e ∷ es) h = (placed (treeIn s (e .tree)) (planOf s e) (h .0), go es (h .1))
 
-  pub entry-case : (es : List Entry) → All Planned es → EntryCase (firstMet (entryGrounds s es)) es
+  pub entry-case : (es : List Entry) → All PlanReady es → EntryCase (firstMet (entryGrounds s es)) es
   unfolding firstMet
   entry-case es ready = pages (each-case short 27 es (each crowded 28 es))
     where

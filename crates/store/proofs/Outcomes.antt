@@ -22,7 +22,7 @@ use Rattle.store.proofs.RefusalLaws.{first-has, first-refuses, first-pa
 use Rattle.store.proofs.ArgumentFacts.{Usual, AllUsual, arguments-usual, states-usual, usual-numbered, arguments-numbered, lookup-bounds, start-arguments, end-tick, asked, may-start, may-end}
 use Rattle.store.proofs.Agreement.{Agrees, same-grounds}
 use Rattle.store.proofs.TreesTook.{planned}
-use Rattle.store.proofs.Entering.{Planned, HasRoom, EntryCase, entry-case}
+use Rattle.store.proofs.Entering.{PlanReady, HasRoom, EntryCase, entry-case}
 use Rattle.store.proofs.Ready.{ServedAlike, Ready, never-spoiled}
 use Rattle.store.proofs.OpeningReady.{opening-ready}
 use Rattle.store.proofs.StartReady.{start-ready}
@@ -61,7 +61,7 @@ module _ (s : Store) (b : Book) (c : Call) (sent : Sent c) (a : Agrees s b) wher
   abbrev entries : List Entry
   entries = entriesOf (s .head) c
 
-  plans : (es : List Entry) → All (λ (e : Entry). InTime (b .last) (e .point)) es → All (Planned s) es
+  plans : (es : List Entry) → All (λ (e : Entry). InTime (b .last) (e .point)) es → All (PlanReady s) es
   plans [] h = tt
   plans (e ∷ es) h = (planned (a .trees (e .tree)) (e .point) (h .0), plans es (h .1))
 

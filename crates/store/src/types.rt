@@ -21,6 +21,9 @@ impl OpenPass {
 
     // The highest weight.
     pub const HEAVIEST: u32 = 10000;
+
+    // So many numbers make a pass.
+    pub const NUMBERS: usize = 4;
 }
 
 // Where a search among the open passes ends: at the pass in a place of the head's list, or nowhere.
@@ -42,6 +45,9 @@ pub struct Head {
 impl Head {
     // Places for open passes.
     pub const PLACES: usize = 64;
+
+    // So many numbers make all places.
+    pub const PASS_NUMBERS: usize = Head::PLACES * OpenPass::NUMBERS;
 
     // So many passes may be open at a time.
     pub const OPEN_LIMIT: u32 = Head::PLACES as u32;

@@ -4,6 +4,7 @@ use mathlib.Core.Path.{_≡_, ap, sym, _∙_}
 use lib.ListN.{length, take, set}
 use lib.Seq.{take-all}
 use Rattle.store.specs.declared.types.OpenPass.{OpenPass}
+use Rattle.store.specs.Head.{openLimit}
 use Rattle.firmware.specs.Heads.{passesFrom}
 use Rattle.firmware.proofs.HeadNumbers.{read-more}
 use borrow.Author.Needs.{needs}
@@ -12,10 +13,10 @@ use Rattle.firmware.proofs.heads.read_passes.Tie as tie
 
 abbrev Inv-loop : tie.InvT-loop
 Inv-loop numbers passes₀ place₀ passes place =
-    (place ≤ 64) × (length passes ≡ 64) × (take place passes ≡ passesFrom numbers 0 place)
+    (place ≤ openLimit) × (length passes ≡ openLimit) × (take place passes ≡ passesFrom numbers 0 place)
 
 abbrev μ-loop : tie.MeasureT-loop
-μ-loop numbers passes₀ place₀ passes place = 64 - place
+μ-loop numbers passes₀ place₀ passes place = openLimit - place
 
 loop-holds : tie.Need-loop-holds Inv-loop μ-loop
 unfolding passesFrom
@@ -53,8 +54,8 @@ returns : tie.Need-returns Inv-loop μ-loop
 returns c =
     let a = c .before .before .before .args in
     let l = c .before .loop in
-    let done : l .place ≡ 64 = omega (arith, l .inv .0, c .loop-test .left) in
-    sym (take-all 64 (l .passes) (omega (arith, l .inv .1)))
+    let done : l .place ≡ openLimit = omega (arith, l .inv .0, c .loop-test .left) in
+    sym (take-all openLimit (l .passes) (omega (arith, l .inv .1)))
     ∙ ap (λ (n : ℕ). take n (l .passes)) (sym done) ∙ l .inv .2 ∙ ap (passesFrom (a .numbers .now) 0) done
 
 pub read-passes-spec : {M : Type 1} → statement M

@@ -5,7 +5,8 @@ use mathlib.Core.List.{List}
 use lib.ListN.{length, take}
 use Rattle.words.specs.Overwrite.{overwrite}
 use Rattle.tree.proofs.Lists.{length-mapped}
-use Rattle.firmware.specs.Heads.{numbersOf}
+use Rattle.store.specs.Head.{openLimit}
+use Rattle.firmware.specs.Heads.{passNumbers, numbersOf}
 use Rattle.firmware.proofs.HeadNumbers.{write-none, write-more, write-all}
 use borrow.Author.Needs.{needs}
 use Rattle.firmware.proofs.heads.write_passes.Statement.{statement}
@@ -13,15 +14,15 @@ use Rattle.firmware.proofs.heads.write_passes.Tie as tie
 
 abbrev Inv-loop : tie.InvT-loop
 Inv-loop numbers₀ passes place₀ numbers place =
-    (place ≤ 64) × (length numbers ≡ 256) × (numbers ≡ overwrite numbers₀ 0 (numbersOf (take place passes)))
+    (place ≤ openLimit) × (length numbers ≡ passNumbers) × (numbers ≡ overwrite numbers₀ 0 (numbersOf (take place passes)))
 
 abbrev μ-loop : tie.MeasureT-loop
-μ-loop numbers₀ passes place₀ numbers place = 64 - place
+μ-loop numbers₀ passes place₀ numbers place = openLimit - place
 
 loop-holds : tie.Need-loop-holds Inv-loop μ-loop
 loop-holds c =
     let a = c .before .args in
-    let long : length (a .t2) ≡ 64 = search (needs, length-mapped) in
+    let long : length (a .t2) ≡ openLimit = search (needs, length-mapped) in
     (search needs, search needs, write-none (a .numbers .now) (a .t2) long (c .before .pre))
 
 mul-pass : tie.Need-mul-pass Inv-loop μ-loop
@@ -46,7 +47,7 @@ loop-again : tie.Need-loop-again Inv-loop μ-loop
 loop-again c =
     let a = c .before .before .before .before .before .before .before .before .args in
     let l = c .before .before .before .before .before .before .loop in
-    let long : length (a .t2) ≡ 64 = search (needs, length-mapped) in (
+    let long : length (a .t2) ≡ openLimit = search (needs, length-mapped) in (
       search needs,
       search needs,
       rw (c .before .before .write-pass .ensures, l .inv .2)
@@ -60,8 +61,8 @@ returns : tie.Need-returns Inv-loop μ-loop
 returns c =
     let a = c .before .before .before .args in
     let l = c .before .loop in
-    let long : length (a .t2) ≡ 64 = search (needs, length-mapped) in
-    let done : l .place ≡ 64 = omega (arith, l .inv .0, c .loop-test .left) in
+    let long : length (a .t2) ≡ openLimit = search (needs, length-mapped) in
+    let done : l .place ≡ openLimit = omega (arith, l .inv .0, c .loop-test .left) in
     write-all (a .numbers .now) (a .t2) long (c .before .before .before .pre) (l .numbers)
     (l .inv .2 ∙ ap (λ (n : ℕ). overwrite (a .numbers .now) 0 (numbersOf (take n (a .t2)))) done)
 

@@ -39,8 +39,8 @@ same-length-5 c = search needs
 returns-2 : tie.Need-returns-2
 returns-2 c =
     let a = c .before .before .before .before .before .before .before .before .before .before .before .before .before .before .before .before .before .before .before .before .before .before .before .before .before .before .before .before .before .before .args in
-    let is = handed opening (record { last = a .last .now; started = a .started .now; count = a .count-open .now; startPages = a .start-pages .now; startRoots = a .start-roots .now; endPages = a .end-pages .now; endRoots = a .end-roots .now }) (a .passes .now) (lentOf (a .start-table .now) (a .start-list .now) (a .end-table .now) (a .end-list .now)) _ _ _ (c .before .before .before .before .before .before .before .before .before .before .before .before .before .before .before .head-of .ensures) (c .before .before .before .before .before .before .before .before .before .before .open .ensures) in
-    (λ e. leaves-refused (perform (storeIn (record { last = a .last .now; started = a .started .now; count = a .count-open .now; startPages = a .start-pages .now; startRoots = a .start-roots .now; endPages = a .end-pages .now; endRoots = a .end-roots .now }) (a .passes .now) (lentOf (a .start-table .now) (a .start-list .now) (a .end-table .now) (a .end-list .now))) opening) (record { last = a .last .now; started = a .started .now; count = a .count-open .now; startPages = a .start-pages .now; startRoots = a .start-roots .now; endPages = a .end-pages .now; endRoots = a .end-roots .now }) (a .passes .now) (lentOf (a .start-table .now) (a .start-list .now) (a .end-table .now) (a .end-list .now)) _ (c .before .before .before .before .before .before .before .before .before .before .before .before .before .before .before .before .before .before .before .before .before .before .before .before .if1 .left) _ is _ (c .before .refusal-of .ensures) (c .if2 .taken) (call-unchanged (storeIn (record { last = a .last .now; started = a .started .now; count = a .count-open .now; startPages = a .start-pages .now; startRoots = a .start-roots .now; endPages = a .end-pages .now; endRoots = a .end-roots .now }) (a .passes .now) (lentOf (a .start-table .now) (a .start-list .now) (a .end-table .now) (a .end-list .now))) opening), λ n. absurd (n (c .before .before .before .before .before .before .before .before .before .before .before .before .before .before .before .before .before .before .before .before .before .before .before .before .if1 .left)))
+    let is = handed opening (record { last = a .last .now; started = a .started .now; count = a .count-open .now; starts = record { pages = a .start-pages .now; roots = a .start-roots .now }; ends = record { pages = a .end-pages .now; roots = a .end-roots .now } }) (a .passes .now) (lentOf (a .start-table .now) (a .start-list .now) (a .end-table .now) (a .end-list .now)) _ _ _ (c .before .before .before .before .before .before .before .before .before .before .before .before .before .before .before .head-of .ensures) (c .before .before .before .before .before .before .before .before .before .before .open .ensures) in
+    (λ e. leaves-refused (perform (storeIn (record { last = a .last .now; started = a .started .now; count = a .count-open .now; starts = record { pages = a .start-pages .now; roots = a .start-roots .now }; ends = record { pages = a .end-pages .now; roots = a .end-roots .now } }) (a .passes .now) (lentOf (a .start-table .now) (a .start-list .now) (a .end-table .now) (a .end-list .now))) opening) (record { last = a .last .now; started = a .started .now; count = a .count-open .now; starts = record { pages = a .start-pages .now; roots = a .start-roots .now }; ends = record { pages = a .end-pages .now; roots = a .end-roots .now } }) (a .passes .now) (lentOf (a .start-table .now) (a .start-list .now) (a .end-table .now) (a .end-list .now)) _ (c .before .before .before .before .before .before .before .before .before .before .before .before .before .before .before .before .before .before .before .before .before .before .before .before .if1 .left) _ is _ (c .before .refusal-of .ensures) (c .if2 .taken) (call-unchanged (storeIn (record { last = a .last .now; started = a .started .now; count = a .count-open .now; starts = record { pages = a .start-pages .now; roots = a .start-roots .now }; ends = record { pages = a .end-pages .now; roots = a .end-roots .now } }) (a .passes .now) (lentOf (a .start-table .now) (a .start-list .now) (a .end-table .now) (a .end-list .now))) opening), λ n. absurd (n (c .before .before .before .before .before .before .before .before .before .before .before .before .before .before .before .before .before .before .before .before .before .before .before .before .if1 .left)))
 
 put-head-requires : tie.Need-put-head-requires
 put-head-requires c κs = c .before .before .before .before .before .before .before .before .before .before .before .before .before .before .before .before .before .before .before .before .before .before .before .before .before .before .before .before .before .before .before .before .before .if1 .left
@@ -63,8 +63,8 @@ same-length-10 c = search needs
 returns-3 : tie.Need-returns-3
 returns-3 c =
     let a = c .before .before .before .before .before .before .before .before .before .before .before .before .before .before .before .before .before .before .before .before .before .before .before .before .before .before .before .before .before .before .before .before .before .before .before .before .before .before .before .before .before .before .args in
-    let is = handed opening (record { last = a .last .now; started = a .started .now; count = a .count-open .now; startPages = a .start-pages .now; startRoots = a .start-roots .now; endPages = a .end-pages .now; endRoots = a .end-roots .now }) (a .passes .now) (lentOf (a .start-table .now) (a .start-list .now) (a .end-table .now) (a .end-list .now)) _ _ _ (c .before .before .before .before .before .before .before .before .before .before .before .before .before .before .before .before .before .before .before .before .before .before .before .before .before .before .before .head-of .ensures) (c .before .before .before .before .before .before .before .before .before .before .before .before .before .before .before .before .before .before .before .before .before .before .open .ensures) in
-    (λ x. leaves-done (perform (storeIn (record { last = a .last .now; started = a .started .now; count = a .count-open .now; startPages = a .start-pages .now; startRoots = a .start-roots .now; endPages = a .end-pages .now; endRoots = a .end-roots .now }) (a .passes .now) (lentOf (a .start-table .now) (a .start-list .now) (a .end-table .now) (a .end-list .now))) opening) (record { last = a .last .now; started = a .started .now; count = a .count-open .now; startPages = a .start-pages .now; startRoots = a .start-roots .now; endPages = a .end-pages .now; endRoots = a .end-roots .now }) (a .passes .now) (lentOf (a .start-table .now) (a .start-list .now) (a .end-table .now) (a .end-list .now)) _ (c .before .before .before .before .before .before .before .before .before .before .before .before .before .before .before .before .before .before .before .before .before .before .before .before .before .before .before .before .before .before .before .before .before .before .before .before .if1 .left) _ is _ (c .before .before .before .before .before .before .before .before .before .before .before .before .before .refusal-of .ensures) (c .before .before .before .before .before .before .before .before .before .before .before .before .if2 .left) _ _ (c .before .before .put-head .ensures .0) (c .before .before .put-head .ensures .1), λ n. absurd (n (c .before .before .before .before .before .before .before .before .before .before .before .before .before .before .before .before .before .before .before .before .before .before .before .before .before .before .before .before .before .before .before .before .before .before .before .before .if1 .left)))
+    let is = handed opening (record { last = a .last .now; started = a .started .now; count = a .count-open .now; starts = record { pages = a .start-pages .now; roots = a .start-roots .now }; ends = record { pages = a .end-pages .now; roots = a .end-roots .now } }) (a .passes .now) (lentOf (a .start-table .now) (a .start-list .now) (a .end-table .now) (a .end-list .now)) _ _ _ (c .before .before .before .before .before .before .before .before .before .before .before .before .before .before .before .before .before .before .before .before .before .before .before .before .before .before .before .head-of .ensures) (c .before .before .before .before .before .before .before .before .before .before .before .before .before .before .before .before .before .before .before .before .before .before .open .ensures) in
+    (λ x. leaves-done (perform (storeIn (record { last = a .last .now; started = a .started .now; count = a .count-open .now; starts = record { pages = a .start-pages .now; roots = a .start-roots .now }; ends = record { pages = a .end-pages .now; roots = a .end-roots .now } }) (a .passes .now) (lentOf (a .start-table .now) (a .start-list .now) (a .end-table .now) (a .end-list .now))) opening) (record { last = a .last .now; started = a .started .now; count = a .count-open .now; starts = record { pages = a .start-pages .now; roots = a .start-roots .now }; ends = record { pages = a .end-pages .now; roots = a .end-roots .now } }) (a .passes .now) (lentOf (a .start-table .now) (a .start-list .now) (a .end-table .now) (a .end-list .now)) _ (c .before .before .before .before .before .before .before .before .before .before .before .before .before .before .before .before .before .before .before .before .before .before .before .before .before .before .before .before .before .before .before .before .before .before .before .before .if1 .left) _ is _ (c .before .before .before .before .before .before .before .before .before .before .before .before .before .refusal-of .ensures) (c .before .before .before .before .before .before .before .before .before .before .before .before .if2 .left) _ _ (c .before .before .put-head .ensures .0) (c .before .before .put-head .ensures .1), λ n. absurd (n (c .before .before .before .before .before .before .before .before .before .before .before .before .before .before .before .before .before .before .before .before .before .before .before .before .before .before .before .before .before .before .before .before .before .before .before .before .if1 .left)))
 
 pub nimbleshale-open-spec : {M : Type 1} → statement M
 nimbleshale-open-spec =

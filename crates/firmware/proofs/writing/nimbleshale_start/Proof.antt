@@ -35,8 +35,8 @@ same-length-3 c = search needs
 returns-2 : tie.Need-returns-2
 returns-2 c =
     let a = c .before .before .before .before .before .before .before .before .before .before .before .before .before .before .before .before .before .before .before .before .before .before .before .before .args in
-    let is = handed (start (a .tick) (a .key) (a .weight)) (record { last = a .last .now; started = a .started .now; count = a .count-open .now; startPages = a .start-pages .now; startRoots = a .start-roots .now; endPages = a .end-pages .now; endRoots = a .end-roots .now }) (a .passes .now) (lentOf (a .start-table .now) (a .start-list .now) (a .end-table .now) (a .end-list .now)) _ _ _ (c .before .before .before .before .before .before .before .before .before .head-of .ensures) (c .before .before .before .before .before .before .start .ensures) in
-    (λ e. leaves-refused (perform (storeIn (record { last = a .last .now; started = a .started .now; count = a .count-open .now; startPages = a .start-pages .now; startRoots = a .start-roots .now; endPages = a .end-pages .now; endRoots = a .end-roots .now }) (a .passes .now) (lentOf (a .start-table .now) (a .start-list .now) (a .end-table .now) (a .end-list .now))) (start (a .tick) (a .key) (a .weight))) (record { last = a .last .now; started = a .started .now; count = a .count-open .now; startPages = a .start-pages .now; startRoots = a .start-roots .now; endPages = a .end-pages .now; endRoots = a .end-roots .now }) (a .passes .now) (lentOf (a .start-table .now) (a .start-list .now) (a .end-table .now) (a .end-list .now)) _ (c .before .before .before .before .before .before .before .before .before .before .before .before .before .before .before .before .before .before .if1 .left) _ is _ (c .before .refusal-of .ensures) (c .if2 .taken) (call-unchanged (storeIn (record { last = a .last .now; started = a .started .now; count = a .count-open .now; startPages = a .start-pages .now; startRoots = a .start-roots .now; endPages = a .end-pages .now; endRoots = a .end-roots .now }) (a .passes .now) (lentOf (a .start-table .now) (a .start-list .now) (a .end-table .now) (a .end-list .now))) (start (a .tick) (a .key) (a .weight))), (λ e. start-number-kept _ _ (c .before .refusal-of .ensures) (c .if2 .taken) (is .answer), (λ n. absurd (n (c .before .before .before .before .before .before .before .before .before .before .before .before .before .before .before .before .before .before .if1 .left)), λ n. refl)))
+    let is = handed (start (a .tick) (a .key) (a .weight)) (record { last = a .last .now; started = a .started .now; count = a .count-open .now; starts = record { pages = a .start-pages .now; roots = a .start-roots .now }; ends = record { pages = a .end-pages .now; roots = a .end-roots .now } }) (a .passes .now) (lentOf (a .start-table .now) (a .start-list .now) (a .end-table .now) (a .end-list .now)) _ _ _ (c .before .before .before .before .before .before .before .before .before .head-of .ensures) (c .before .before .before .before .before .before .start .ensures) in
+    (λ e. leaves-refused (perform (storeIn (record { last = a .last .now; started = a .started .now; count = a .count-open .now; starts = record { pages = a .start-pages .now; roots = a .start-roots .now }; ends = record { pages = a .end-pages .now; roots = a .end-roots .now } }) (a .passes .now) (lentOf (a .start-table .now) (a .start-list .now) (a .end-table .now) (a .end-list .now))) (start (a .tick) (a .key) (a .weight))) (record { last = a .last .now; started = a .started .now; count = a .count-open .now; starts = record { pages = a .start-pages .now; roots = a .start-roots .now }; ends = record { pages = a .end-pages .now; roots = a .end-roots .now } }) (a .passes .now) (lentOf (a .start-table .now) (a .start-list .now) (a .end-table .now) (a .end-list .now)) _ (c .before .before .before .before .before .before .before .before .before .before .before .before .before .before .before .before .before .before .if1 .left) _ is _ (c .before .refusal-of .ensures) (c .if2 .taken) (call-unchanged (storeIn (record { last = a .last .now; started = a .started .now; count = a .count-open .now; starts = record { pages = a .start-pages .now; roots = a .start-roots .now }; ends = record { pages = a .end-pages .now; roots = a .end-roots .now } }) (a .passes .now) (lentOf (a .start-table .now) (a .start-list .now) (a .end-table .now) (a .end-list .now))) (start (a .tick) (a .key) (a .weight))), (λ e. start-number-kept _ _ (c .before .refusal-of .ensures) (c .if2 .taken) (is .answer), (λ n. absurd (n (c .before .before .before .before .before .before .before .before .before .before .before .before .before .before .before .before .before .before .if1 .left)), λ n. refl)))
 
 number-of-requires : tie.Need-number-of-requires
 number-of-requires c κs = search needs
@@ -56,8 +56,8 @@ same-length-6 c = search needs
 returns-3 : tie.Need-returns-3
 returns-3 c =
     let a = c .before .before .before .before .before .before .before .before .before .before .before .before .before .before .before .before .before .before .before .before .before .before .before .before .before .before .before .before .before .before .before .before .before .before .before .before .before .before .args in
-    let is = handed (start (a .tick) (a .key) (a .weight)) (record { last = a .last .now; started = a .started .now; count = a .count-open .now; startPages = a .start-pages .now; startRoots = a .start-roots .now; endPages = a .end-pages .now; endRoots = a .end-roots .now }) (a .passes .now) (lentOf (a .start-table .now) (a .start-list .now) (a .end-table .now) (a .end-list .now)) _ _ _ (c .before .before .before .before .before .before .before .before .before .before .before .before .before .before .before .before .before .before .before .before .before .before .before .head-of .ensures) (c .before .before .before .before .before .before .before .before .before .before .before .before .before .before .before .before .before .before .before .before .start .ensures) in
-    (λ x. leaves-done (perform (storeIn (record { last = a .last .now; started = a .started .now; count = a .count-open .now; startPages = a .start-pages .now; startRoots = a .start-roots .now; endPages = a .end-pages .now; endRoots = a .end-roots .now }) (a .passes .now) (lentOf (a .start-table .now) (a .start-list .now) (a .end-table .now) (a .end-list .now))) (start (a .tick) (a .key) (a .weight))) (record { last = a .last .now; started = a .started .now; count = a .count-open .now; startPages = a .start-pages .now; startRoots = a .start-roots .now; endPages = a .end-pages .now; endRoots = a .end-roots .now }) (a .passes .now) (lentOf (a .start-table .now) (a .start-list .now) (a .end-table .now) (a .end-list .now)) _ (c .before .before .before .before .before .before .before .before .before .before .before .before .before .before .before .before .before .before .before .before .before .before .before .before .before .before .before .before .before .before .before .before .if1 .left) _ is _ (c .before .before .before .before .before .before .before .before .before .before .before .before .before .before .before .refusal-of .ensures) (c .before .before .before .before .before .before .before .before .before .before .before .before .before .before .if2 .left) _ _ (c .before .before .put-head .ensures .0) (c .before .before .put-head .ensures .1), (λ x. c .before .before .before .before .before .before .before .before .before .before .before .number-of .ensures ∙ ap (λ (x : Answer). numberSaid (a .number .now) (valuesOf x)) (is .answer), (λ n. absurd (n (c .before .before .before .before .before .before .before .before .before .before .before .before .before .before .before .before .before .before .before .before .before .before .before .before .before .before .before .before .before .before .before .before .if1 .left)), λ n. absurd (n (c .before .before .before .before .before .before .before .before .before .before .before .before .before .before .before .before .before .before .before .before .before .before .before .before .before .before .before .before .before .before .before .before .if1 .left)))))
+    let is = handed (start (a .tick) (a .key) (a .weight)) (record { last = a .last .now; started = a .started .now; count = a .count-open .now; starts = record { pages = a .start-pages .now; roots = a .start-roots .now }; ends = record { pages = a .end-pages .now; roots = a .end-roots .now } }) (a .passes .now) (lentOf (a .start-table .now) (a .start-list .now) (a .end-table .now) (a .end-list .now)) _ _ _ (c .before .before .before .before .before .before .before .before .before .before .before .before .before .before .before .before .before .before .before .before .before .before .before .head-of .ensures) (c .before .before .before .before .before .before .before .before .before .before .before .before .before .before .before .before .before .before .before .before .start .ensures) in
+    (λ x. leaves-done (perform (storeIn (record { last = a .last .now; started = a .started .now; count = a .count-open .now; starts = record { pages = a .start-pages .now; roots = a .start-roots .now }; ends = record { pages = a .end-pages .now; roots = a .end-roots .now } }) (a .passes .now) (lentOf (a .start-table .now) (a .start-list .now) (a .end-table .now) (a .end-list .now))) (start (a .tick) (a .key) (a .weight))) (record { last = a .last .now; started = a .started .now; count = a .count-open .now; starts = record { pages = a .start-pages .now; roots = a .start-roots .now }; ends = record { pages = a .end-pages .now; roots = a .end-roots .now } }) (a .passes .now) (lentOf (a .start-table .now) (a .start-list .now) (a .end-table .now) (a .end-list .now)) _ (c .before .before .before .before .before .before .before .before .before .before .before .before .before .before .before .before .before .before .before .before .before .before .before .before .before .before .before .before .before .before .before .before .if1 .left) _ is _ (c .before .before .before .before .before .before .before .before .before .before .before .before .before .before .before .refusal-of .ensures) (c .before .before .before .before .before .before .before .before .before .before .before .before .before .before .if2 .left) _ _ (c .before .before .put-head .ensures .0) (c .before .before .put-head .ensures .1), (λ x. c .before .before .before .before .before .before .before .before .before .before .before .number-of .ensures ∙ ap (λ (x : Answer). numberSaid (a .number .now) (valuesOf x)) (is .answer), (λ n. absurd (n (c .before .before .before .before .before .before .before .before .before .before .before .before .before .before .before .before .before .before .before .before .before .before .before .before .before .before .before .before .before .before .before .before .if1 .left)), λ n. absurd (n (c .before .before .before .before .before .before .before .before .before .before .before .before .before .before .before .before .before .before .before .before .before .before .before .before .before .before .before .before .before .before .before .before .if1 .left)))))
 
 pub nimbleshale-start-spec : {M : Type 1} → statement M
 nimbleshale-start-spec =

@@ -1,16 +1,16 @@
 use mathlib.Core.Path.{sym}
 use mathlib.Core.Bool.{true≢false}
 use borrow.Author.Tests.{eqb-true}
-use Rattle.histories.proofs.SameFields.{same-answers}
+use Rattle.histories.proofs.SameNumbers.{same-answers}
 use borrow.Author.Needs.{needs}
 use Rattle.histories.proofs.counts.same.Statement.{statement}
 use Rattle.histories.proofs.counts.same.Tie as tie
 
-fields-of-requires : tie.Need-fields-of-requires
-fields-of-requires c κs = search needs
+answer-numbers-requires : tie.Need-answer-numbers-requires
+answer-numbers-requires c κs = search needs
 
-fields-of-requires-2 : tie.Need-fields-of-requires-2
-fields-of-requires-2 c κs = search needs
+answer-numbers-requires-2 : tie.Need-answer-numbers-requires-2
+answer-numbers-requires-2 c κs = search needs
 
 returns : tie.Need-returns
 returns c = λ e. absurd (true≢false (sym e))
@@ -28,9 +28,9 @@ returns-4 c = λ e.
     let first = second .before .before .before in
     let right = first .before .before .before in
     let left = right .before in
-    same-answers _ _ (left .fields-of .ensures) (right .fields-of2 .ensures) (first .if1 .left) (second .if2 .left) (third .if3 .left) (eqb-true _ _ e)
+    same-answers _ _ (left .answer-numbers .ensures) (right .answer-numbers2 .ensures) (first .if1 .left) (second .if2 .left) (third .if3 .left) (eqb-true _ _ e)
 
 pub same-spec : {M : Type 1} → statement M
 same-spec =
     tie.close
-    (tie.spec fields-of-requires fields-of-requires-2 returns returns-2 returns-3 returns-4)
+    (tie.spec answer-numbers-requires answer-numbers-requires-2 returns returns-2 returns-3 returns-4)

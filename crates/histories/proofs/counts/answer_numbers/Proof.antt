@@ -1,8 +1,8 @@
 use mathlib.Core.Path.{ap, sym}
-use Rattle.histories.specs.Answers.{fieldsOf}
+use Rattle.histories.specs.Answers.{answerNumbers}
 use borrow.Author.Needs.{needs}
-use Rattle.histories.proofs.counts.fields_of.Statement.{statement}
-use Rattle.histories.proofs.counts.fields_of.Tie as tie
+use Rattle.histories.proofs.counts.answer_numbers.Statement.{statement}
+use Rattle.histories.proofs.counts.answer_numbers.Tie as tie
 
 enum-known-answer : tie.Need-enum-known-answer
 enum-known-answer c = search needs
@@ -26,22 +26,22 @@ enum-known-answer-3 : tie.Need-enum-known-answer-3
 enum-known-answer-3 c = search needs
 
 returns : tie.Need-returns
-returns c = sym (ap fieldsOf (c .before .answer .given .1))
+returns c = sym (ap answerNumbers (c .before .answer .given .1))
 
 returns-2 : tie.Need-returns-2
-returns-2 c = sym (ap fieldsOf (c .enum-told .given .1))
+returns-2 c = sym (ap answerNumbers (c .enum-told .given .1))
 
 returns-3 : tie.Need-returns-3
-returns-3 c = sym (ap fieldsOf (c .before .answer2 .given .1))
+returns-3 c = sym (ap answerNumbers (c .before .answer2 .given .1))
 
 returns-4 : tie.Need-returns-4
-returns-4 c = sym (ap fieldsOf (c .enum-told2 .given .1))
+returns-4 c = sym (ap answerNumbers (c .enum-told2 .given .1))
 
 returns-5 : tie.Need-returns-5
-returns-5 c = sym (ap fieldsOf (c .before .answer3 .given .1))
+returns-5 c = sym (ap answerNumbers (c .before .answer3 .given .1))
 
-pub fields-of-spec : {M : Type 1} → statement M
-fields-of-spec =
+pub answer-numbers-spec : {M : Type 1} → statement M
+answer-numbers-spec =
     tie.close
     (tie.spec
     enum-known-answer
