@@ -66,7 +66,7 @@ module _ (ws vs : List ℕ) (b : PassBook) (tick : ℕ) where
 pub stays-as : (ws : List ℕ) (b : PassBook) (n : ℕ) {t : BookTurn} → t ≡ record { book = bookIn ws b; answer = refused n } → TurnsAs t (record { answer = Refused n; book = b }) ws
 stays-as ws b n e = rw e (record { answer = refl; book = refl })
 
--- "a question or a lookup": the book stays
+-- A question or a lookup: the book stays
 pub asked-stays : (b : Book) (asked : Asked) → bookDoes b (askedCall asked) ≡ b
 asked-stays b (ask.Question k1 k2 t1 t2) = refl
 asked-stays b (ask.Lookup tree t k) = refl
