@@ -14,7 +14,7 @@ use Rattle.tree.specs.declared.types.RootChange.{RootChange}
 use Rattle.tree.specs.declared.types.Lookup.the-variants.{Found}
 use Rattle.tree.specs.declared.types.Plan.the-variants.{Ready}
 use Rattle.tree.specs.Row.{rowsOf}
-use Rattle.tree.specs.Tree.{Tree, pageAt, height, wholePages, pageLimit}
+use Rattle.tree.specs.Tree.{Tree, pageAt, height, wholePages, pageLimit, topLevel}
 use Rattle.tree.specs.RowSteps.{Point}
 use Rattle.tree.specs.Lookup.{lookup}
 use Rattle.tree.specs.Path.{path}
@@ -52,7 +52,7 @@ lookup-adds table roots points h t k tick key =
     e ∙ ap (Found (sumOfPoints t k points)) (path-length (grow table roots points) t k e)
 
 pub path-short : (table roots : List ℕ) (points : List Point) → Admitted table roots points → (t k : ℕ) → t < openEnd → k < keyLimit
-    → length (path (grow table roots points) t k) ≤ 4
+    → length (path (grow table roots points) t k) ≤ topLevel + 1
 path-short table roots points h t k tick key =
     pages-at-most (grow table roots points) t k (lookup-adds table roots points h t k tick key)
 
@@ -103,7 +103,7 @@ pub height-took : (table roots : List ℕ) (points : List Point) → Admitted ta
 height-took table roots points h =
     height-laws.height-keys (grow table roots points) points (kept table roots points h) (last-in-time table roots points h)
 
-pub height-at-most : (table roots : List ℕ) (points : List Point) → Admitted table roots points → height (grow table roots points) ≤ 4
+pub height-at-most : (table roots : List ℕ) (points : List Point) → Admitted table roots points → height (grow table roots points) ≤ topLevel + 1
 height-at-most table roots points h =
     height-laws.height-low (grow table roots points) points (kept table roots points h) (last-in-time table roots points h)
 

@@ -11,7 +11,7 @@ use Rattle.words.proofs.Measure.{Measure, countOf, sumOf, count-measure, sum-me
 use Rattle.words.proofs.ValueLaws.{Stored}
 use Rattle.tree.proofs.OrderTotals.{total-stored}
 use Rattle.tree.specs.declared.types.Lookup.the-variants.{Spoiled, Found}
-use Rattle.tree.specs.Tree.{Tree, levelOf, rootAt}
+use Rattle.tree.specs.Tree.{Tree, levelOf, rootAt, topLevel}
 use Rattle.tree.specs.RowSteps.{Point}
 use Rattle.tree.specs.Lookup.{lookupFrom, lookupRoot, lookup}
 use Rattle.tree.specs.Grown.{lastTick}
@@ -44,7 +44,7 @@ module _ (measure : Value → ℕ) (m : Measure measure) (tree : Tree) (points :
   read-lookup =
       ap (lookupRoot tree t k) (found-root tree words t)
       ∙ ap (λ (b : Bool). cond b (lookupFrom tree t k level 0 keyLimit page) Spoiled)
-      (and-eq-true-iff _ _ .1 (lt-ltb page (tree .used .pages) in-use, le-leb level 3 (tells .levels t tick)))
+      (and-eq-true-iff _ _ .1 (lt-ltb page (tree .used .pages) in-use, le-leb level topLevel (tells .levels t tick)))
       ∙ read .is
     where
       in-use : page < tree .used .pages
