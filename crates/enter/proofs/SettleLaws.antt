@@ -8,8 +8,9 @@ use lib.ListN.{length, take, length-append, length-take, List·getD-append, List
 use lib.Seq.{getD-take, length-take-le}
 use borrow.Author.Tests.{le-leb, lt-leb}
 use Rattle.words.specs.Lists.{All}
+use Rattle.words.proofs.ValueLaws.{value-alike}
 use Rattle.tree.specs.declared.types.Row.{Row}
-use Rattle.tree.specs.Row.{word, rowAt, rowStart, rowWords, rowsFrom, rowsOf, rowLimit, pageWords, headerWords, mostRows}
+use Rattle.tree.specs.Row.{word, rowAt, rowStart, rowWords, rowsFrom, rowsOf, rowLimit, pageWords, headerWords, mostRows, valueStart}
 use Rattle.tree.specs.Edit.{withRows}
 use Rattle.tree.specs.Fresh.{zeros}
 use Rattle.tree.proofs.PageCodec.{Fits, with-level, with-count, with-range, with-rows}
@@ -38,8 +39,11 @@ word-front page extra i h = List·getD-append page extra 0 i h
 
 pub row-front : (page extra : List ℕ) (at : ℕ) → at + rowWords ≤ length page → rowAt (page ++ extra) at ≡ rowAt page at
 row-front page extra at h =
-    rw
-    (word-front page extra at (omega arith), word-front page extra (at + 1) (omega arith), word-front page extra (at + 2) (omega arith), word-front page extra (at + 2 + 1) (omega arith))
+    rw (
+      word-front page extra at (omega arith),
+      word-front page extra (at + 1) (omega arith),
+      value-alike (page ++ extra) page (at + valueStart) (λ i l. word-front page extra (at + valueStart + i) (omega arith)),
+    )
 
 rows-front : (page extra : List ℕ) (at n : ℕ) → at + rowWords * n ≤ length page → rowsFrom (page ++ extra) at n ≡ rowsFrom page at n
 unfolding rowsFrom

@@ -11,7 +11,7 @@ use Rattle.words.specs.Words.{keyLimit, rootEntry}
 use Rattle.words.specs.declared.value.Value.{Value}
 use Rattle.words.specs.Value as value
 use Rattle.words.proofs.OverwriteLaws.{overwrite-length}
-use Rattle.words.proofs.Measure.{Measure, countOf, sumOf, count-measure, sum-measure}
+use Rattle.words.proofs.Measure.{Measure, countOf, count-measure}
 use Rattle.tree.specs.Row.{rowsOf, rowLimit, pageWords}
 use Rattle.tree.specs.Fresh.{newRow}
 use Rattle.tree.proofs.Lists.{sumBy}
@@ -90,10 +90,14 @@ abbrev pub Tells : (Value → ℕ) → Tree → List Point → Type 0
 Tells measure tree points =
     Invariant (Known points) (lastTick points) (stateOf measure tree) (λ t k. numbers measure t k points) (72 + 8 * length points)
 
-pub record Kept (tree : Tree) (points : List Point) : Type 0 where
+-- What every grown tree keeps: its words make sense, and each measure of values reads these points from it
+pub record TreeKept (tree : Tree) (points : List Point) : Type 0 where
   pub words : WordsKept tree (lastTick points)
-  pub counts : Tells countOf tree points
-  pub sumEntries : Tells sumOf tree points
+  pub tells : (measure : Value → ℕ) → Measure measure → Tells measure tree points
+
+-- Values never decide what an entry does, so one measure tells what the pages are like
+pub counts : {tree : Tree} {points : List Point} → TreeKept tree points → Tells countOf tree points
+counts k = k .tells countOf count-measure
 
 -- An entry into a grown tree
 module _ (measure : Value → ℕ) (m : Measure measure) (tree : Tree) (points : List Point) (p : Point)
@@ -319,41 +323,26 @@ module _ (table roots : List ℕ) (room : pageWords ≤ length table) (list : 1 
         (opened-keeps (viewTable measure table) (Known []) refl)
 
 -- Every grown tree
-pub kept : (table roots : List ℕ) (points : List Point) → Admitted table roots points → Kept (grow table roots points) points
+pub kept : (table roots : List ℕ) (points : List Point) → Admitted table roots points → TreeKept (grow table roots points) points
 unfolding grow
 kept table roots [] h =
     record {
       words = opened-words table roots (h .0) (h .1);
-      counts = opened-tells table roots (h .0) (h .1) countOf count-measure;
-      sumEntries = opened-tells table roots (h .0) (h .1) sumOf sum-measure;
+      tells = λ measure m. opened-tells table roots (h .0) (h .1) measure m;
     }
 kept table roots (p ∷ points) h = after (kept table roots points (h .2))
   where
     tree : Tree
     tree = grow table roots points
 
-    after : Kept (grow table roots points) points → Kept (enter (grow table roots points) p) (p ∷ points)
+    after : TreeKept (grow table roots points) points → TreeKept (enter (grow table roots points) p) (p ∷ points)
     after k =
         let root = k .words .roots .found (p .tick) in
         record {
           words =
-              next-words countOf count-measure (grow table roots points) points p (k .words) (k .counts) (h .0) (root .0) (root .1)
+              next-words countOf count-measure (grow table roots points) points p (k .words) (counts k) (h .0) (root .0) (root .1)
               (h .1);
-          counts =
-              next-tells countOf count-measure (grow table roots points) points p (k .words) (k .counts) (h .0) (root .0) (root .1)
-              (h .1);
-          sumEntries =
-              next-tells sumOf sum-measure (grow table roots points) points p (k .words) (k .sumEntries) (h .0) (root .0) (root .1)
+          tells =
+              λ measure m. next-tells measure m (grow table roots points) points p (k .words) (k .tells measure m) (h .0) (root .0) (root .1)
               (h .1);
         }
-
--- Read by any measure
-pub told : (measure : Value → ℕ) → Measure measure → (table roots : List ℕ) (points : List Point) → Admitted table roots points
-    → Tells measure (grow table roots points) points
-unfolding grow
-told measure m table roots [] h = opened-tells table roots (h .0) (h .1) measure m
-told measure m table roots (p ∷ points) h =
-    let words = kept table roots points (h .2) .words in
-    let root = words .roots .found (p .tick) in
-    next-tells measure m (grow table roots points) points p words (told measure m table roots points (h .2)) (h .0) (root .0) (root .1)
-    (h .1)

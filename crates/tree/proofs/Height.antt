@@ -20,7 +20,7 @@ use Rattle.tree.proofs.LeafRows.{rows-root, rows-known, many-append, ma
 use Rattle.tree.proofs.View.{viewTable}
 use Rattle.tree.proofs.RootLaws.{root-now}
 use Rattle.tree.proofs.TreeViews.{pageOf}
-use Rattle.tree.proofs.Growth.{isKnown, Known, numbers, Kept}
+use Rattle.tree.proofs.Growth.{isKnown, Known, numbers, TreeKept, counts}
 
 pub many-same : (f g : ℕ → Bool) (from n : ℕ) → ((k : ℕ) → from ≤ k → f k ≡ g k) → howMany f from n ≡ howMany g from n
 unfolding howMany
@@ -41,13 +41,13 @@ known-keys points =
     above : (k : ℕ) → 1 ≤ k → isKnown points k ≡ isTaken points k
     above k h = ap (λ (b : Bool). b || isTaken points k) (ne-eqb k 0 (λ e. omega arith))
 
-module _ (tree : ours.Tree) (points : List Point) (kept : Kept tree points) (now : lastTick points < openEnd) where
+module _ (tree : ours.Tree) (points : List Point) (kept : TreeKept tree points) (now : lastTick points < openEnd) where
   abbrev page : ℕ
   page = pageOf (rootAt tree (lastTick points))
 
   paid : Paid (Known points) (viewTable countOf (tree .table)) (tree .used .pages) (lastTick points)
       (λ k. numbers countOf (lastTick points) k points) page (72 + 8 * length points)
-  paid = kept .counts .current (lastTick points) (omega arith) now
+  paid = counts kept .current (lastTick points) (omega arith) now
 
   level-low : levelOf (tree .table) (pageOf (rootAt tree (lastTick points))) ≤ topLevel
   level-low =

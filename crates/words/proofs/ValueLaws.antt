@@ -28,7 +28,12 @@ value-again words at zero h = ap (λ (n : ℕ). getD words n 0) (omega arith)
 value-again words at (suc zero) h = refl
 value-again words at (suc (suc i)) h = absurd (omega arith)
 
--- So words stay as they are where they have such a value already
+-- Words that are alike have the same value
+pub value-alike : (words others : List ℕ) (at : ℕ) → ((i : ℕ) → i < valueWords → getD words (at + i) 0 ≡ getD others (at + i) 0)
+    → valueAt words at ≡ valueAt others at
+value-alike words others at same = value-back words at (valueAt others at) (λ i l. same i l ∙ sym (value-again others at i l))
+
+-- Words stay as they are where they have such a value already
 module _ (words others : List ℕ) (at : ℕ) (fits : at + valueWords ≤ length words)
     (same : (i : ℕ) → i < valueWords → getD words (at + i) 0 ≡ getD others (at + i) 0) where
   abbrev again : List ℕ
@@ -68,6 +73,9 @@ plus-exchange a b c = sym (plus-assoc a b c) ∙ ap (λ (v : Value). plus v c) (
 abbrev pub Stored : Value → Type 0
 Stored v = (v .count < 2 ^ 64) × (v .sum < 2 ^ 64)
 
+pub read-stored : (words : List ℕ) (at : ℕ) → ((i : ℕ) → getD words i 0 < 2 ^ 64) → Stored (valueAt words at)
+read-stored words at small = (small at, small (at + 1))
+
 pub plus-stored : (a b : Value) → Stored (plus a b)
 unfolding plus
 plus-stored a b = omega arith
@@ -81,6 +89,12 @@ plus-zero v h = plus-comm v value.zero ∙ zero-plus v h
 
 pub zero-plus-plus : (a b : Value) → plus value.zero (plus a b) ≡ plus a b
 zero-plus-plus a b = zero-plus (plus a b) (plus-stored a b)
+
+-- What is added to two sums alike may be left out of both
+pub plus-cancel : (a x y : Value) → Stored x → Stored y → plus a x ≡ plus a y → x ≡ y
+unfolding plus
+plus-cancel a x y h k e =
+    value-path (omega (arith, h .0, k .0, ap (λ (v : Value). v .count) e)) (omega (arith, h .1, k .1, ap (λ (v : Value). v .sum) e))
 
 -- What added to b wraps to a is the difference
 pub taken-away : (a b r : ℕ) → b < 2 ^ 64 → r < 2 ^ 64 → (r + b) % 2 ^ 64 ≡ a → r ≡ (a + (2 ^ 64 - b % 2 ^ 64)) % 2 ^ 64
