@@ -9,9 +9,11 @@ use lib.Seq.{take-suc, take-length, length-take-le, take-at, getD-take, getD-dro
 use borrow.Rule.Slice.PartMut.{putMid, post-is}
 use Rattle.words.specs.Overwrite.{overwrite}
 use Rattle.tree.specs.Fresh.{zeros}
-use Rattle.tree.specs.Row.{word}
+use Rattle.tree.specs.Row.{word, pageWords}
 use Rattle.tree.specs.Tree.{pageAt, putPage}
 use Rattle.words.proofs.OverwriteLaws.{overwrite-none, overwrite-one, overwrite-more, overwrite-length}
+use Rattle.split.specs.SplitWords.{scratchWords}
+use Rattle.enter.specs.EnterWords.{appendedWords}
 
 module _ (to from : List ℕ) (room : length from ≤ length to) where
   pub copy-none : to ≡ overwrite to 0 (take 0 from)
@@ -29,34 +31,34 @@ module _ (to from : List ℕ) (room : length from ≤ length to) where
   copy-done at h l = let e : at ≡ length from = omega arith in ap (λ (n : ℕ). overwrite to 0 (take n from)) e ∙ ap (overwrite to 0) (take-length from)
 
 -- The words of a page lent on from the middle of a table, and given back changed
-pub part-length : (table : List ℕ) (page : ℕ) → page * 260 + 260 ≤ length table → length (take (page * 260 + 260 - page * 260) (drop (page * 260) table)) ≡ 260
+pub part-length : (table : List ℕ) (page : ℕ) → page * pageWords + pageWords ≤ length table → length (take (page * pageWords + pageWords - page * pageWords) (drop (page * pageWords) table)) ≡ pageWords
 part-length table page h =
-    let e : page * 260 + 260 - page * 260 ≡ 260 = omega arith in
-    rw e (length-take-le 260 (drop (page * 260) table) (rw length-drop (omega arith)))
+    let e : page * pageWords + pageWords - page * pageWords ≡ pageWords = omega arith in
+    rw e (length-take-le pageWords (drop (page * pageWords) table) (rw length-drop (omega arith)))
 
-pub part-is : (table : List ℕ) (page : ℕ) → take (page * 260 + 260 - page * 260) (drop (page * 260) table) ≡ pageAt table page
-part-is table page = let e : page * 260 + 260 - page * 260 ≡ 260 = omega arith in ap (λ (n : ℕ). take n (drop (page * 260) table)) e
+pub part-is : (table : List ℕ) (page : ℕ) → take (page * pageWords + pageWords - page * pageWords) (drop (page * pageWords) table) ≡ pageAt table page
+part-is table page = let e : page * pageWords + pageWords - page * pageWords ≡ pageWords = omega arith in ap (λ (n : ℕ). take n (drop (page * pageWords) table)) e
 
-pub part-back : (table : List ℕ) (page : ℕ) (words : List ℕ) → page * 260 + 260 ≤ length table → length words ≡ 260 →
-    putMid (page * 260) (page * 260 + 260 - page * 260) table words ≡ putPage table page words
+pub part-back : (table : List ℕ) (page : ℕ) (words : List ℕ) → page * pageWords + pageWords ≤ length table → length words ≡ pageWords →
+    putMid (page * pageWords) (page * pageWords + pageWords - page * pageWords) table words ≡ putPage table page words
 unfolding overwrite
 part-back table page words h l =
-    let at : ℕ = page * 260 in
-    ap (λ (b : List ℕ). take at table ++ (words ++ b)) (post-is at (at + 260) table (omega arith) ∙ ap (λ (n : ℕ). drop (at + n) table) (sym l))
+    let at : ℕ = page * pageWords in
+    ap (λ (b : List ℕ). take at table ++ (words ++ b)) (post-is at (at + pageWords) table (omega arith) ∙ ap (λ (n : ℕ). drop (at + n) table) (sym l))
     ∙ sym (append-assoc (take at table) words (drop (at + length words) table))
 
 -- How many rows a page has, read from the table
-pub page-count : (table : List ℕ) (page : ℕ) → word (pageAt table page) 1 ≡ word table (page * 260 + 1)
-page-count table page = getD-take 260 (drop (page * 260) table) 1 0 (omega arith) ∙ getD-drop (page * 260) table 1 0
+pub page-count : (table : List ℕ) (page : ℕ) → word (pageAt table page) 1 ≡ word table (page * pageWords + 1)
+page-count table page = getD-take pageWords (drop (page * pageWords) table) 1 0 (omega arith) ∙ getD-drop (page * pageWords) table 1 0
 
 -- A page copied into other words, and zeros behind it
-copied-front : (copy words : List ℕ) → length words ≡ 260 → take 260 (overwrite copy 0 words) ≡ words
+copied-front : (copy words : List ℕ) → length words ≡ pageWords → take pageWords (overwrite copy 0 words) ≡ words
 unfolding overwrite
-copied-front copy words l = take-at words (drop (0 + length words) copy) 260 l
+copied-front copy words l = take-at words (drop (0 + length words) copy) pageWords l
 
-pub load-is : (copy words : List ℕ) → length copy ≡ 272 → length words ≡ 260 → putMid 260 12 (overwrite copy 0 words) (zeros 12) ≡ words ++ zeros 12
+pub load-is : (copy words : List ℕ) → length copy ≡ scratchWords → length words ≡ pageWords → putMid pageWords appendedWords (overwrite copy 0 words) (zeros appendedWords) ≡ words ++ zeros appendedWords
 load-is copy words long l =
-    let size : length (overwrite copy 0 words) ≡ 272 = overwrite-length copy 0 words (omega arith) ∙ long in
-    ap₂ (λ (a b : List ℕ). a ++ (zeros 12 ++ b)) (copied-front copy words l)
-    (post-is 260 272 (overwrite copy 0 words) (omega arith) ∙ drop-of-length-le (overwrite copy 0 words) {i = 272} (omega arith))
-    ∙ ap (λ (w : List ℕ). words ++ w) (append-nil (zeros 12))
+    let size : length (overwrite copy 0 words) ≡ scratchWords = overwrite-length copy 0 words (omega arith) ∙ long in
+    ap₂ (λ (a b : List ℕ). a ++ (zeros appendedWords ++ b)) (copied-front copy words l)
+    (post-is pageWords scratchWords (overwrite copy 0 words) (omega arith) ∙ drop-of-length-le (overwrite copy 0 words) {i = scratchWords} (omega arith))
+    ∙ ap (λ (w : List ℕ). words ++ w) (append-nil (zeros appendedWords))

@@ -7,7 +7,7 @@ use mathlib.Core.List.{List}
 use lib.ListN.{length}
 use borrow.Author.Tests.{ltb-true}
 use Rattle.tree.specs.declared.types.Row.{Row}
-use Rattle.tree.specs.Row.{word, rowStart, rowsOf, pageWords, rowLimit}
+use Rattle.tree.specs.Row.{word, rowStart, rowsOf, pageWords, rowLimit, mostRows, mostAppended}
 use Rattle.tree.specs.KeyOrder.{Placed}
 use Rattle.tree.specs.TrueValue.{Search, none, one}
 use Rattle.page.proofs.PageReadings.{header-facts}
@@ -18,11 +18,12 @@ use Rattle.tree.specs.Overflow.{Written, finishPage}
 use Rattle.tree.specs.Enter.{unwritten, enterBelow, enterFrom}
 use Rattle.tree.specs.Plan.{soundBelow, descentSound}
 use Rattle.tree.specs.Fresh.{zeros}
-use Rattle.enter.specs.EnterWords.{loaded}
+use Rattle.enter.specs.EnterWords.{loaded, appendedWords}
 use Rattle.enter.proofs.SettleLaws.{rows-of-front, loaded-count, loaded-length}
 use Rattle.tree.proofs.TableLaws.{page-length}
 use Rattle.enter.proofs.StepRows.{RowsFit, ChildrenFit, gain-fits, leaf-fits, link-fits}
 use Rattle.enter.proofs.FinishFacts.{Finished, finish-facts, finish-least}
+use Rattle.split.specs.SplitWords.{scratchWords}
 
 -- What a page that is met says
 pub record Met (tree : Tree) (level page : ℕ) : Type 0 where
@@ -45,7 +46,6 @@ pub record Entered (tree : Tree) (level : ℕ) (o : Written) : Type 0 where
   pub same-length : length (o .table) ≡ length (tree .table)
   pub other : (q : ℕ) → q < tree .used .pages → level < levelOf (tree .table) q → pageAt (o .table) q ≡ pageAt (tree .table) q
   pub children : ChildrenFit (o .became)
-  pub most : o .made ≤ 2 * level + 2
 
 -- The descent's rows and what lies below them
 pub descent-here : (tree : Tree) (p : Point) (level low high page : ℕ) → descentSound tree p level low high page ≡ true → metAt tree (p .tick) level low high page ≡ true
@@ -79,7 +79,7 @@ module _ (tree : Tree) (p : Point) (small : p .tick < 4294967296) (narrow : p .k
       apart : q ≡ page → ⊥
       apart same = omega (arith, m .level-is, ap (levelOf (tree .table)) same)
 
-  lowest-facts : (level page : ℕ) → Met tree level page → (rows : List Row) → RowsFit 67 rows →
+  lowest-facts : (level page : ℕ) → Met tree level page → (rows : List Row) → RowsFit mostRows rows →
       (tree .used .pages + finishPage tree (p .tick) (unwritten tree) page rows .made) * pageWords ≤ length (tree .table) →
       Entered tree level (finishPage tree (p .tick) (unwritten tree) page rows)
   lowest-facts level page m rows fit room =
@@ -88,41 +88,40 @@ module _ (tree : Tree) (p : Point) (small : p .tick < 4294967296) (narrow : p .k
         same-length = f .same-length;
         other = λ q l h. finished-other level page m (unwritten tree) _ f q l h refl;
         children = f .children;
-        most = omega (arith, f .most);
       }
 
   -- the copy of a page has its rows
   module _ (level page : ℕ) (m : Met tree level page) where
     pub copy-rows : rowsOf (loaded (tree .table) page) ≡ rowsOf (pageAt (tree .table) page)
-    copy-rows = rows-of-front (pageAt (tree .table) page) (zeros 12) (omega (arith, m .few-rows, page-whole level page m))
+    copy-rows = rows-of-front (pageAt (tree .table) page) (zeros appendedWords) (omega (arith, m .few-rows, page-whole level page m))
 
     pub copy-count : word (loaded (tree .table) page) 1 ≡ word (pageAt (tree .table) page) 1
     copy-count = loaded-count (tree .table) page (page-whole level page m)
 
-    pub copy-length : length (loaded (tree .table) page) ≡ 272
+    pub copy-length : length (loaded (tree .table) page) ≡ scratchWords
     copy-length = loaded-length (tree .table) page (page-whole level page m)
 
-    pub copy-room : (i : ℕ) → i ≤ 3 → rowStart (word (loaded (tree .table) page) 1 + i) ≤ length (loaded (tree .table) page)
+    pub copy-room : (i : ℕ) → i ≤ mostAppended → rowStart (word (loaded (tree .table) page) 1 + i) ≤ length (loaded (tree .table) page)
     copy-room i h = omega (arith, m .few-rows, copy-count, copy-length)
 
-    pub leaf-rows-fit : RowsFit 67 (leafRows p (rowsOf (pageAt (tree .table) page)))
+    pub leaf-rows-fit : RowsFit mostRows (leafRows p (rowsOf (pageAt (tree .table) page)))
     leaf-rows-fit =
         let f = leaf-fits p small narrow (loaded (tree .table) page) (copy-room 2 (omega arith)) in
-        let g : RowsFit 67 (leafRows p (rowsOf (loaded (tree .table) page))) = record { fit = f .fit; few = omega (arith, f .few, copy-count, m .few-rows) } in
+        let g : RowsFit mostRows (leafRows p (rowsOf (loaded (tree .table) page))) = record { fit = f .fit; few = omega (arith, f .few, copy-count, m .few-rows) } in
         rw copy-rows at g
 
-    pub gain-rows-fit : RowsFit 67 (gainRows p (rowsOf (pageAt (tree .table) page)))
+    pub gain-rows-fit : RowsFit mostRows (gainRows p (rowsOf (pageAt (tree .table) page)))
     gain-rows-fit =
         let f = gain-fits p small narrow (loaded (tree .table) page) (copy-room 1 (omega arith)) in
-        let g : RowsFit 67 (gainRows p (rowsOf (loaded (tree .table) page))) = record { fit = f .fit; few = omega (arith, f .few, copy-count, m .few-rows) } in
+        let g : RowsFit mostRows (gainRows p (rowsOf (loaded (tree .table) page))) = record { fit = f .fit; few = omega (arith, f .few, copy-count, m .few-rows) } in
         rw copy-rows at g
 
     pub link-rows-fit : (x : Placed) → rowAround p (rowsOf (pageAt (tree .table) page)) ≡ one x → (became : Became) → ChildrenFit became →
-        RowsFit 67 (relinkRow (p .tick) x became (gainRows p (rowsOf (pageAt (tree .table) page))))
+        RowsFit mostRows (relinkRow (p .tick) x became (gainRows p (rowsOf (pageAt (tree .table) page))))
     link-rows-fit x found became fit =
         let there : rowAround p (rowsOf (loaded (tree .table) page)) ≡ one x = ap (rowAround p) copy-rows ∙ found in
-        let f = link-fits p small narrow (loaded (tree .table) page) (copy-room 3 (omega arith)) x there became fit in
-        let g : RowsFit 67 (relinkRow (p .tick) x became (gainRows p (rowsOf (loaded (tree .table) page)))) =
+        let f = link-fits p small narrow (loaded (tree .table) page) (copy-room mostAppended (omega arith)) x there became fit in
+        let g : RowsFit mostRows (relinkRow (p .tick) x became (gainRows p (rowsOf (loaded (tree .table) page)))) =
         record { fit = f .fit; few = omega (arith, f .few, copy-count, m .few-rows) } in
         rw copy-rows at g
 
@@ -162,5 +161,4 @@ module _ (tree : Tree) (p : Point) (small : p .tick < 4294967296) (narrow : p .k
             same-length = f .same-length ∙ c .same-length;
             other = λ q i h. finished-other (suc l) page m child _ f q i h (c .other q i (omega arith));
             children = f .children;
-            most = omega (arith, f .most, c .most);
           }

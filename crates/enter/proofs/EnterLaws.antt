@@ -4,15 +4,18 @@ use native.Mathlib.Omega.{arith}
 use mathlib.Core.Path.{_≡_, refl, sym, ap, ap₂, _∙_}
 use mathlib.Core.List.{List, _++_}
 use lib.ListN.{length}
+use Rattle.tree.specs.Plan.{mostMade}
 use Rattle.tree.specs.declared.types.Row.{Row}
-use Rattle.tree.specs.Row.{word, rowStart, rowsOf, pageWords, rowLimit, rowIn}
+use Rattle.tree.specs.Row.{word, rowStart, rowsOf, pageWords, rowLimit, rowIn, mostRows, mostAppended}
 use Rattle.tree.specs.KeyOrder.{Placed}
 use Rattle.tree.specs.TrueValue.{none, one}
 use Rattle.ranges.specs.Nearest.{placeFound}
 use Rattle.live.specs.Survey.{isAround}
 use Rattle.tree.specs.Edit.{withRows}
 use Rattle.tree.specs.Fresh.{zeros}
+use Rattle.tree.proofs.MostMade.{made-below, new-few}
 use Rattle.tree.proofs.PageCodec.{with-length, with-count}
+use Rattle.split.specs.SplitWords.{scratchWords}
 use Rattle.split.specs.declared.done.Done.{Done}
 use Rattle.tree.specs.Tree.{Tree, pageAt}
 use Rattle.tree.specs.RowSteps.{Point, rowAround, rowFrom, gainRows, leafRows, relinkRow}
@@ -20,7 +23,7 @@ use Rattle.tree.specs.declared.types.Became.{Became}
 use Rattle.tree.specs.Overflow.{Written, finishPage}
 use Rattle.tree.specs.Enter.{unwritten, enterFrom}
 use Rattle.row_steps.specs.PageEdits.{leafWords, gainWords, linkWords}
-use Rattle.enter.specs.EnterWords.{loaded, madeSo, settled, CanSettle, CanEnter, DoneAs, leafEdited, gainEdited, linkEdited}
+use Rattle.enter.specs.EnterWords.{loaded, madeSo, settled, CanSettle, CanEnter, DoneAs, leafEdited, gainEdited, linkEdited, appendedWords}
 use Rattle.enter.proofs.SettleLaws.{settled-is-finished}
 use Rattle.enter.proofs.StepRows.{Seen, found-seen, RowsFit, gain-is-with, leaf-is-with, link-is-with}
 use Rattle.enter.proofs.FinishFacts.{finish-least}
@@ -37,13 +40,13 @@ module _ (tree : Tree) (p : Point) (small : p .tick < 4294967296) (narrow : p .k
   inside level page can = page-inside tree p small narrow (can .in-table) level page (met level page can)
 
   -- an edited copy that holds these rows can be settled, and settling it finishes the page
-  module _ (level page : ℕ) (can : CanEnter tree p level page) (so : Written) (same : length (so .table) ≡ length (tree .table)) (few : so .made ≤ 16)
-      (rows : List Row) (fit : RowsFit 67 rows) (words : List ℕ) (is : words ≡ withRows (loaded (tree .table) page) rows)
+  module _ (level page : ℕ) (can : CanEnter tree p level page) (so : Written) (same : length (so .table) ≡ length (tree .table)) (few : so .made < mostMade)
+      (rows : List Row) (fit : RowsFit mostRows rows) (words : List ℕ) (is : words ≡ withRows (loaded (tree .table) page) rows)
       (room : (tree .used .pages + finishPage tree (p .tick) so page rows .made) * pageWords ≤ length (tree .table)) where
     m : Met tree level page
     m = met level page can
 
-    long : length (loaded (tree .table) page) ≡ 272
+    long : length (loaded (tree .table) page) ≡ scratchWords
     long = copy-length tree p small narrow (can .in-table) level page m
 
     fits : rowStart (length rows) ≤ length (loaded (tree .table) page)
@@ -172,7 +175,7 @@ module _ (tree : Tree) (p : Point) (small : p .tick < 4294967296) (narrow : p .k
           page-now = ap (λ (w : List ℕ). pageAt w page) (is .table-is) ∙ page-kept
 
           loaded-now : loaded now page ≡ loaded (tree .table) page
-          loaded-now = ap (λ (w : List ℕ). w ++ zeros 12) page-now
+          loaded-now = ap (λ (w : List ℕ). w ++ zeros appendedWords) page-now
 
           link-edited : linkEdited (p .tick) (p .value) now page (placeFound (rowFrom p (rowsOf (pageAt (tree .table) page)))) (x .place) (done .became)
               ≡ withRows (loaded (tree .table) page) rows-after
@@ -182,7 +185,7 @@ module _ (tree : Tree) (p : Point) (small : p .tick < 4294967296) (narrow : p .k
               (λ (w : List ℕ). linkWords (p .tick) (gainWords (p .tick) (p .value) w (placeFound (rowFrom p (rowsOf (pageAt (tree .table) page))))) (x .place) (rowIn w (x .place)) (done .became))
               loaded-now
               ∙ ap₂ (λ (w : List ℕ) (r : Row). linkWords (p .tick) w (x .place) r (done .became)) gained-copy (seen .same)
-              ∙ link-is-with p small narrow (loaded (tree .table) page) (copy-room tree p small narrow (can .in-table) (suc l) page here 3 (omega arith)) x
+              ∙ link-is-with p small narrow (loaded (tree .table) page) (copy-room tree p small narrow (can .in-table) (suc l) page here mostAppended (omega arith)) x
               (ap (rowAround p) rows-same ∙ found) (done .became) (rw (is .became-is) (facts .children))
               ∙ ap₂ (λ (b : Became) (rs : List Row). withRows (loaded (tree .table) page) (relinkRow (p .tick) x b (gainRows p rs))) (is .became-is) rows-same
 
@@ -190,7 +193,7 @@ module _ (tree : Tree) (p : Point) (small : p .tick < 4294967296) (narrow : p .k
           unfolding child
           same-size = ap length (is .table-is) ∙ facts .same-length
 
-          fit : RowsFit 67 rows-after
+          fit : RowsFit mostRows rows-after
           unfolding rows-after
           fit = link-rows-fit tree p small narrow (can .in-table) (suc l) page here x found (child .became) (facts .children)
 
@@ -199,9 +202,9 @@ module _ (tree : Tree) (p : Point) (small : p .tick < 4294967296) (narrow : p .k
           unfolding finishPage child
           finish-so = rw (is .table-is, is .made-is)
 
-          few-made : done .made ≤ 16
+          few-made : done .made < mostMade
           unfolding child
-          few-made = omega (arith, is .made-is, facts .most, can .low-level)
+          few-made = omega (arith, is .made-is, made-below tree p l (x .row .child), new-few (child .became), can .low-level)
 
           so-room : (tree .used .pages + finishPage tree (p .tick) (madeSo now (done .made)) page rows-after .made) * pageWords ≤ length (tree .table)
           so-room = rw finish-so one-room

@@ -7,7 +7,7 @@ use mathlib.Core.List.{List, []}
 use lib.Dec.{ltb, eqb}
 use lib.ListN.{length}
 use borrow.Author.Tests.{leb-true, ltb-true, ne-eqb}
-use Rattle.words.specs.Words.{birthOf, keyLimit}
+use Rattle.words.specs.Words.{rootBirth, keyLimit}
 use Rattle.tree.specs.declared.types.Row.{Row}
 use Rattle.tree.specs.Row.{word, rowsOf, pageWords}
 use Rattle.tree.specs.KeyOrder.{Placed}
@@ -27,9 +27,10 @@ use Rattle.tree.specs.declared.types.Became.{Became}
 use Rattle.tree.specs.declared.types.Became.the-variants.{Stays, Copied, Halved}
 use Rattle.tree.specs.Overflow.{Written, takenPage, finishPage}
 use Rattle.tree.specs.Enter.{Entered, enterAbove, enterBelow, enterFrom, withRoot, enteredAs, enterRoot}
-use Rattle.tree.specs.Plan.{soundBelow, descentSound, topMustSplit, planRoot, plan, enteredRoot, enter}
+use Rattle.tree.specs.Plan.{soundBelow, descentSound, topMustSplit, planRoot, plan, enteredRoot, enter, mostMade}
 use Rattle.split.specs.declared.done.Done.{Done}
 use Rattle.enter.specs.EnterWords.{useOf, CanEnter, DoneAs}
+use Rattle.tree.proofs.MostMade.{made-at-most}
 use Rattle.tree.proofs.TableLaws.{level-in-table}
 use Rattle.enter.proofs.EnterFacts.{enter-facts}
 use Rattle.enter.specs.EnterRoot.{rootTree, CanPut, RootPut, Planned, EnteredAs}
@@ -113,7 +114,7 @@ plan-facts tree p {made} {change} e = go (rootAt tree (p .tick)) refl e
 
 -- A root entry that is put in changes the root list and the use alike, whatever the table
 module _ (tree : Tree) (t page made : ℕ) (table : List ℕ) where
-  parts : (b : Bool) → eqb (birthOf (lastRoot tree)) t ≡ b →
+  parts : (b : Bool) → eqb (rootBirth (lastRoot tree)) t ≡ b →
       (withRoot tree t page table made .tree .table ≡ table)
       × (withRoot tree t page table made .tree .roots ≡ withRoot (rootTree (tree .roots) (tree .used)) t page [] made .tree .roots)
       × (withRoot tree t page table made .tree .used ≡ withRoot (rootTree (tree .roots) (tree .used)) t page [] made .tree .used)
@@ -128,7 +129,7 @@ module _ (tree : Tree) (t page made : ℕ) (table : List ℕ) where
       × (withRoot tree t page table made .made ≡ made)
   put-parts = parts _ refl
 
-  pub put-added : (birthOf (lastRoot tree) ≡ t → ⊥) → withRoot tree t page table made .root ≡ Added
+  pub put-added : (rootBirth (lastRoot tree) ≡ t → ⊥) → withRoot tree t page table made .root ≡ Added
   put-added n = rw (ne-eqb _ _ n)
 
 -- The page that a two-row root is
@@ -218,11 +219,11 @@ module _ (tree : Tree) (p : Point) (pl : Planned tree p) where
   pub root-in-use : rootPage < tree .used .pages
   root-in-use = facts .in-use
 
-  pub few-pages : p .tick < 4294967296 → p .key < 65536 → (done : Done) (now : List ℕ) →
-      DoneAs (enterFrom (useOf (tree .table) (tree .used)) p level rootPage) now done → (done .made ≤ 8) × (length now ≡ length (tree .table))
-  few-pages small narrow done now is =
+  pub same-size : p .tick < 4294967296 → p .key < 65536 → (done : Done) (now : List ℕ) →
+      DoneAs (enterFrom (useOf (tree .table) (tree .used)) p level rootPage) now done → length now ≡ length (tree .table)
+  same-size small narrow done now is =
       let e = enter-facts (useOf (tree .table) (tree .used)) p small narrow in-table level (can-enter .sound .0) (can-enter .sound .1 .0) rootPage (can-enter .sound .1 .1) (can-enter .room) in
-      (omega (arith, e .most, is .made-is, low-level), ap length (is .table-is) ∙ e .same-length)
+      ap length (is .table-is) ∙ e .same-length
 
   -- what came back from the root page
   module _ (done : Done) (now : List ℕ) (is : DoneAs (enterFrom (useOf (tree .table) (tree .used)) p level rootPage) now done) where
@@ -255,31 +256,40 @@ module _ (tree : Tree) (p : Point) (pl : Planned tree p) where
         }
 
     place-for : (page made : ℕ) (table : List ℕ) → withRoot tree (p .tick) page table made .root ≡ pl .change →
-        (birthOf (lastRoot (rootTree (tree .roots) (tree .used))) ≡ p .tick → ⊥) → tree .used .roots < length (tree .roots)
+        (rootBirth (lastRoot (rootTree (tree .roots) (tree .used))) ≡ p .tick → ⊥) → tree .used .roots < length (tree .roots)
     place-for page made table e n = pl .place (sym e ∙ put-added tree (p .tick) page made table n)
 
-    module _ (few : done .made ≤ 8) where
-      pub copied-can : (c : Child) → done .became ≡ Copied c → CanPut (tree .roots) (tree .used) (done .made) (p .tick)
-      copied-can c e =
-          record {
-            some = pl .some;
-            inside = pl .inside;
-            place = place-for (c .page) (so .made) (so .table) (change-as (Copied c) e);
-            used-few = pl .used-few;
-            roots-few = omega (arith, pl .used-few, pl .roots-few);
-            made-few = omega arith;
-          }
+    -- no more pages than the plan said, with the new root over two halves
+    pub few-made : done .made ≤ mostMade
+    few-made = omega (arith, done-made, made-by (so .became), made-all, made-at-most tree p (pl .plan-is))
 
-      pub halved-can : (c d : Child) → done .became ≡ Halved c d → CanPut (tree .roots) (tree .used) (done .made + 1) (p .tick)
-      halved-can c d e =
-          record {
-            some = pl .some;
-            inside = pl .inside;
-            place = place-for _ _ _ (change-as (Halved c d) e);
-            used-few = pl .used-few;
-            roots-few = omega (arith, pl .used-few, pl .roots-few);
-            made-few = omega arith;
-          }
+    halved-made : (c d : Child) → done .became ≡ Halved c d → done .made + 1 ≡ pl .made
+    halved-made c d e =
+        let number : ℕ = takenPage (tree .used) (so .made) in
+        let new : List ℕ = freshPage (level + 1) 0 keyLimit (p .tick) (twoRows (p .tick) (c .high) (c .page) (d .page)) in
+        ap (λ (n : ℕ). n + 1) done-made ∙ sym (put-parts tree (p .tick) number (so .made + 1) (putPage (so .table) number new) .3) ∙ made-as (Halved c d) e
+
+    pub copied-can : (c : Child) → done .became ≡ Copied c → CanPut (tree .roots) (tree .used) (done .made) (p .tick)
+    copied-can c e =
+        record {
+          some = pl .some;
+          inside = pl .inside;
+          place = place-for (c .page) (so .made) (so .table) (change-as (Copied c) e);
+          used-few = pl .used-few;
+          roots-few = omega (arith, pl .used-few, pl .roots-few);
+          made-few = few-made;
+        }
+
+    pub halved-can : (c d : Child) → done .became ≡ Halved c d → CanPut (tree .roots) (tree .used) (done .made + 1) (p .tick)
+    halved-can c d e =
+        record {
+          some = pl .some;
+          inside = pl .inside;
+          place = place-for _ _ _ (change-as (Halved c d) e);
+          used-few = pl .used-few;
+          roots-few = omega (arith, pl .used-few, pl .roots-few);
+          made-few = omega (arith, halved-made c d e, made-at-most tree p (pl .plan-is));
+        }
 
     pub copied-way : (c : Child) → done .became ≡ Copied c → (after : List ℕ) (r : TreeUse) →
         RootPut (tree .roots) (tree .used) (done .made) (c .page) (p .tick) after r → EnteredAs tree p now after r
@@ -295,10 +305,7 @@ module _ (tree : Tree) (p : Point) (pl : Planned tree p) where
 
     -- two halves: the new root takes the next page
     pub halved-room : (c d : Child) → done .became ≡ Halved c d → (tree .used .pages + done .made + 1) * pageWords ≤ length (tree .table)
-    halved-room c d e =
-        let m = made-as (Halved c d) e in
-        let parts = put-parts tree (p .tick) (takenPage (tree .used) (so .made)) (so .made + 1) (putPage (so .table) (takenPage (tree .used) (so .made)) (freshPage (level + 1) 0 keyLimit (p .tick) (twoRows (p .tick) (c .high) (c .page) (d .page)))) in
-        omega (arith, pl .room, m, parts .3, done-made)
+    halved-room c d e = omega (arith, pl .room, halved-made c d e)
 
     pub halved-way : (c d : Child) → done .became ≡ Halved c d → (top : List ℕ) (after : List ℕ) (r : TreeUse) →
         top ≡ putPage now (tree .used .pages + done .made) (encodePage (twoRowRoot (level + 1) (p .tick) (c .high) (c .page) (d .page))) →

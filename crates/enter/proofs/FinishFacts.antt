@@ -1,22 +1,19 @@
 -- What finishing a page leaves alone: every other page in use, and the table's length. New pages have numbers that were not in use.
-use Prim.Native.Nat.{ℕ, zero, suc, _+_, _*_, _-_, _≤_, _<_}
+use Prim.Native.Nat.{ℕ, _+_, _*_, _-_, _≤_, _<_}
 use native.Mathlib.Omega.{arith}
 use native.Mathlib.Decide.{decLe}
-use mathlib.Core.Path.{_≡_, refl, ap, _∙_}
-use mathlib.Core.Bool.{Bool, true, false}
-use mathlib.Core.List.{List, [], _∷_, map}
-use lib.ListN.{length, take, drop, length-append, length-replicate, length-take, length-drop, length-map}
+use mathlib.Core.Path.{_≡_, _∙_}
+use mathlib.Core.List.{List}
+use lib.ListN.{length, take, drop, length-take, length-drop}
 use borrow.Author.Tests.{le-leb, lt-leb}
 use Rattle.words.specs.Lists.{All}
-use Rattle.words.specs.declared.value.Value.{Value}
 use Rattle.words.specs.Words.{lowKey, highKey}
 use Rattle.tree.specs.declared.types.Row.{Row}
-use Rattle.tree.specs.Row.{word, live, rowWords, rowLimit, copyLimit, pageWords, encodeRows}
-use Rattle.tree.specs.KeyOrder.{Placed, placedLow, keepIf, livePlaced, sortBy, keyOrder}
-use Rattle.tree.specs.Edit.{bornAt, withRows}
-use Rattle.tree.specs.Fresh.{zeros, freshPage}
+use Rattle.tree.specs.Row.{word, rowLimit, copyLimit, pageWords, mostRows}
+use Rattle.tree.specs.Edit.{withRows}
+use Rattle.tree.specs.Fresh.{freshPage}
 use Rattle.tree.proofs.Lists.{all-drop}
-use Rattle.tree.proofs.PageCodec.{encode-length, Fits, with-length}
+use Rattle.tree.proofs.PageCodec.{Fits, with-length, fresh-length}
 use Rattle.tree.proofs.RowBounds.{copied-length, copied-fits, first-length, lowest-fits}
 use Rattle.tree.specs.Tree.{Tree, pageAt, putPage}
 use Rattle.tree.specs.declared.types.Became.the-variants.{Stays}
@@ -25,19 +22,13 @@ use Rattle.tree.proofs.TableLaws.{put-length, put-other}
 use Rattle.enter.proofs.StepRows.{ChildrenFit}
 use Rattle.enter.proofs.SettleLaws.{finish-stays, finish-splits}
 
-pub fresh-length : (level low high birth : ℕ) (rows : List Row) → length rows ≤ rowLimit → length (freshPage level low high birth rows) ≡ pageWords
-unfolding freshPage zeros
-fresh-length level low high birth rows few =
-    omega (arith, length-append (encodeRows rows) (zeros (rowWords * (rowLimit - length rows))), encode-length rows, length-replicate {A = ℕ} (rowWords * (rowLimit - length rows)) 0)
-
 pub record Finished (tree : Tree) (so : Written) (page : ℕ) (o : Written) : Type 0 where
   pub same-length : length (o .table) ≡ length (so .table)
   pub other : (q : ℕ) → q < tree .used .pages → (q ≡ page → ⊥) → pageAt (o .table) q ≡ pageAt (so .table) q
   pub children : ChildrenFit (o .became)
   pub least : so .made ≤ o .made
-  pub most : o .made ≤ so .made + 2
 
-module _ (tree : Tree) (t : ℕ) (small : t < 4294967296) (so : Written) (page : ℕ) (rows : List Row) (fit : All Fits rows) (few : length rows ≤ 67)
+module _ (tree : Tree) (t : ℕ) (small : t < 4294967296) (so : Written) (page : ℕ) (rows : List Row) (fit : All Fits rows) (few : length rows ≤ mostRows)
     (whole : length (pageAt (tree .table) page) ≡ pageWords) (inside : page * pageWords + pageWords ≤ length (so .table)) where
   old : List ℕ
   old = pageAt (tree .table) page
@@ -54,7 +45,6 @@ module _ (tree : Tree) (t : ℕ) (small : t < 4294967296) (so : Written) (page :
         other = λ q l n. put-other (so .table) page (withRows (pageAt (tree .table) page) rows) inside size q n;
         children = tt;
         least = omega arith;
-        most = omega arith;
       }
 
   copy-facts : length moved ≤ copyLimit → (tree .used .pages + (so .made + 1)) * pageWords ≤ length (so .table) →
@@ -70,7 +60,6 @@ module _ (tree : Tree) (t : ℕ) (small : t < 4294967296) (so : Written) (page :
         other = λ q l a. put-other (so .table) n new fits size q (omega arith);
         children = (omega arith, omega arith);
         least = omega arith;
-        most = omega arith;
       }
 
   lower : List Row
@@ -104,7 +93,6 @@ module _ (tree : Tree) (t : ℕ) (small : t < 4294967296) (so : Written) (page :
         other = λ q l a. put-other between m second second-fits second-size q (omega arith) ∙ put-other (so .table) n first first-fits first-size q (omega arith);
         children = ((omega arith, mid), (mid, omega arith));
         least = omega arith;
-        most = omega arith;
       }
 
   split-facts : (tree .used .pages + splitPage tree t so old moved .made) * pageWords ≤ length (so .table) → Finished tree so page (splitPage tree t so old moved)

@@ -11,7 +11,7 @@ use Rattle.words.specs.Overwrite.{overwrite}
 use Rattle.words.specs.declared.value.Value.{Value}
 use Rattle.words.specs.Value.{zero}
 use Rattle.tree.specs.declared.types.Row.{Row}
-use Rattle.tree.specs.Row.{word, rowStart, rowWords, rowIn, pageWords, encodeRow}
+use Rattle.tree.specs.Row.{word, rowStart, rowWords, rowIn, pageWords, encodeRow, mostAppended}
 use Rattle.tree.specs.Edit.{putRow, endRow, appendRow, putCount, ended, bornAt}
 use Rattle.tree.specs.Fresh.{newRow, zeros}
 use Rattle.tree.specs.RowSteps.{gained, cutAt, linkedTo}
@@ -26,7 +26,7 @@ use Rattle.ranges.specs.declared.search.Place.the-variants.{At, Missing}
 use Rattle.row_steps.specs.declared.steps.Change.{Change}
 use Rattle.row_steps.specs.declared.steps.Change.the-variants.{Leaf, Lowest, Above}
 use Rattle.row_steps.specs.PageEdits.{replaceWords, gainWords, linkWords, changeWords, Within, ChangeWithin}
-use Rattle.enter.specs.EnterWords.{settled, changed}
+use Rattle.enter.specs.EnterWords.{settled, changed, appendedWords, roomyRows}
 use Rattle.row_steps.proofs.EditSizes.{end-room, replace-grown, gain-grown, change-grown}
 use Rattle.enter.proofs.SettleLaws.{settled-stays, word-front, row-front}
 
@@ -80,7 +80,7 @@ module _ (extra : List ℕ) where
         ap (λ (r : Row). replaceWords t (page ++ extra) place r (gained v r)) (here-front t page place inside room)
         ∙ replace-front t page place inside (rowIn page place) (gained v (rowIn page place)) room
 
-    change-front : (change : Change) → ChangeWithin (word page 1) change → rowStart (word page 1 + 3) ≤ length page →
+    change-front : (change : Change) → ChangeWithin (word page 1) change → rowStart (word page 1 + mostAppended) ≤ length page →
         changeWords t v (page ++ extra) change ≡ changeWords t v page change ++ extra
     change-front (Leaf Missing gain k) inside room = gain-front gain (inside .1) (omega arith)
     change-front (Leaf (At place) gain k) inside room =
@@ -95,7 +95,7 @@ module _ (extra : List ℕ) where
 
 -- A page of at most 61 rows stays, and the change is made in its own words
 module _ (used : TreeUse) (t : ℕ) (so : Written) (page : ℕ) (v : Value) (change : Change) (whole : length (pageAt (so .table) page) ≡ pageWords)
-    (few : word (pageAt (so .table) page) 1 ≤ 61) (inside : ChangeWithin (word (pageAt (so .table) page) 1) change) where
+    (few : word (pageAt (so .table) page) 1 ≤ roomyRows) (inside : ChangeWithin (word (pageAt (so .table) page) 1) change) where
   abbrev new : List ℕ
   new = changeWords t v (pageAt (so .table) page) change
 
@@ -104,9 +104,9 @@ module _ (used : TreeUse) (t : ℕ) (so : Written) (page : ℕ) (v : Value) (cha
 
   pub in-place : settled used t so page (changed t v (so .table) page change) ≡ record { table = putPage (so .table) page new; made = so .made; became = Stays }
   in-place =
-      let front : changed t v (so .table) page change ≡ new ++ zeros 12 = change-front (zeros 12) t v (pageAt (so .table) page) change inside (omega arith) in
+      let front : changed t v (so .table) page change ≡ new ++ zeros appendedWords = change-front (zeros appendedWords) t v (pageAt (so .table) page) change inside (omega arith) in
       let rows = change-grown t v (pageAt (so .table) page) change inside (omega arith) .rows in
-      let count : word (new ++ zeros 12) 1 ≡ word new 1 = word-front new (zeros 12) 1 (omega (arith, in-place-size)) in
+      let count : word (new ++ zeros appendedWords) 1 ≡ word new 1 = word-front new (zeros appendedWords) 1 (omega (arith, in-place-size)) in
       ap (settled used t so page) front
-      ∙ settled-stays used t so page (new ++ zeros 12) (omega arith)
-      ∙ ap (λ (w : List ℕ). record { table = putPage (so .table) page w; made = so .made; became = Stays }) (take-at new (zeros 12) pageWords in-place-size)
+      ∙ settled-stays used t so page (new ++ zeros appendedWords) (omega arith)
+      ∙ ap (λ (w : List ℕ). record { table = putPage (so .table) page w; made = so .made; became = Stays }) (take-at new (zeros appendedWords) pageWords in-place-size)

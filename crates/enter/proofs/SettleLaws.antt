@@ -8,8 +8,9 @@ use lib.ListN.{length, take, length-append, length-take, List·getD-append, List
 use lib.Seq.{getD-take, length-take-le}
 use borrow.Author.Tests.{le-leb, lt-leb}
 use Rattle.words.specs.Lists.{All}
+use Rattle.words.proofs.ValueLaws.{value-alike}
 use Rattle.tree.specs.declared.types.Row.{Row}
-use Rattle.tree.specs.Row.{word, rowAt, rowStart, rowWords, rowsFrom, rowsOf, rowLimit, pageWords, headerWords}
+use Rattle.tree.specs.Row.{word, rowAt, rowStart, rowWords, rowsFrom, rowsOf, rowLimit, pageWords, headerWords, mostRows, valueStart}
 use Rattle.tree.specs.Edit.{withRows}
 use Rattle.tree.specs.Fresh.{zeros}
 use Rattle.tree.proofs.PageCodec.{Fits, with-level, with-count, with-range, with-rows}
@@ -18,7 +19,8 @@ use Rattle.tree.specs.declared.types.TreeUse.{TreeUse}
 use Rattle.tree.specs.Tree.{Tree, pageAt, putPage}
 use Rattle.tree.specs.declared.types.Became.the-variants.{Stays}
 use Rattle.tree.specs.Overflow.{Written, splitPage, copiedRows, finishPage}
-use Rattle.enter.specs.EnterWords.{useOf, settled, loaded}
+use Rattle.enter.specs.EnterWords.{useOf, settled, loaded, appendedWords}
+use Rattle.split.specs.SplitWords.{scratchWords}
 
 module _ (used : TreeUse) (t : ℕ) (so : Written) (page : ℕ) (words : List ℕ) where
   pub settled-stays : word words 1 ≤ rowLimit →
@@ -37,8 +39,11 @@ word-front page extra i h = List·getD-append page extra 0 i h
 
 pub row-front : (page extra : List ℕ) (at : ℕ) → at + rowWords ≤ length page → rowAt (page ++ extra) at ≡ rowAt page at
 row-front page extra at h =
-    rw
-    (word-front page extra at (omega arith), word-front page extra (at + 1) (omega arith), word-front page extra (at + 2) (omega arith), word-front page extra (at + 2 + 1) (omega arith))
+    rw (
+      word-front page extra at (omega arith),
+      word-front page extra (at + 1) (omega arith),
+      value-alike (page ++ extra) page (at + valueStart) (λ i l. word-front page extra (at + valueStart + i) (omega arith)),
+    )
 
 rows-front : (page extra : List ℕ) (at n : ℕ) → at + rowWords * n ≤ length page → rowsFrom (page ++ extra) at n ≡ rowsFrom page at n
 unfolding rowsFrom
@@ -96,17 +101,17 @@ pub split-same : (tree : Tree) (table : List ℕ) (t : ℕ) (so : Written) (v w 
     splitPage (useOf table (tree .used)) t so v rows ≡ splitPage tree t so w rows
 split-same tree table t so v w rows e f = rw (e, f)
 
-zeros-long : length (zeros 12) ≡ 12
+zeros-long : length (zeros appendedWords) ≡ appendedWords
 unfolding zeros
 zeros-long = refl
 
-pub loaded-length : (table : List ℕ) (page : ℕ) → length (pageAt table page) ≡ pageWords → length (loaded table page) ≡ 272
-loaded-length table page whole = length-append (pageAt table page) (zeros 12) ∙ omega (arith, zeros-long)
+pub loaded-length : (table : List ℕ) (page : ℕ) → length (pageAt table page) ≡ pageWords → length (loaded table page) ≡ scratchWords
+loaded-length table page whole = length-append (pageAt table page) (zeros appendedWords) ∙ omega (arith, zeros-long)
 
 pub settled-is-finished : (tree : Tree) (t : ℕ) (so : Written) (page : ℕ) (rows : List Row) (words : List ℕ) →
-    length (pageAt (tree .table) page) ≡ pageWords → words ≡ withRows (loaded (tree .table) page) rows → All Fits rows → length rows ≤ 67 →
+    length (pageAt (tree .table) page) ≡ pageWords → words ≡ withRows (loaded (tree .table) page) rows → All Fits rows → length rows ≤ mostRows →
     settled (tree .used) t so page words ≡ finishPage tree t so page rows
-settled-is-finished tree t so page rows words whole is fit few = go (decLe (length rows) 64)
+settled-is-finished tree t so page rows words whole is fit few = go (decLe (length rows) rowLimit)
   where
     room : rowStart (length rows) ≤ length (loaded (tree .table) page)
     room = omega (arith, loaded-length (tree .table) page whole)
@@ -118,23 +123,23 @@ settled-is-finished tree t so page rows words whole is fit few = go (decLe (leng
     level =
         ap (λ (w : List ℕ). word w 0) is
         ∙ with-level (loaded (tree .table) page) rows room
-        ∙ word-front (pageAt (tree .table) page) (zeros 12) 0 (omega arith)
+        ∙ word-front (pageAt (tree .table) page) (zeros appendedWords) 0 (omega arith)
 
     range : word words 2 ≡ word (pageAt (tree .table) page) 2
     range =
         ap (λ (w : List ℕ). word w 2) is
         ∙ with-range (loaded (tree .table) page) rows room
-        ∙ word-front (pageAt (tree .table) page) (zeros 12) 2 (omega arith)
+        ∙ word-front (pageAt (tree .table) page) (zeros appendedWords) 2 (omega arith)
 
     back : rowsOf words ≡ rows
     back = ap rowsOf is ∙ with-rows (loaded (tree .table) page) rows room fit
 
-    front : length rows ≤ 64 → take pageWords words ≡ withRows (pageAt (tree .table) page) rows
+    front : length rows ≤ rowLimit → take pageWords words ≡ withRows (pageAt (tree .table) page) rows
     front a =
         ap₂ (λ (n : ℕ) (w : List ℕ). take n w) (sym whole) is
-        ∙ with-front (pageAt (tree .table) page) (zeros 12) rows (omega arith)
+        ∙ with-front (pageAt (tree .table) page) (zeros appendedWords) rows (omega arith)
 
-    go : Dec (length rows ≤ 64) → settled (tree .used) t so page words ≡ finishPage tree t so page rows
+    go : Dec (length rows ≤ rowLimit) → settled (tree .used) t so page words ≡ finishPage tree t so page rows
     go (yes a) =
         settled-stays (tree .used) t so page words (omega (arith, count))
         ∙ ap (λ (w : List ℕ). record { table = putPage (so .table) page w; made = so .made; became = Stays }) (front a)
@@ -147,4 +152,4 @@ settled-is-finished tree t so page rows words whole is fit few = go (decLe (leng
 
 -- The copy has as many rows as the page
 pub loaded-count : (table : List ℕ) (page : ℕ) → length (pageAt table page) ≡ pageWords → word (loaded table page) 1 ≡ word (pageAt table page) 1
-loaded-count table page whole = word-front (pageAt table page) (zeros 12) 1 (omega arith)
+loaded-count table page whole = word-front (pageAt table page) (zeros appendedWords) 1 (omega arith)

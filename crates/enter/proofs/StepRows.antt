@@ -11,7 +11,7 @@ use borrow.Author.Tests.{leb-true, ltb-true}
 use Rattle.words.specs.Lists.{All}
 use Rattle.words.specs.Value.{zero}
 use Rattle.tree.specs.declared.types.Row.{Row}
-use Rattle.tree.specs.Row.{word, rowAt, rowStart, rowsOf, headerWords, live, rowIn}
+use Rattle.tree.specs.Row.{word, rowAt, rowStart, rowsOf, headerWords, live, rowIn, mostAppended}
 use Rattle.tree.specs.KeyOrder.{Placed, keyOrder}
 use Rattle.tree.specs.TrueValue.{Search, none, one, first}
 use Rattle.ranges.specs.Nearest.{placeFound}
@@ -165,7 +165,7 @@ module _ (p : Point) (small : p .tick < 4294967296) (narrow : p .key < 65536) (p
     after-gain = after-go (rowFrom p (rowsOf page)) refl
 
   -- Step 7, after step 3
-  module _ (room : rowStart (word page 1 + 3) ≤ length page) (x : Placed) (found : rowAround p (rowsOf page) ≡ one x) where
+  module _ (room : rowStart (word page 1 + mostAppended) ≤ length page) (x : Placed) (found : rowAround p (rowsOf page) ≡ one x) where
     after : List Row
     after = gainRows p (rowsOf page)
 
@@ -250,7 +250,7 @@ module _ (p : Point) (small : p .tick < 4294967296) (narrow : p .key < 65536) (p
         ∙ over (linkedTo c (x .row)) (newRow (p .tick) (d .low) (d .high) (d .page) zero ∷ []) (omega arith)
 
     -- what step 7 leaves fits
-    pub link-fits : (became : Became) → ChildrenFit became → RowsFit (word page 1 + 3) (relinkRow (p .tick) x became (gainRows p (rowsOf page)))
+    pub link-fits : (became : Became) → ChildrenFit became → RowsFit (word page 1 + mostAppended) (relinkRow (p .tick) x became (gainRows p (rowsOf page)))
     unfolding relinkRow mid after
     link-fits Stays f = record { fit = gain .fit; few = omega (arith, gain .most) }
     link-fits (Copied c) f =

@@ -8,11 +8,11 @@ use Rattle.tree.specs.declared.types.TreeUse.{TreeUse}
 use Rattle.tree.specs.declared.types.RootChange.{RootChange}
 use Rattle.tree.specs.declared.types.RootChange.the-variants.{Added}
 use Rattle.tree.specs.declared.types.Plan.the-variants.{Ready}
-use Rattle.tree.specs.Tree.{Tree, lastRoot}
+use Rattle.tree.specs.Tree.{Tree, lastRoot, pageLimit}
 use Rattle.tree.specs.RowSteps.{Point}
 use Rattle.tree.specs.Enter.{withRoot}
-use Rattle.tree.specs.Plan.{plan, enter}
-use Rattle.words.specs.Words.{birthOf}
+use Rattle.tree.specs.Plan.{mostMade, plan, enter}
+use Rattle.words.specs.Words.{rootBirth}
 
 -- A root list and a use, where the table does not matter
 abbrev pub rootTree : List ℕ → TreeUse → Tree
@@ -22,10 +22,10 @@ rootTree roots used = record { table = []; roots = roots; used = used }
 pub record CanPut (roots : List ℕ) (used : TreeUse) (made t : ℕ) : Type 0 where
   pub some : 1 ≤ used .roots
   pub inside : used .roots ≤ length roots
-  pub place : (birthOf (lastRoot (rootTree roots used)) ≡ t → ⊥) → used .roots < length roots
-  pub used-few : used .pages ≤ 1000000
-  pub roots-few : used .roots ≤ 1000000
-  pub made-few : made ≤ 16
+  pub place : (rootBirth (lastRoot (rootTree roots used)) ≡ t → ⊥) → used .roots < length roots
+  pub used-few : used .pages ≤ pageLimit
+  pub roots-few : used .roots ≤ pageLimit
+  pub made-few : made ≤ mostMade
 
 pub record RootPut (roots : List ℕ) (used : TreeUse) (made page t : ℕ) (after : List ℕ) (r : TreeUse) : Type 0 where
   pub list : after ≡ withRoot (rootTree roots used) t page [] made .tree .roots
@@ -40,7 +40,7 @@ pub record Planned (tree : Tree) (p : Point) : Type 0 where
   pub place : change ≡ Added → tree .used .roots < length (tree .roots)
   pub some : 1 ≤ tree .used .roots
   pub inside : tree .used .roots ≤ length (tree .roots)
-  pub used-few : tree .used .pages ≤ 1000000
+  pub used-few : tree .used .pages ≤ pageLimit
   pub roots-few : tree .used .roots ≤ tree .used .pages
 
 -- The table, the root list and the use afterwards

@@ -1,5 +1,5 @@
 -- Entering a point as the code does it: each page is changed as if in a copy with room for more rows, then written back or split.
-use Prim.Native.Nat.{ℕ, _+_, _*_, _≤_}
+use Prim.Native.Nat.{ℕ, _+_, _-_, _*_, _≤_, _<_}
 use mathlib.Core.Path.{_≡_}
 use mathlib.Core.List.{List, [], _++_}
 use mathlib.Core.Bool.{true, cond}
@@ -7,29 +7,33 @@ use lib.ListN.{length, take}
 use lib.Dec.{leb}
 use Rattle.words.specs.declared.value.Value.{Value}
 use Rattle.ranges.specs.declared.search.Place.{Place}
-use Rattle.tree.specs.Row.{word, rowsOf, rowLimit, pageWords}
+use Rattle.tree.specs.Row.{word, rowsOf, rowLimit, pageWords, mostRows, rowWords, mostAppended}
 use Rattle.live.specs.Survey.{surveyOf}
-use Rattle.page.specs.Entries.{orderSize}
 use Rattle.tree.specs.Fresh.{zeros}
 use Rattle.tree.specs.declared.types.TreeUse.{TreeUse}
 use Rattle.split.specs.declared.done.Done.{Done}
-use Rattle.tree.specs.Tree.{Tree, pageAt, putPage, topLevel}
+use Rattle.tree.specs.Tree.{Tree, pageAt, putPage, topLevel, pageLimit}
 use Rattle.tree.specs.RowSteps.{Point}
 use Rattle.tree.specs.declared.types.Became.{Became}
 use Rattle.tree.specs.declared.types.Became.the-variants.{Stays}
 use Rattle.tree.specs.Enter.{enterFrom}
-use Rattle.tree.specs.Plan.{descentSound}
+use Rattle.tree.specs.Plan.{mostMade, descentSound}
 use Rattle.tree.specs.Overflow.{Written, splitPage, copiedRows}
+use Rattle.split.specs.SplitWords.{scratchWords}
 use Rattle.row_steps.specs.declared.steps.Change.{Change}
 use Rattle.row_steps.specs.declared.steps.Change.the-variants.{Leaf, Lowest, Above}
 use Rattle.row_steps.specs.PageEdits.{changeWords}
 
--- The copy of a page has room for the 3 rows that one entry may append
-abbrev pub copyWords : ℕ
-copyWords = 272
+-- The words of the rows that one entry may append, and the copy of a page that has room for them
+abbrev pub appendedWords : ℕ
+appendedWords = mostAppended * rowWords
 
 abbrev pub loaded : List ℕ → ℕ → List ℕ
-loaded table page = pageAt table page ++ zeros 12
+loaded table page = pageAt table page ++ zeros appendedWords
+
+-- A page of at most so many rows has room for them in its own words
+abbrev pub roomyRows : ℕ
+roomyRows = rowLimit - mostAppended
 
 -- A tree of which only the use matters
 abbrev pub useOf : List ℕ → TreeUse → Tree
@@ -53,11 +57,11 @@ pub record DoneAs (so : Written) (table : List ℕ) (done : Done) : Type 0 where
 
 -- A copy that can be settled: as many words and rows as the code has room for, and pages left for its split
 pub record CanSettle (used : TreeUse) (t : ℕ) (so : Written) (page : ℕ) (words : List ℕ) : Type 0 where
-  pub size : length words ≡ copyWords
-  pub rows : word words 1 ≤ orderSize
-  pub few : so .made ≤ 16
+  pub size : length words ≡ scratchWords
+  pub rows : word words 1 ≤ mostRows
+  pub few : so .made < mostMade
   pub inside : page * pageWords + pageWords ≤ length (so .table)
-  pub used-few : used .pages ≤ 1000000
+  pub used-few : used .pages ≤ pageLimit
   pub room : (used .pages + settled used t so page words .made) * pageWords ≤ length (so .table)
 
 -- An entry from a page down that the plan found sound and that has room
@@ -65,7 +69,7 @@ pub record CanEnter (tree : Tree) (p : Point) (level page : ℕ) : Type 0 where
   pub sound : (low : ℕ) × ((high : ℕ) × (descentSound tree p level low high page ≡ true))
   pub room : (tree .used .pages + enterFrom tree p level page .made) * pageWords ≤ length (tree .table)
   pub in-table : tree .used .pages * pageWords ≤ length (tree .table)
-  pub used-few : tree .used .pages ≤ 1000000
+  pub used-few : tree .used .pages ≤ pageLimit
   pub low-level : level ≤ topLevel
 
 abbrev pub pointAt : ℕ → ℕ → Value → Point

@@ -15,20 +15,16 @@ ghost use lib.ListN.{length, take};
 ghost use Rattle.words.specs.Overwrite.{overwrite};
 ghost use Rattle.tree.specs.Row.{pageWords, rowLimit, rowStart, word};
 ghost use Rattle.tree.specs.Tree.{pageAt, putPage};
+ghost use Rattle.split.specs.SplitWords.{scratchWords};
 ghost use Rattle.row_steps.specs.PageEdits.{ChangeWithin};
-ghost use Rattle.enter.specs.EnterWords.{loaded, copyWords, useOf, pointAt, settled, madeSo, changed, leafEdited, DoneAs, CanSettle, CanEnter};
+ghost use Rattle.enter.specs.EnterWords.{loaded, useOf, pointAt, settled, madeSo, changed, leafEdited, DoneAs, CanSettle, CanEnter};
 ghost use Rattle.tree.specs.Enter.{enterFrom};
 
-// The rows that one entry may append to a page, and their words.
-const ADDED_ROWS: usize = 3;
-
-const ADDED_WORDS: usize = 4 * ADDED_ROWS;
-
-// The words of a page's copy, which has room for those rows.
-pub const COPY_WORDS: usize = Page::WORDS + ADDED_WORDS;
+// The words of the rows that one entry may append to a page.
+const APPENDED_WORDS: usize = Page::SCRATCH_WORDS - Page::WORDS;
 
 // A page of at most so many rows has room for them in its own words.
-const ROOMY_ROWS: usize = Page::ROWS - ADDED_ROWS;
+const ROOMY_ROWS: usize = Page::ROWS - Page::MOST_APPENDED;
 
 // Copies words over the front of others.
 fn copy_words(to: &mut [u64], from: &[u64])
@@ -44,7 +40,7 @@ fn copy_words(to: &mut [u64], from: &[u64])
 
 // Makes the lent words a copy of a page, with zeros in the room for the rows that an entry may append.
 fn load_page(copy: &mut [u64], table: &[u64], page: usize)
-    requires { ⌜ length (now copy) ≡ copyWords ⌝ }
+    requires { ⌜ length (now copy) ≡ scratchWords ⌝ }
     requires { ⌜ page * pageWords + pageWords ≤ length (now table) ⌝ }
     ensures { λ _. ⌜ now (copy .exit) ≡ loaded (now (table .entry)) page ⌝ }
 {
@@ -52,14 +48,14 @@ fn load_page(copy: &mut [u64], table: &[u64], page: usize)
     let to = from + Page::WORDS;
     copy_words(copy, &table[from..to]);
     let first = Page::WORDS;
-    let last = COPY_WORDS;
-    let zeros = [0u64; ADDED_WORDS];
+    let last = Page::SCRATCH_WORDS;
+    let zeros = [0u64; APPENDED_WORDS];
     copy_words(&mut copy[first..last], &zeros);
 }
 
 // Writes the copy back into the page's own words.
 fn store_page(table: &mut [u64], page: usize, words: &[u64])
-    requires { ⌜ length (now words) ≡ copyWords ⌝ }
+    requires { ⌜ length (now words) ≡ scratchWords ⌝ }
     requires { ⌜ page * pageWords + pageWords ≤ length (now table) ⌝ }
     ensures { λ _. ⌜ now (table .exit) ≡ putPage (now (table .entry)) page (take pageWords (now (words .entry))) ⌝ }
 {
@@ -103,7 +99,7 @@ fn change_page(
     value: Value,
     t: u32,
 ) -> Done
-    requires { ⌜ length (now scratch) ≡ copyWords ⌝ }
+    requires { ⌜ length (now scratch) ≡ scratchWords ⌝ }
     requires { ⌜ word (pageAt (now table) page) 1 ≤ rowLimit ⌝ }
     requires { ⌜ ChangeWithin (word (pageAt (now table) page) 1) change ⌝ }
     requires { ⌜ CanSettle used t (madeSo (now table) made) page (changed t value (now table) page change) ⌝ }
@@ -133,7 +129,7 @@ fn enter_leaf(
     value: Value,
     t: u32,
 ) -> Done
-    requires { ⌜ length (now scratch) ≡ copyWords ⌝ }
+    requires { ⌜ length (now scratch) ≡ scratchWords ⌝ }
     requires { ⌜ word (pageAt (now table) page) 1 ≤ rowLimit ⌝ }
     requires { ⌜ CanSettle used t (madeSo (now table) 0) page (leafEdited t k value (now table) page) ⌝ }
     ensures { λ r. ⌜ DoneAs (settled used t (madeSo (now (table .entry)) 0) page (leafEdited t k value (now (table .entry)) page)) (now (table .exit)) r ⌝ }
@@ -163,7 +159,7 @@ pub fn enter_from(
     value: Value,
     t: u32,
 ) -> Done
-    requires { ⌜ length (now scratch) ≡ copyWords ⌝ }
+    requires { ⌜ length (now scratch) ≡ scratchWords ⌝ }
     requires { ⌜ CanEnter (useOf (now table) used) (pointAt t k value) level page ⌝ }
     ensures { λ r. ⌜ DoneAs (enterFrom (useOf (now (table .entry)) used) (pointAt t k value) level page) (now (table .exit)) r ⌝ }
 {

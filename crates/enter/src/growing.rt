@@ -1,5 +1,4 @@
 // Entering a point into a tree: from the root for its tick down, and what a root overflow does to the root list.
-use crate::entering::COPY_WORDS;
 use crate::entering::enter_from;
 use page::Page;
 use roots::find_root;
@@ -22,9 +21,9 @@ fn put_root(roots: &mut [u64], used: TreeUse, made: u32, page: u32, t: u32) -> T
     ensures { λ r. ⌜ RootPut (now (roots .entry)) used made page t (now (roots .exit)) r ⌝ }
 {
     let count = used.roots as usize;
-    let entry = words::life(t, page);
+    let entry = words::root_entry(t, page);
     let last = roots[count - 1];
-    if words::birth_of(last) == t {
+    if words::root_birth(last) == t {
         roots[count - 1] = entry;
         return TreeUse {
             pages: used.pages + made,
@@ -55,7 +54,7 @@ pub fn enter(
         return used;
     };
     let level = table[root as usize * Page::WORDS];
-    let mut scratch = [0u64; COPY_WORDS];
+    let mut scratch = [0u64; Page::SCRATCH_WORDS];
     let done = enter_from(table, &mut scratch, used, level, root, k, value, t);
     let became = done.became;
     match became {

@@ -13,7 +13,7 @@ use Rattle.words.specs.Words.{endOf}
 use lib.Seq.{take-set-le, take-suc-set, length-take-le}
 use Rattle.words.specs.declared.value.Value.{Value}
 use Rattle.words.specs.Value as value
-use Rattle.tree.specs.Row.{rowStart, rowsFrom, rowLimit, rowIn, live}
+use Rattle.tree.specs.Row.{rowStart, rowsFrom, rowLimit, rowIn, live, valueStart}
 use Rattle.tree.specs.KeyOrder.{Placed, keepIf, livePlaced}
 use Rattle.page.specs.Entries.{placedAt}
 use Rattle.ranges.specs.KeyRanges.{rangeOf, rangeLow, placeIn}
@@ -81,7 +81,7 @@ listed t page n ranges places count h b r p =
 module _ (page : List ℕ) (low : ℕ) (ranges places : List ℕ) (same : length places ≡ length ranges) (at : ℕ) (total : Value) where
   pub below-on : at < length ranges →
       addBelow page low total (drop at ranges) (drop at places)
-      ≡ addBelow page low (value.plus total (cond (ltb (rangeLow (getD ranges at 0)) low) (value.valueAt page (rowStart (getD places at 0) + 2)) value.zero))
+      ≡ addBelow page low (value.plus total (cond (ltb (rangeLow (getD ranges at 0)) low) (value.valueAt page (rowStart (getD places at 0) + valueStart)) value.zero))
       (drop (at + 1) ranges) (drop (at + 1) places)
   unfolding addBelow
   below-on h = rw (drop-here ranges at h, drop-here places at (omega arith))

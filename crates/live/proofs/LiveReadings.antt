@@ -14,7 +14,7 @@ use Rattle.words.specs.Value.{plus, valueAt}
 use Rattle.words.proofs.ValueLaws.{Stored, plus-stored, plus-zero, zero-plus, plus-assoc}
 use Rattle.tree.specs.declared.types.Row.{Row}
 use Rattle.tree.specs.declared.types.Held.the-variants.{Found}
-use Rattle.tree.specs.Row.{word, pageWords, rowAt, rowStart, rowWords, rowsFrom, rowsOf, headerWords, holds, rowLimit, live}
+use Rattle.tree.specs.Row.{word, pageWords, rowAt, rowStart, rowWords, rowsFrom, rowsOf, headerWords, holds, rowLimit, live, valueStart}
 use Rattle.tree.specs.KeyOrder.{Placed, placedLow, placedHigh, keepIf, livePlaced, sortBy, keyOrder}
 use Rattle.tree.specs.PageTest.{headerFits, rowsTile, soundAt}
 use Rattle.tree.specs.TrueValue.{Search, none, one, first, totalWhere, rowValue, holdingRow, heldAs, heldIn}
@@ -189,7 +189,7 @@ module _ (page : List ℕ) (t n : ℕ) (few : n ≤ rowLimit) where
   unfolding addBelow totalWhere
   below-total low total [] st se = sym (plus-zero total st)
   below-total low total (x ∷ xs) st se =
-      let own : valueAt page (rowStart (x .place) + 2) ≡ placedValue x = sym (ap rowValue (se .0 .same)) in
+      let own : valueAt page (rowStart (x .place) + valueStart) ≡ placedValue x = sym (ap rowValue (se .0 .same)) in
       rw (range-low-is x (short x (se .0)), own)
       (below-total low (plus total (cond (ltb (x .row .low) low) (placedValue x) value.zero)) xs (plus-stored _ _) (se .1)
       ∙ plus-assoc total _ _)

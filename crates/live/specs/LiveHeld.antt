@@ -8,7 +8,7 @@ use Rattle.words.specs.declared.value.Value.{Value}
 use Rattle.words.specs.Value.{zero, plus, valueAt}
 use Rattle.tree.specs.declared.types.Held.{Held}
 use Rattle.tree.specs.declared.types.Held.the-variants.{Spoiled, Found}
-use Rattle.tree.specs.Row.{rowStart, rowIn}
+use Rattle.tree.specs.Row.{rowStart, rowIn, valueStart}
 use Rattle.ranges.specs.declared.search.Place.{Place}
 use Rattle.ranges.specs.declared.search.Place.the-variants.{At, Missing}
 use Rattle.live.specs.declared.survey.Survey.{Survey}
@@ -20,7 +20,7 @@ unfoldable pub addBelow : List ℕ → ℕ → Value → List ℕ → List ℕ �
 addBelow page low total [] places = total
 addBelow page low total (e ∷ es) [] = total
 addBelow page low total (e ∷ es) (p ∷ ps) =
-    addBelow page low (plus total (cond (ltb (rangeLow e) low) (valueAt page (rowStart p + 2)) zero)) es ps
+    addBelow page low (plus total (cond (ltb (rangeLow e) low) (valueAt page (rowStart p + valueStart)) zero)) es ps
 
 -- The row at a place found, and its true value
 abbrev pub heldAtPlace : List ℕ → List ℕ → List ℕ → Place → Held

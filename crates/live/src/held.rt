@@ -3,10 +3,12 @@ use crate::test::Tested;
 use crate::test::list_tested;
 use page::Page;
 use page::row_at;
+use page::row_start;
 use ranges::Place;
 use ranges::find_holder;
 use ranges::range_low;
 use tree::Held;
+use tree::Row;
 use words::Value;
 ghost use mathlib.Core.Path.{_≡_};
 ghost use mathlib.Core.Bool.{cond};
@@ -15,7 +17,7 @@ ghost use lib.ListN.{length};
 ghost use lib.Dec.{ltb};
 ghost use Rattle.words.specs.Value.{valueAt};
 ghost use Rattle.words.specs.Value as value;
-ghost use Rattle.tree.specs.Row.{rowStart, rowWords, rowLimit, pageWords};
+ghost use Rattle.tree.specs.Row.{rowStart, rowWords, valueStart, rowLimit, pageWords};
 ghost use Rattle.tree.specs.TrueValue.{heldIn};
 ghost use Rattle.ranges.specs.KeyRanges.{rangeLow};
 ghost use Rattle.live.specs.LiveRows.{AllIn};
@@ -31,9 +33,9 @@ pub struct HeldTwo {
 // The value of the row at a place.
 fn value_of(page: &[u64], place: usize) -> Value
     requires { ⌜ rowStart place + rowWords ≤ length (now page) ⌝ }
-    ensures { λ r. ⌜ r ≡ valueAt (now (page .entry)) (rowStart place + 2) ⌝ }
+    ensures { λ r. ⌜ r ≡ valueAt (now (page .entry)) (rowStart place + valueStart) ⌝ }
 {
-    Value::read(page, 4 + 4 * place + 2)
+    Value::read(page, row_start(place) + Row::VALUE_START)
 }
 
 // 1 for a range that starts below `low`, else 0. It is reckoned and not compared, so that no branch comes of it.

@@ -1,6 +1,7 @@
 // The rows of a page that are live at a tick, as two arrays in the order of the rows' places: their key ranges, and their places.
 // They are not put in key order. Whether they hold each key once, which of them holds a key, and what the lower ones add up to is found
 // without, by loops over small numbers that a processor takes several at a time.
+use page::row_start;
 use ranges::range_of;
 ghost use mathlib.Core.Path.{_≡_};
 ghost use mathlib.Core.Bool.{cond};
@@ -49,7 +50,7 @@ pub fn list_live(page: &[u64], rows: usize, t: u32, ranges: &mut [u32], places: 
     let mut count: usize = 0;
     let mut place: usize = 0;
     while place < rows {
-        let at = 4 + 4 * place;
+        let at = row_start(place);
         ranges[count] = range_of(page[at]);
         places[count] = place as u8;
         count += count_live(page[at + 1], t, ended);

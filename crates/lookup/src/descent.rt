@@ -100,7 +100,7 @@ pub fn find_top(table: &[u64], used: TreeUse, root: Root) -> Top
         return Top::Missing;
     }
     let level = table[page as usize * Page::WORDS];
-    if 3 < level {
+    if TreeUse::TOP_LEVEL < level {
         return Top::Missing;
     }
     Top::At { page, level }

@@ -5,9 +5,9 @@ use mathlib.Core.Path.{_≡_, refl, ap}
 use mathlib.Core.Bool.{Bool, true, false, cond}
 use mathlib.Core.List.{List, [], _∷_, map}
 use lib.Dec.{leb}
-use Rattle.tree.specs.Row.{rowAt, rowStart, rowWords, rowsFrom, live}
+use Rattle.tree.specs.Row.{rowAt, rowStart, rowWords, rowsFrom, live, mostRows}
 use Rattle.tree.specs.KeyOrder.{Placed, placedLow, keepIf, livePlaced, insertBy, sortBy}
-use Rattle.page.specs.Entries.{orderSize, entryOf, entryLow, entryPlace, placedAt}
+use Rattle.page.specs.Entries.{entryOf, entryLow, entryPlace, placedAt}
 use Rattle.tree.proofs.Lists.{All}
 use Rattle.tree.proofs.Sorted.{sort-all}
 
@@ -16,7 +16,7 @@ pub record Seated (page : List ℕ) (n : ℕ) (x : Placed) : Type 0 where
   pub within : x .place < n
   pub same : x .row ≡ rowAt page (rowStart (x .place))
 
-module _ (page : List ℕ) (n : ℕ) (small : n ≤ orderSize) (x : Placed) (s : Seated page n x) where
+module _ (page : List ℕ) (n : ℕ) (small : n ≤ mostRows) (x : Placed) (s : Seated page n x) where
   pub low-fits : x .row .low < 65536
   low-fits = rw (s .same) (omega arith)
 

@@ -7,9 +7,10 @@ use mathlib.Core.Path.{_≡_, refl, sym, ap, _∙_}
 use mathlib.Core.List.{List, [], _∷_, _++_}
 use lib.ListN.{length, getD, set, length-set, length-append, List·getD-append}
 use lib.Seq.{ext-getD, getD-append-add, getD-set-same, getD-set-other}
+use Rattle.words.proofs.ValueLaws.{value-again}
 use Rattle.words.proofs.OverwriteLaws.{overwrite-length, word-inside, word-before, word-behind}
 use Rattle.tree.specs.declared.types.Row.{Row}
-use Rattle.tree.specs.Row.{word, rowAt, rowStart, rowWords, rowsOf, encodeRow, encodeRows, headerWords}
+use Rattle.tree.specs.Row.{word, rowAt, rowStart, rowWords, rowsOf, encodeRow, encodeRows, headerWords, valueStart}
 use Rattle.tree.specs.Edit.{withRows, putRow, appendRow}
 use Rattle.tree.proofs.PageCodec.{encode-length, rows-length, row-at-place, put-length, put-before, with-length, with-level, with-count, with-range, with-birth, with-row-words, with-behind}
 
@@ -17,9 +18,9 @@ use Rattle.tree.proofs.PageCodec.{encode-length, rows-length, row-at-place, put
 pub words-again : (words : List ℕ) (at m : ℕ) → m < rowWords → getD (encodeRow (rowAt words at)) m 0 ≡ getD words (at + m) 0
 words-again words at zero h = omega (arith, ap (λ (n : ℕ). getD words n 0) (add-zero at))
 words-again words at (suc zero) h = omega arith
-words-again words at (suc (suc zero)) h = refl
-words-again words at (suc (suc (suc zero))) h = ap (λ (n : ℕ). getD words n 0) (omega arith)
-words-again words at (suc (suc (suc (suc m)))) h = absurd (omega arith)
+words-again words at (suc (suc m)) h =
+    let e : at + valueStart + m ≡ at + suc (suc m) = omega arith in
+    value-again words (at + valueStart) m (omega arith) ∙ ap (λ (n : ℕ). getD words n 0) e
 
 -- The words of the row at a place, among those of all rows
 row-word : (rows : List Row) (q m : ℕ) (d : Row) → q < length rows → m < rowWords →
@@ -75,8 +76,8 @@ module _ (page : List ℕ) (rows : List Row) (d : Row) (room : rowStart (length 
       go : Dec (rowWords * length rows ≤ j) → getD v (suc (suc (suc (suc j)))) 0 ≡ getD w (suc (suc (suc (suc j)))) 0
       go (yes h) = hv .behind (suc (suc (suc (suc j)))) (omega arith) ∙ sym (hw .behind (suc (suc (suc (suc j)))) (omega arith))
       go (no h) =
-          let q : ℕ = j / 4 in
-          let m : ℕ = j % 4 in
+          let q : ℕ = j / rowWords in
+          let m : ℕ = j % rowWords in
           let e : suc (suc (suc (suc j))) ≡ rowStart q + m = omega arith in
           let a : q < length rows = omega arith in
           let b : m < rowWords = omega arith in

@@ -1,4 +1,5 @@
 // Edits of the rows in a page's own words.
+use crate::row::row_start;
 use tree::Row;
 ghost use mathlib.Core.Path.{_≡_};
 ghost use Prim.Native.Nat.{_+_, _≤_};
@@ -11,11 +12,11 @@ pub fn put_row(page: &mut [u64], place: usize, row: Row)
     requires { ⌜ rowStart place + rowWords ≤ length (now page) ⌝ }
     ensures { λ _. ⌜ now (page .exit) ≡ putRow (now (page .entry)) place row ⌝ }
 {
-    let at = 4 + 4 * place;
+    let at = row_start(place);
     page[at] = words::row_keys(row.low, row.high, row.child);
     page[at + 1] = words::life(row.birth, row.end);
     let value = row.value;
-    value.write(page, at + 2);
+    value.write(page, at + Row::VALUE_START);
 }
 
 // Ends the row at a place at t.
@@ -23,7 +24,7 @@ pub fn end_row(page: &mut [u64], place: usize, t: u32)
     requires { ⌜ rowStart place + rowWords ≤ length (now page) ⌝ }
     ensures { λ _. ⌜ now (page .exit) ≡ endRow (now (page .entry)) place t ⌝ }
 {
-    let at = 4 + 4 * place + 1;
+    let at = row_start(place) + 1;
     let life = page[at];
     page[at] = words::life(words::birth_of(life), t);
 }

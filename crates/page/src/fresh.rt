@@ -1,6 +1,7 @@
 // A page as a value: what a call builds before it writes a page whole.
 use crate::edit::put_row;
 use crate::row::new_row;
+use crate::row::row_start;
 use tree::Row;
 use words::Value;
 ghost use mathlib.Core.Path.{_≡_};
@@ -22,17 +23,26 @@ pub struct Page {
 }
 
 impl Page {
-    // The words of a page.
-    pub const WORDS: usize = 260;
+    // The words of a page before its rows.
+    pub const HEADER_WORDS: usize = 4;
 
     // The rows that a page holds.
     pub const ROWS: usize = 64;
 
-    // The rows that an overflow puts in key order: those of a page, and the 3 that one entry may append.
-    pub const ORDERED: usize = 67;
+    // The words of a page.
+    pub const WORDS: usize = Page::HEADER_WORDS + Page::ROWS * Row::WORDS;
 
     // The live rows that one new page takes; more go to two pages.
     pub const COPIED: usize = 40;
+
+    // The rows that one entry may append to a page.
+    pub const MOST_APPENDED: usize = 3;
+
+    // The rows that a page may so get: an overflow puts so many in key order.
+    pub const MOST_ROWS: usize = Page::ROWS + Page::MOST_APPENDED;
+
+    // The words of a page's copy that has room for them.
+    pub const SCRATCH_WORDS: usize = Page::HEADER_WORDS + Page::MOST_ROWS * Row::WORDS;
 
     // A page with no row yet.
     pub fn empty(level: u64, low: u16, high: u16, birth: u32) -> Page
@@ -95,7 +105,7 @@ impl Page {
             put_row(words, place, row);
             place += 1;
         }
-        clear_from(words, 4 + 4 * count);
+        clear_from(words, row_start(count));
     }
 }
 

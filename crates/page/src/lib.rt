@@ -15,3 +15,4 @@ pub use row::born_at;
 pub use row::gained_row;
 pub use row::new_row;
 pub use row::row_at;
+pub use row::row_start;

@@ -1,8 +1,9 @@
-// A row of a page: read from its four words, live or not, made anew.
+// A row of a page: where it starts, read from its words, live or not, made anew.
+use crate::fresh::Page;
 use tree::Row;
 use words::Value;
 ghost use mathlib.Core.Path.{_≡_};
-ghost use Prim.Native.Nat.{_+_, _*_, _≤_};
+ghost use Prim.Native.Nat.{_+_, _≤_, _<_, _^_};
 ghost use lib.ListN.{length};
 ghost use Rattle.words.specs.Words.{birthOf, endOf};
 ghost use Rattle.tree.specs.Row.{rowStart, rowWords, rowAt, liveFor};
@@ -10,12 +11,20 @@ ghost use Rattle.tree.specs.Edit.{bornAt};
 ghost use Rattle.tree.specs.Fresh.{newRow};
 ghost use Rattle.tree.specs.RowSteps.{gained};
 
+// Where the row at a place starts.
+pub fn row_start(place: usize) -> usize
+    requires { ⌜ rowStart place < 2 ^ 64 ⌝ }
+    ensures { λ r. ⌜ r ≡ rowStart place ⌝ }
+{
+    Page::HEADER_WORDS + Row::WORDS * place
+}
+
 // The row at a place of the page.
 pub fn row_at(page: &[u64], place: usize) -> Row
     requires { ⌜ rowStart place + rowWords ≤ length (now page) ⌝ }
     ensures { λ r. ⌜ r ≡ rowAt (now (page .entry)) (rowStart place) ⌝ }
 {
-    let at = 4 + 4 * place;
+    let at = row_start(place);
     let keys = page[at];
     let life = page[at + 1];
     Row {
@@ -24,7 +33,7 @@ pub fn row_at(page: &[u64], place: usize) -> Row
         child: words::child_page(keys),
         birth: words::birth_of(life),
         end: words::end_of(life),
-        value: Value::read(page, at + 2),
+        value: Value::read(page, at + Row::VALUE_START),
     }
 }
 

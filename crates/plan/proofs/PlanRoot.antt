@@ -8,7 +8,7 @@ use mathlib.Core.List.{List}
 use lib.Dec.{eqb}
 use lib.ListN.{take}
 use borrow.Author.Tests.{le-ltb, lt-ltb, le-leb, lt-leb}
-use Rattle.words.specs.Words.{openEnd, keyLimit, birthOf}
+use Rattle.words.specs.Words.{openEnd, keyLimit, rootBirth}
 use Rattle.tree.specs.Row.{word, pageWords}
 use Rattle.plan.specs.declared.planning.Planned.{Planned}
 use Rattle.plan.specs.declared.planning.Planned.the-variants as planned
@@ -56,11 +56,11 @@ top-is : (tree : Tree) (t top : ℕ) (so : Written) (b : Became) → planTop (so
 unfolding planTop
 top-is tree t top so Stays = not-split (eqb top topLevel) (Ready (so .made) Kept)
 top-is tree t top so (Copied c) =
-    root-said (eqb (birthOf (lastRoot tree)) t) _ _ (so .made) refl refl refl refl
+    root-said (eqb (rootBirth (lastRoot tree)) t) _ _ (so .made) refl refl refl refl
     ∙ not-split (eqb top topLevel) (Ready (enteredAs tree t top so (Copied c) .made) (enteredAs tree t top so (Copied c) .root))
 top-is tree t top so (Halved c d) =
     ap (λ (x : Plan). cond (eqb top topLevel) Spoiled x)
-    (root-said (eqb (birthOf (lastRoot tree)) t) _ _ (so .made + 1) refl refl refl refl)
+    (root-said (eqb (rootBirth (lastRoot tree)) t) _ _ (so .made + 1) refl refl refl refl)
     ∙ split-test (eqb top topLevel) (Ready (enteredAs tree t top so (Halved c d) .made) (enteredAs tree t top so (Halved c d) .root))
 
 -- Where there is a root, there is a last entry

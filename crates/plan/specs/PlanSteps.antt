@@ -5,7 +5,7 @@ use mathlib.Core.List.{List}
 use mathlib.Core.Bool.{cond}
 use lib.ListN.{length}
 use lib.Dec.{leb, ltb, eqb}
-use Rattle.words.specs.Words.{birthOf}
+use Rattle.words.specs.Words.{rootBirth}
 use Rattle.tree.specs.declared.types.Row.{Row}
 use Rattle.ranges.specs.declared.search.Place.{Place}
 use Rattle.ranges.specs.declared.search.Place.the-variants as place
@@ -90,8 +90,8 @@ planTop made parts top last t =
     cond (eqb parts 0)
     (Ready made Kept)
     (cond (eqb parts 1)
-    (Ready made (cond (eqb (birthOf last) t) Replaced Added))
-    (cond (eqb top topLevel) Spoiled (Ready (made + 1) (cond (eqb (birthOf last) t) Replaced Added))))
+    (Ready made (cond (eqb (rootBirth last) t) Replaced Added))
+    (cond (eqb top topLevel) Spoiled (Ready (made + 1) (cond (eqb (rootBirth last) t) Replaced Added))))
 
 -- The numbers are small
 pub record Few (counts : Counts) : Type 0 where

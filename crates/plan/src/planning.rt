@@ -11,15 +11,15 @@ use tree::Row;
 use tree::TreeUse;
 ghost use mathlib.Core.Path.{_≡_};
 ghost use mathlib.Core.Bool.{cond};
-ghost use Prim.Native.Nat.{_+_, _*_, _≤_, _<_};
+ghost use Prim.Native.Nat.{_+_, _-_, _*_, _≤_, _<_};
 ghost use lib.ListN.{length};
 ghost use lib.Dec.{eqb};
 ghost use Rattle.words.specs.declared.value.Value.{Value};
-ghost use Rattle.words.specs.Words.{openEnd, birthOf};
+ghost use Rattle.words.specs.Words.{openEnd, rootBirth};
 ghost use Rattle.tree.specs.Row.{pageWords};
 ghost use Rattle.tree.specs.declared.types.RootChange.the-variants as change;
 ghost use Rattle.tree.specs.Tree.{topLevel};
-ghost use Rattle.tree.specs.Plan.{plan};
+ghost use Rattle.tree.specs.Plan.{mostMade, plan};
 ghost use Rattle.plan.specs.PlanSteps.{InWords, appended, metWords, metPage, Few, FewParts};
 ghost use Rattle.plan.specs.PlanSteps.{partsOf, planPage, planAbove, planFrom, planTop};
 
@@ -126,7 +126,7 @@ fn parts_of(rows: usize, live: usize) -> u32
 
 // A page after its steps, with the pages made before it.
 fn plan_page(made: u32, rows: usize, live: usize) -> Planned
-    requires { ⌜ made ≤ 6 ⌝ }
+    requires { ⌜ made < mostMade ⌝ }
     ensures { λ r. ⌜ r ≡ planPage made rows live ⌝ }
 {
     let parts = parts_of(rows, live);
@@ -139,7 +139,7 @@ fn plan_page(made: u32, rows: usize, live: usize) -> Planned
 // A page above the lowest, after its step 3 and, where its child's rows went to new pages, its step 7.
 fn plan_above(counts: Counts, below: Planned) -> Planned
     requires { ⌜ Few counts ⌝ }
-    requires { ⌜ FewParts 6 below ⌝ }
+    requires { ⌜ FewParts (mostMade - 1) below ⌝ }
     ensures { λ r. ⌜ r ≡ planAbove counts below ⌝ }
 {
     let Planned::Made { made, parts } = below else {
@@ -185,17 +185,18 @@ fn plan_from(
 
 // What a new root does to the root list, whose last entry is `last`: it adds an entry, or replaces the last one if that was born at t.
 fn root_change(last: u64, t: u32) -> RootChange
-    ensures { λ r. ⌜ r ≡ cond (eqb (birthOf last) t) change.Replaced change.Added ⌝ }
+    ensures { λ r. ⌜ r ≡ cond (eqb (rootBirth last) t) change.Replaced change.Added ⌝ }
 {
-    if words::birth_of(last) == t {
+    if words::root_birth(last) == t {
         return RootChange::Replaced;
     }
     RootChange::Added
 }
 
-// Step 8, for a root of level `top`: two halves get a new root, unless the root is at level 3 already.
+// Step 8, for a root of level `top`: two halves get a new root, unless the root is at the top level already. Such a root would make a page more
+// than an entry may.
 fn plan_top(made: u32, parts: u32, top: u64, last: u64, t: u32) -> Plan
-    requires { ⌜ made ≤ 8 ⌝ }
+    requires { ⌜ made ≤ mostMade + 1 ⌝ }
     ensures { λ r. ⌜ r ≡ planTop made parts top last t ⌝ }
 {
     if parts == 0 {
@@ -208,7 +209,7 @@ fn plan_top(made: u32, parts: u32, top: u64, last: u64, t: u32) -> Plan
     if parts == 1 {
         return Plan::Ready { made, root };
     }
-    if top == 3 {
+    if top == TreeUse::TOP_LEVEL {
         return Plan::Spoiled;
     }
     Plan::Ready {
@@ -232,7 +233,7 @@ pub fn plan(table: &[u64], roots: &[u64], used: TreeUse, t: u32, k: u16) -> Plan
         return Plan::Spoiled;
     }
     let top = table[root as usize * Page::WORDS];
-    if 3 < top {
+    if TreeUse::TOP_LEVEL < top {
         return Plan::Spoiled;
     }
     let planned = plan_from(table, used.pages, root, top, 0, words::KEY_LIMIT, t, k);

@@ -11,7 +11,7 @@ use lib.ListN.{length, take, getD}
 use lib.Seq.{take-suc}
 use lib.Dec.{leb}
 use borrow.Author.Tests.{le-leb, lt-leb}
-use Rattle.words.specs.Words.{birthOf, rootPage}
+use Rattle.words.specs.Words.{rootBirth, rootPage}
 use Rattle.tree.specs.declared.types.Root.{Root}
 use Rattle.tree.specs.declared.types.Root.the-variants.{At, Missing}
 use Rattle.tree.specs.Tree.{inHigherPlace, rootFor}
@@ -26,7 +26,7 @@ higher-assoc Missing b c = refl
 
 -- What one entry is for a tick
 abbrev entryFor : ℕ → ℕ → Root
-entryFor t w = cond (leb (birthOf w) t) (At (rootPage w)) Missing
+entryFor t w = cond (leb (rootBirth w) t) (At (rootPage w)) Missing
 
 -- The last entry decides before all others
 pub root-last : (t : ℕ) (ws : List ℕ) (w : ℕ) → rootFor t (ws ++ (w ∷ [])) ≡ inHigherPlace (entryFor t w) (rootFor t ws)
@@ -36,12 +36,12 @@ root-last t (x ∷ xs) w =
     ap (λ (r : Root). inHigherPlace r (entryFor t x)) (root-last t xs w) ∙ higher-assoc (entryFor t w) (rootFor t xs) (entryFor t x)
 
 -- A last entry born by the tick is the root for it
-pub root-last-hit : (t : ℕ) (ws : List ℕ) (w : ℕ) → birthOf w ≤ t → rootFor t (ws ++ (w ∷ [])) ≡ At (rootPage w)
-root-last-hit t ws w h = root-last t ws w ∙ rw (le-leb (birthOf w) t h)
+pub root-last-hit : (t : ℕ) (ws : List ℕ) (w : ℕ) → rootBirth w ≤ t → rootFor t (ws ++ (w ∷ [])) ≡ At (rootPage w)
+root-last-hit t ws w h = root-last t ws w ∙ rw (le-leb (rootBirth w) t h)
 
 -- A last entry born later says nothing
-pub root-last-miss : (t : ℕ) (ws : List ℕ) (w : ℕ) → t < birthOf w → rootFor t (ws ++ (w ∷ [])) ≡ rootFor t ws
-root-last-miss t ws w h = root-last t ws w ∙ rw (lt-leb (birthOf w) t h)
+pub root-last-miss : (t : ℕ) (ws : List ℕ) (w : ℕ) → t < rootBirth w → rootFor t (ws ++ (w ∷ [])) ≡ rootFor t ws
+root-last-miss t ws w h = root-last t ws w ∙ rw (lt-leb (rootBirth w) t h)
 
 module _ (ws : List ℕ) (t : ℕ) where
   pub root-none : {left : ℕ} → left ≤ 0 → rootFor t (take left ws) ≡ Missing
@@ -49,20 +49,20 @@ module _ (ws : List ℕ) (t : ℕ) where
   root-none {left = zero} h = refl
   root-none {left = suc i} h = absurd (not-suc-le-zero h)
 
-  pub root-hit : {left : ℕ} → 0 < left → left ≤ length ws → birthOf (getD ws (left - 1) 0) ≤ t
+  pub root-hit : {left : ℕ} → 0 < left → left ≤ length ws → rootBirth (getD ws (left - 1) 0) ≤ t
       → rootFor t (take left ws) ≡ At (rootPage (getD ws (left - 1) 0))
   root-hit {left = zero} more fits born = absurd (not-suc-le-zero more)
   root-hit {left = suc i} more fits born =
       ap (rootFor t) (take-suc ws i 0 fits) ∙ rw sub-one (root-last-hit t (take i ws) (getD ws i 0) (rw sub-one at born))
 
-  pub root-miss : {left : ℕ} → 0 < left → left ≤ length ws → t < birthOf (getD ws (left - 1) 0)
+  pub root-miss : {left : ℕ} → 0 < left → left ≤ length ws → t < rootBirth (getD ws (left - 1) 0)
       → rootFor t (take left ws) ≡ rootFor t (take (left - 1) ws)
   root-miss {left = zero} more fits later = absurd (not-suc-le-zero more)
   root-miss {left = suc i} more fits later =
       ap (rootFor t) (take-suc ws i 0 fits) ∙ rw sub-one (root-last-miss t (take i ws) (getD ws i 0) (rw sub-one at later))
 
   -- Entries at the end that are all born later say nothing
-  pub root-skip : (from n : ℕ) → from + n ≤ length ws → ((i : ℕ) → i < n → t < birthOf (getD ws (from + i) 0))
+  pub root-skip : (from n : ℕ) → from + n ≤ length ws → ((i : ℕ) → i < n → t < rootBirth (getD ws (from + i) 0))
       → rootFor t (take (from + n) ws) ≡ rootFor t (take from ws)
   root-skip from zero fits later = let none : from + 0 ≡ from = omega arith in ap (λ (k : ℕ). rootFor t (take k ws)) none
   root-skip from (suc n) fits later =
@@ -72,11 +72,11 @@ module _ (ws : List ℕ) (t : ℕ) where
       ∙ root-skip from n (omega arith) (λ i h. later i (omega arith))
 
 -- One entry more: as many later ones as entries, and all of them are later
-pub later-more : (ws : List ℕ) (t from at later one : ℕ) → later ≤ at → (at ≤ later → (i : ℕ) → i < at → t < birthOf (getD ws (from + i) 0)) → one ≤ 1
-    → (1 ≤ one → t < birthOf (getD ws (from + at) 0)) → at + 1 ≤ later + one → (i : ℕ) → i < at + 1 → t < birthOf (getD ws (from + i) 0)
+pub later-more : (ws : List ℕ) (t from at later one : ℕ) → later ≤ at → (at ≤ later → (i : ℕ) → i < at → t < rootBirth (getD ws (from + i) 0)) → one ≤ 1
+    → (1 ≤ one → t < rootBirth (getD ws (from + at) 0)) → at + 1 ≤ later + one → (i : ℕ) → i < at + 1 → t < rootBirth (getD ws (from + i) 0)
 later-more ws t from at later one few before small last all i h = go (ℕ-discrete i at)
   where
-    go : Dec (i ≡ at) → t < birthOf (getD ws (from + i) 0)
+    go : Dec (i ≡ at) → t < rootBirth (getD ws (from + i) 0)
     go (yes e) = rw e (last (omega arith))
     go (no n) = before (omega arith) i (below n)
       where

@@ -4,7 +4,7 @@ ghost use mathlib.Core.Path.{_≡_};
 ghost use mathlib.Core.Bool.{true};
 ghost use Prim.Native.Nat.{ℕ, _+_, _≤_, _<_};
 ghost use lib.ListN.{length, take, getD};
-ghost use Rattle.words.specs.Words.{birthOf};
+ghost use Rattle.words.specs.Words.{rootBirth};
 ghost use Rattle.tree.specs.Tree.{rootFor};
 
 // How many entries are looked at together.
@@ -25,13 +25,13 @@ fn one_if_later(birth: u32, t: u32) -> u32
 // birth, so that a processor takes four at once: baseline x86-64 compares four such numbers in one step, but has no least of them.
 fn all_later(roots: &[u64], from: usize, t: u32) -> bool
     requires { ⌜ from + 32 ≤ length (now roots) ⌝ }
-    ensures { λ r. ⌜ (r ≡ true → (i : ℕ) → i < 32 → t < birthOf (getD (now (roots .entry)) (from + i) 0)) ⌝ }
+    ensures { λ r. ⌜ (r ≡ true → (i : ℕ) → i < 32 → t < rootBirth (getD (now (roots .entry)) (from + i) 0)) ⌝ }
 {
     let mut later: u32 = 0;
     let mut at: usize = 0;
     while at < BLOCK {
         let entry = roots[from + at];
-        later += one_if_later(words::birth_of(entry), t);
+        later += one_if_later(words::root_birth(entry), t);
         at += 1;
     }
     later as usize == BLOCK
@@ -61,8 +61,8 @@ fn walk_roots(roots: &[u64], used: usize, t: u32) -> Root
     let mut left = used;
     while 0 < left {
         let entry = roots[left - 1];
-        if words::birth_of(entry) <= t {
-            return Root::At(words::end_of(entry));
+        if words::root_birth(entry) <= t {
+            return Root::At(words::root_page(entry));
         }
         left -= 1;
     }

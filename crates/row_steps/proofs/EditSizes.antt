@@ -8,7 +8,7 @@ use lib.Dec.{eqb}
 use lib.ListN.{length}
 use Rattle.words.proofs.OverwriteLaws.{overwrite-length, word-inside}
 use Rattle.tree.specs.declared.types.Row.{Row}
-use Rattle.tree.specs.Row.{word, rowAt, rowStart, rowWords, rowIn}
+use Rattle.tree.specs.Row.{word, rowAt, rowStart, rowWords, rowIn, mostAppended}
 use Rattle.tree.specs.Edit.{putRow, endRow, appendRow, ended, bornAt}
 use Rattle.tree.proofs.PageCodec.{put-length, put-before}
 use Rattle.words.specs.declared.value.Value.{Value}
@@ -109,16 +109,16 @@ gain-grown t v page Missing inside room = grown-not 1 page
 gain-grown t v page (At place) inside room = replace-grown page place inside room t (rowIn page place) (gained v (rowIn page place))
 
 -- An entry adds at most three rows to a page
-pub change-grown : (t : ℕ) (v : Value) (page : List ℕ) (change : Change) → ChangeWithin (word page 1) change → rowStart (word page 1 + 3) ≤ length page →
-    Grown 3 page (changeWords t v page change)
+pub change-grown : (t : ℕ) (v : Value) (page : List ℕ) (change : Change) → ChangeWithin (word page 1) change → rowStart (word page 1 + mostAppended) ≤ length page →
+    Grown mostAppended page (changeWords t v page change)
 change-grown t v page (Leaf Missing gain k) inside room =
-    grown-further 1 0 3 page _ _ (gain-grown t v page gain (inside .1) (omega arith)) (grown-not 0 _) (omega arith)
+    grown-further 1 0 mostAppended page _ _ (gain-grown t v page gain (inside .1) (omega arith)) (grown-not 0 _) (omega arith)
 change-grown t v page (Leaf (At place) gain k) inside room =
     let row : Row = rowIn page place in
-    grown-further 2 0 3 page _ _ (replace-and-more page place (inside .0) (omega arith) t row (cutAt k row) (newRow t k (row .high) 0 v)) (grown-not 0 _) (omega arith)
+    grown-further 2 0 mostAppended page _ _ (replace-and-more page place (inside .0) (omega arith) t row (cutAt k row) (newRow t k (row .high) 0 v)) (grown-not 0 _) (omega arith)
 change-grown t v page (Lowest gain) inside room =
-    grown-further 1 0 3 page _ _ (gain-grown t v page gain inside (omega arith)) (grown-not 0 _) (omega arith)
+    grown-further 1 0 mostAppended page _ _ (gain-grown t v page gain inside (omega arith)) (grown-not 0 _) (omega arith)
 change-grown t v page (Above place gain became) inside room =
     let one = gain-grown t v page gain (inside .1) (omega arith) in
-    grown-further 1 2 3 page (gainWords t v page gain) _ one
+    grown-further 1 2 mostAppended page (gainWords t v page gain) _ one
     (link-grown (gainWords t v page gain) place (omega (arith, inside .0, one .least)) (omega (arith, one .size, one .rows)) t (rowIn page place) became) (omega arith)

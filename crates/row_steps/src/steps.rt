@@ -9,7 +9,7 @@ use words::Value;
 ghost use mathlib.Core.Path.{_≡_};
 ghost use Prim.Native.Nat.{_+_, _≤_, _<_};
 ghost use lib.ListN.{length};
-ghost use Rattle.tree.specs.Row.{rowStart, rowWords, word};
+ghost use Rattle.tree.specs.Row.{rowStart, rowWords, word, mostAppended};
 ghost use Rattle.tree.specs.RowSteps.{cutAt, linkedTo};
 ghost use Rattle.row_steps.specs.PageEdits.{replaceWords, gainWords, cutWords, leafWords, linkWords, changeWords, Within, ChangeWithin};
 
@@ -147,7 +147,7 @@ fn link_row(page: &mut [u64], place: usize, old: Row, became: Became, t: u32)
 // A page above the lowest one: the row is read before it may gain, since the definition links the row that stood there.
 fn gain_and_link(page: &mut [u64], place: usize, gain: Place, became: Became, value: Value, t: u32)
     requires { ⌜ ChangeWithin (word (now page) 1) (Change.Above place gain became) ⌝ }
-    requires { ⌜ rowStart (word (now page) 1 + 3) ≤ length (now page) ⌝ }
+    requires { ⌜ rowStart (word (now page) 1 + mostAppended) ≤ length (now page) ⌝ }
     ensures { λ _. ⌜ now (page .exit) ≡ changeWords t value (now (page .entry)) (Change.Above place gain became) ⌝ }
 {
     let row = page::row_at(page, place);
@@ -155,10 +155,10 @@ fn gain_and_link(page: &mut [u64], place: usize, gain: Place, became: Became, va
     link_row(page, place, row, became, t);
 }
 
-// Changes a page that has room for the 3 rows that an entry may append.
+// Changes a page that has room for the rows that an entry may append.
 pub fn change_words(page: &mut [u64], change: Change, value: Value, t: u32)
     requires { ⌜ ChangeWithin (word (now page) 1) change ⌝ }
-    requires { ⌜ rowStart (word (now page) 1 + 3) ≤ length (now page) ⌝ }
+    requires { ⌜ rowStart (word (now page) 1 + mostAppended) ≤ length (now page) ⌝ }
     ensures { λ _. ⌜ now (page .exit) ≡ changeWords t value (now (page .entry)) change ⌝ }
 {
     match change {

@@ -11,10 +11,10 @@ use Rattle.words.specs.Overwrite.{overwrite}
 use Rattle.words.specs.declared.value.Value.{Value}
 use Rattle.words.specs.Value.{plus}
 use Rattle.words.specs.Value as value
-use Rattle.words.proofs.ValueLaws.{Stored, plus-stored, plus-zero, plus-assoc, zero-plus}
+use Rattle.words.proofs.ValueLaws.{Stored, plus-stored, plus-zero, plus-assoc, zero-plus, read-stored}
 use Rattle.tree.specs.declared.types.Row.{Row}
 use Rattle.page.specs.declared.fresh.Page.{Page}
-use Rattle.tree.specs.Row.{word, rowLimit, rowStart}
+use Rattle.tree.specs.Row.{word, rowLimit, rowStart, valueStart}
 use Rattle.tree.specs.TrueValue.{totalWhere}
 use Rattle.tree.specs.Fresh.{freshPage}
 use Rattle.page.specs.Entries.{entryPlace}
@@ -106,7 +106,7 @@ gain-nothing words t [] small = refl
 gain-nothing words t (e ∷ es) small =
     let r : Row = copyOf words t e in
     ap (λ (v : Value). record { low = r .low; high = r .high; child = r .child; birth = r .birth; end = r .end; value = v } ∷ map (copyOf words t) es)
-    (plus-zero (r .value) (small (rowStart (entryPlace e) + 2), small (rowStart (entryPlace e) + 2 + 1)))
+    (plus-zero (r .value) (read-stored words (rowStart (entryPlace e) + valueStart) small))
 
 pub filled-fresh : (words : List ℕ) (t level low high : ℕ) (es : List ℕ) → ((i : ℕ) → word words i < 2 ^ 64) → length es ≤ rowLimit →
     encodePage (gainPage value.zero (fillPage words t (emptyPage level low high t) es)) ≡ freshPage level low high t (map (copyOf words t) es)

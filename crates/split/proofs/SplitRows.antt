@@ -10,13 +10,13 @@ use Rattle.words.specs.Lists.{All}
 use Rattle.words.specs.Words.{lowKey, highKey}
 use Rattle.words.specs.Value as value
 use Rattle.tree.specs.declared.types.Row.{Row}
-use Rattle.tree.specs.Row.{word, rowStart, rowWords, rowsOf, copyLimit, rowIn}
+use Rattle.tree.specs.Row.{word, rowStart, rowWords, rowsOf, copyLimit, rowIn, mostRows}
 use Rattle.tree.specs.KeyOrder.{Placed, keyOrder}
 use Rattle.tree.specs.Edit.{bornAt}
 use Rattle.tree.specs.Fresh.{freshPage}
 use Rattle.tree.proofs.Lists.{all-drop, map-take, map-drop}
 use Rattle.page.specs.PageValue.{encodePage, emptyPage}
-use Rattle.page.specs.Entries.{orderSize, entryOf, entryPlace, InPage}
+use Rattle.page.specs.Entries.{entryOf, entryPlace, InPage}
 use Rattle.page.proofs.EntryLaws.{Seated, seated-place, order-seated}
 use Rattle.words.proofs.LoopLaws.{drop-here}
 use Rattle.page.proofs.PageReadings.{in-page, entries-are}
@@ -40,10 +40,10 @@ module _ (t : ℕ) (words order : List ℕ) (start : ℕ) (from : Sourced t word
       go (x ∷ xs) s =
           ap₂ _∷_ (ap (bornAt t) (ap (rowIn words) (seated-place words (word words 1) (from .few) x (s .0)) ∙ sym (s .0 .same))) (go xs (s .1))
 
-  pub live-count : start + length (liveCopies words t) ≡ orderSize
+  pub live-count : start + length (liveCopies words t) ≡ mostRows
   live-count = omega (arith, from .is .room, length-map (keyOrder t (rowsOf words)) (λ (x : Placed). bornAt t (x .row)))
 
-  pub start-in : start ≤ orderSize
+  pub start-in : start ≤ mostRows
   start-in = omega (arith, live-count)
 
   -- Each entry's row lies in the words
@@ -57,27 +57,27 @@ module _ (t : ℕ) (words order : List ℕ) (start : ℕ) (from : Sourced t word
   in-words-from n h =
       rw (drop-from n h) (all-drop (λ (e : ℕ). rowStart (entryPlace e) + rowWords ≤ length words) (n - start) (drop start order) in-words)
 
-  between-all : (n : ℕ) → between n orderSize order ≡ drop n order
-  between-all n = take-all (orderSize - n) (drop n order) (omega (arith, length-drop n order))
+  between-all : (n : ℕ) → between n mostRows order ≡ drop n order
+  between-all n = take-all (mostRows - n) (drop n order) (omega (arith, length-drop n order))
 
-  pub between-length : (n m : ℕ) → n ≤ m → m ≤ orderSize → length (between n m order) ≡ m - n
+  pub between-length : (n m : ℕ) → n ≤ m → m ≤ mostRows → length (between n m order) ≡ m - n
   between-length n m h l = length-take-le (m - n) (drop n order) (omega (arith, length-drop n order))
 
   -- One new page
-  pub copy-table : ((i : ℕ) → word words i < 2 ^ 64) → (table : List ℕ) (number : ℕ) → orderSize ≤ start + copyLimit →
+  pub copy-table : ((i : ℕ) → word words i < 2 ^ 64) → (table : List ℕ) (number : ℕ) → mostRows ≤ start + copyLimit →
       putPage table number
-      (encodePage (gainPage value.zero (fillPage words t (emptyPage (word words 0) (lowKey (word words 2)) (highKey (word words 2)) t) (between start orderSize order))))
+      (encodePage (gainPage value.zero (fillPage words t (emptyPage (word words 0) (lowKey (word words 2)) (highKey (word words 2)) t) (between start mostRows order))))
       ≡ copiedTable table number words t
   unfolding copiedTable
   copy-table small table number h =
       ap (putPage table number)
-      (filled-fresh words t (word words 0) (lowKey (word words 2)) (highKey (word words 2)) (between start orderSize order) small
-      (omega (arith, between-length start orderSize start-in (omega arith)))
+      (filled-fresh words t (word words 0) (lowKey (word words 2)) (highKey (word words 2)) (between start mostRows order) small
+      (omega (arith, between-length start mostRows start-in (omega arith)))
       ∙ ap (freshPage (word words 0) (lowKey (word words 2)) (highKey (word words 2)) t)
       (ap (map (copyOf words t)) (between-all start) ∙ copies))
 
   -- Two new pages, cut behind the larger half
-  module _ (cut : ℕ) (where-cut : cut ≡ start + lowerHalf (orderSize - start)) where
+  module _ (cut : ℕ) (where-cut : cut ≡ start + lowerHalf (mostRows - start)) where
     cut-is : cut ≡ start + lowerCount (liveCopies words t)
     cut-is = omega (arith, live-count)
 
@@ -93,11 +93,11 @@ module _ (t : ℕ) (words order : List ℕ) (start : ℕ) (from : Sourced t word
         ∙ map-drop (copyOf words t) (cut - start) (drop start order)
         ∙ ap₂ drop n copies
 
-    upper-is : map (copyOf words t) (between cut orderSize order) ≡ drop (lowerCount (liveCopies words t)) (liveCopies words t)
+    upper-is : map (copyOf words t) (between cut mostRows order) ≡ drop (lowerCount (liveCopies words t)) (liveCopies words t)
     upper-is = ap (map (copyOf words t)) (between-all cut) ∙ drop-is
 
     -- The key where the pages are cut is the low key of the upper page's first row
-    pub middle-is : cut < orderSize → entryRow words (getD order cut 0) .low ≡ middleKey words t
+    pub middle-is : cut < mostRows → entryRow words (getD order cut 0) .low ≡ middleKey words t
     unfolding middleKey
     middle-is h =
         ap (λ (l : List Row). lowestKey (highKey (word words 2)) l)
@@ -110,14 +110,14 @@ module _ (t : ℕ) (words order : List ℕ) (start : ℕ) (from : Sourced t word
         second
         (encodePage
         (gainPage (addRows words value.zero (between start cut order))
-        (fillPage words t (emptyPage (word words 0) middle (highKey (word words 2)) t) (between cut orderSize order))))
+        (fillPage words t (emptyPage (word words 0) middle (highKey (word words 2)) t) (between cut mostRows order))))
         ≡ halvedTable table first second words t
     unfolding halvedTable
     halve-table small table first second middle e =
         let level : ℕ = word words 0 in
         let low : ℕ = lowKey (word words 2) in
         let high : ℕ = highKey (word words 2) in
-        let in-order : cut ≤ orderSize = omega (arith, start-in) in
+        let in-order : cut ≤ mostRows = omega (arith, start-in) in
         let after : start ≤ cut = omega arith in
         let lower : encodePage (gainPage value.zero (fillPage words t (emptyPage level low middle t) (between start cut order)))
         ≡ freshPage level low (middleKey words t) t (take (lowerCount (liveCopies words t)) (liveCopies words t)) =
@@ -127,17 +127,17 @@ module _ (t : ℕ) (words order : List ℕ) (start : ℕ) (from : Sourced t word
         added-from-zero words t (between start cut order) ∙ ap totalOf lower-is in
         let upper : encodePage
         (gainPage (addRows words value.zero (between start cut order))
-        (fillPage words t (emptyPage level middle high t) (between cut orderSize order)))
+        (fillPage words t (emptyPage level middle high t) (between cut mostRows order)))
         ≡ freshPage level (middleKey words t) high t
         (gainFirst (totalOf (take (lowerCount (liveCopies words t)) (liveCopies words t))) (drop (lowerCount (liveCopies words t)) (liveCopies words t))) =
-        filled-gained words t level middle high (between cut orderSize order) (addRows words value.zero (between start cut order))
-        (omega (arith, between-length cut orderSize in-order (omega arith)))
+        filled-gained words t level middle high (between cut mostRows order) (addRows words value.zero (between start cut order))
+        (omega (arith, between-length cut mostRows in-order (omega arith)))
         ∙ ap₂ (λ (m : ℕ) (l : List Row). freshPage level m high t l) e (ap₂ gainFirst total upper-is) in
         ap₂ (λ (a b : List ℕ). putPage (putPage table first a) second b) lower upper
 
 -- What `key_order` leaves is such a source
-pub sourced : (t : ℕ) (words before order : List ℕ) (start : ℕ) → length words ≡ scratchWords → word words 1 ≤ orderSize → length before ≡ orderSize →
-    start + length (keyOrder t (rowsOf words)) ≡ orderSize →
+pub sourced : (t : ℕ) (words before order : List ℕ) (start : ℕ) → length words ≡ scratchWords → word words 1 ≤ mostRows → length before ≡ mostRows →
+    start + length (keyOrder t (rowsOf words)) ≡ mostRows →
     order ≡ take start before ++ map entryOf (keyOrder t (rowsOf words)) → Sourced t words order start
 sourced t words before order start room few full ends list =
     record {

@@ -9,19 +9,19 @@ use Rattle.words.specs.declared.value.Value.{Value}
 use Rattle.words.specs.Value.{plus}
 use Rattle.tree.specs.declared.types.Row.{Row}
 use Rattle.page.specs.declared.fresh.Page.{Page}
-use Rattle.tree.specs.Row.{word, headerWords, rowWords, rowsOf, rowIn}
+use Rattle.tree.specs.Row.{word, headerWords, rowWords, rowsOf, rowIn, mostRows}
 use Rattle.tree.specs.Edit.{bornAt}
 use Rattle.tree.specs.Fresh.{freshPage}
 use Rattle.page.specs.PageValue.{withRow}
-use Rattle.page.specs.Entries.{orderSize, entryPlace, Ordered}
+use Rattle.page.specs.Entries.{entryPlace, Ordered}
 use Rattle.tree.specs.declared.types.TreeUse.{TreeUse}
 use Rattle.tree.specs.Tree.{putPage}
 use Rattle.tree.specs.declared.types.Became.the-variants.{Stays}
 use Rattle.tree.specs.Overflow.{Written, copiedRows, lowerCount, lowestKey, gainFirst, totalOf, splitPage}
 
--- A page's words with room for the rows that one entry may append: a header and 67 rows
+-- A page's words with room for the rows that one entry may append
 abbrev pub scratchWords : ℕ
-scratchWords = headerWords + orderSize * rowWords
+scratchWords = headerWords + mostRows * rowWords
 
 -- The entries of an order from one place up to another
 abbrev pub between : ℕ → ℕ → List ℕ → List ℕ
@@ -52,8 +52,8 @@ gainPage v p =
 -- What the copies are taken from: the words of the page that overflowed, and the entries of its live rows in key order from `start` on
 pub record Sourced (t : ℕ) (words order : List ℕ) (start : ℕ) : Type 0 where
   pub room : length words ≡ scratchWords
-  pub few : word words 1 ≤ orderSize
-  pub long : length order ≡ orderSize
+  pub few : word words 1 ≤ mostRows
+  pub long : length order ≡ mostRows
   pub is : Ordered t words order start
 
 -- The table after the live rows went to one new page, or to two, and the key where the two are cut

@@ -11,20 +11,21 @@ ghost use mathlib.Core.Path.{_≡_};
 ghost use Prim.Native.Nat.{_+_, _*_, _-_, _≤_, _<_};
 ghost use lib.ListN.{length, drop};
 ghost use Rattle.words.specs.Value as value;
-ghost use Rattle.tree.specs.Row.{word, headerWords, pageWords, rowLimit, copyLimit};
+ghost use Rattle.tree.specs.Row.{word, headerWords, pageWords, rowLimit, copyLimit, mostRows};
 ghost use Rattle.page.specs.PageValue.{encodePage, emptyPage};
-ghost use Rattle.page.specs.Entries.{orderSize, InPage};
+ghost use Rattle.page.specs.Entries.{InPage};
 ghost use Rattle.tree.specs.Tree.{putPage, pageLimit};
 ghost use Rattle.tree.specs.Overflow.{takenPage, lowerHalf};
+ghost use Rattle.tree.specs.Plan.{mostMade};
 ghost use Rattle.split.specs.SplitWords.{scratchWords, Sourced, between, fillPage, addRows, gainPage, copiedTable, middleKey, halvedTable, splitWords};
 
 // A new page of the old page's level, with the rows of the entries from one place of the order up to another, each born at t and open. The
 // rows are stored here and not by `with_row`, which would copy the page for each of them.
 fn filled(words: &[u64], order: &[u64], from: usize, to: usize, low: u16, high: u16, t: u32) -> Page
     requires { ⌜ headerWords ≤ length (now words) ⌝ }
-    requires { ⌜ length (now order) ≡ orderSize ⌝ }
+    requires { ⌜ length (now order) ≡ mostRows ⌝ }
     requires { ⌜ from ≤ to ⌝ }
-    requires { ⌜ to ≤ orderSize ⌝ }
+    requires { ⌜ to ≤ mostRows ⌝ }
     requires { ⌜ to - from ≤ rowLimit ⌝ }
     requires { ⌜ InPage (now words) (drop from (now order)) ⌝ }
     ensures { λ r. ⌜ r ≡ fillPage (now (words .entry)) t (emptyPage (word (now (words .entry)) 0) low high t) (between from to (now (order .entry))) ⌝ }
@@ -43,9 +44,9 @@ fn filled(words: &[u64], order: &[u64], from: usize, to: usize, low: u16, high: 
 
 // The total of the rows of the entries from one place of the order up to another.
 fn total_of(words: &[u64], order: &[u64], from: usize, to: usize) -> Value
-    requires { ⌜ length (now order) ≡ orderSize ⌝ }
+    requires { ⌜ length (now order) ≡ mostRows ⌝ }
     requires { ⌜ from ≤ to ⌝ }
-    requires { ⌜ to ≤ orderSize ⌝ }
+    requires { ⌜ to ≤ mostRows ⌝ }
     requires { ⌜ InPage (now words) (drop from (now order)) ⌝ }
     ensures { λ r. ⌜ r ≡ addRows (now (words .entry)) value.zero (between from to (now (order .entry))) ⌝ }
 {
@@ -94,9 +95,9 @@ fn put_rows(
     t: u32,
 )
     requires { ⌜ headerWords ≤ length (now words) ⌝ }
-    requires { ⌜ length (now order) ≡ orderSize ⌝ }
+    requires { ⌜ length (now order) ≡ mostRows ⌝ }
     requires { ⌜ from ≤ to ⌝ }
-    requires { ⌜ to ≤ orderSize ⌝ }
+    requires { ⌜ to ≤ mostRows ⌝ }
     requires { ⌜ to - from ≤ rowLimit ⌝ }
     requires { ⌜ InPage (now words) (drop from (now order)) ⌝ }
     requires { ⌜ (number + 1) * pageWords ≤ length (now table) ⌝ }
@@ -109,7 +110,7 @@ fn put_rows(
 // All live rows go to one new page of the old page's level and key range.
 fn copy_rows(table: &mut [u64], number: u32, words: &[u64], order: &[u64], start: usize, t: u32)
     requires { ⌜ Sourced t (now words) (now order) start ⌝ }
-    requires { ⌜ orderSize ≤ start + copyLimit ⌝ }
+    requires { ⌜ mostRows ≤ start + copyLimit ⌝ }
     requires { ⌜ (number + 1) * pageWords ≤ length (now table) ⌝ }
     ensures { λ _. ⌜ now (table .exit) ≡ copiedTable (now (table .entry)) number (now (words .entry)) t ⌝ }
 {
@@ -123,7 +124,7 @@ fn copy_rows(table: &mut [u64], number: u32, words: &[u64], order: &[u64], start
         words,
         order,
         start,
-        Page::ORDERED,
+        Page::MOST_ROWS,
         low,
         high,
         nothing,
@@ -133,10 +134,10 @@ fn copy_rows(table: &mut [u64], number: u32, words: &[u64], order: &[u64], start
 
 // Where the lower page's rows stop in an order that starts at `start`: it takes the larger half.
 fn lower_end(start: usize) -> usize
-    requires { ⌜ start ≤ orderSize ⌝ }
-    ensures { λ r. ⌜ r ≡ start + lowerHalf (orderSize - start) ⌝ }
+    requires { ⌜ start ≤ mostRows ⌝ }
+    ensures { λ r. ⌜ r ≡ start + lowerHalf (mostRows - start) ⌝ }
 {
-    start + (Page::ORDERED - start + 1) / 2
+    start + (Page::MOST_ROWS - start + 1) / 2
 }
 
 // The live rows go to two new pages, which are cut at the low key of the upper page's first row: that key is the result.
@@ -150,7 +151,7 @@ fn halve_rows(
     t: u32,
 ) -> u16
     requires { ⌜ Sourced t (now words) (now order) start ⌝ }
-    requires { ⌜ start + copyLimit < orderSize ⌝ }
+    requires { ⌜ start + copyLimit < mostRows ⌝ }
     requires { ⌜ (first + 1) * pageWords ≤ length (now table) ⌝ }
     requires { ⌜ (second + 1) * pageWords ≤ length (now table) ⌝ }
     ensures { λ r. ⌜ r ≡ middleKey (now (words .entry)) t ⌝ }
@@ -181,7 +182,7 @@ fn halve_rows(
         words,
         order,
         cut,
-        Page::ORDERED,
+        Page::MOST_ROWS,
         middle,
         high,
         below,
@@ -193,7 +194,7 @@ fn halve_rows(
 // The number of the i-th page that a call takes, counted from 0.
 pub fn taken_page(used: TreeUse, i: u32) -> u32
     requires { ⌜ used .pages ≤ pageLimit ⌝ }
-    requires { ⌜ i ≤ 32 ⌝ }
+    requires { ⌜ i ≤ mostMade ⌝ }
     ensures { λ r. ⌜ r ≡ takenPage used i ⌝ }
 {
     used.pages + i
@@ -202,21 +203,21 @@ pub fn taken_page(used: TreeUse, i: u32) -> u32
 // Step 5: the live rows of a page that has too many go to one new page, or to two, which take the next free numbers.
 pub fn split_page(table: &mut [u64], used: TreeUse, made: u32, words: &[u64], t: u32) -> Done
     requires { ⌜ length (now words) ≡ scratchWords ⌝ }
-    requires { ⌜ word (now words) 1 ≤ orderSize ⌝ }
-    requires { ⌜ made ≤ 16 ⌝ }
+    requires { ⌜ word (now words) 1 ≤ mostRows ⌝ }
+    requires { ⌜ made < mostMade ⌝ }
     requires { ⌜ used .pages ≤ pageLimit ⌝ }
     requires { ⌜ (used .pages + splitWords (now table) used made (now words) t .made) * pageWords ≤ length (now table) ⌝ }
     ensures { λ _. ⌜ now (table .exit) ≡ splitWords (now (table .entry)) used made (now (words .entry)) t .table ⌝ }
     ensures { λ r. ⌜ r .made ≡ splitWords (now (table .entry)) used made (now (words .entry)) t .made ⌝ }
     ensures { λ r. ⌜ r .became ≡ splitWords (now (table .entry)) used made (now (words .entry)) t .became ⌝ }
 {
-    let mut order = [0u64; Page::ORDERED];
+    let mut order = [0u64; Page::MOST_ROWS];
     let start = page::key_order(words, words[1] as usize, t, &mut order);
     let number = taken_page(used, made);
     let range = words[2];
     let low = words::low_key(range);
     let high = words::high_key(range);
-    if Page::ORDERED - start <= Page::COPIED {
+    if Page::MOST_ROWS - start <= Page::COPIED {
         copy_rows(table, number, words, &order, start, t);
         let copy = Child {
             page: number,

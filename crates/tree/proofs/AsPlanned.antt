@@ -5,7 +5,7 @@ use mathlib.Core.Path.{_≡_, refl, ap, _∙_}
 use mathlib.Core.Bool.{Bool, true, false, cond, _&&_, not}
 use mathlib.Core.List.{List}
 use lib.Dec.{eqb}
-use Rattle.words.specs.Words.{birthOf, keyLimit}
+use Rattle.words.specs.Words.{rootBirth, keyLimit}
 use Rattle.tree.specs.Fresh.{freshPage, twoRows}
 use Rattle.tree.specs.declared.types.Root.{Root}
 use Rattle.tree.specs.declared.types.Root.the-variants.{At, Missing}
@@ -41,7 +41,7 @@ either tree false x y p q = q
 
 with-root : (tree : Tree) (t page : ℕ) (table : List ℕ) (made : ℕ) → Done tree (withRoot tree t page table made)
 with-root tree t page table made =
-    either tree (eqb (birthOf (lastRoot tree)) t) (rootReplaced tree t page table made) (rootAdded tree t page table made)
+    either tree (eqb (rootBirth (lastRoot tree)) t) (rootReplaced tree t page table made) (rootAdded tree t page table made)
     (record { pages = refl; roots = refl }) (record { pages = refl; roots = refl })
 
 entered-as : (tree : Tree) (t level : ℕ) (so : Written) (became : Became) → Done tree (enteredAs tree t level so became)
@@ -58,7 +58,7 @@ root-done tree p page =
     entered-as tree (p .tick) (levelOf (tree .table) page) (enterFrom tree p (levelOf (tree .table) page) page)
     (enterFrom tree p (levelOf (tree .table) page) page .became)
 
-spoiled-not-ready : {G : Type 0} {made : ℕ} {change : RootChange} → Spoiled ≡ Ready made change → G
+pub spoiled-not-ready : {G : Type 0} {made : ℕ} {change : RootChange} → Spoiled ≡ Ready made change → G
 spoiled-not-ready e = let z : _≡_ {A = ℕ} 0 1 = cc in absurd (omega arith)
 
 pub as-planned : (tree : Tree) (p : Point) {made : ℕ} {change : RootChange} → plan tree p ≡ Ready made change

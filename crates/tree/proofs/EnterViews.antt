@@ -14,7 +14,7 @@ use Rattle.words.specs.declared.value.Value.{Value}
 use Rattle.words.proofs.Measure.{Measure}
 use Rattle.words.specs.Words.{openEnd, keyLimit}
 use Rattle.tree.specs.declared.types.Row.{Row}
-use Rattle.tree.specs.Row.{word, rowsOf, rowLimit}
+use Rattle.tree.specs.Row.{word, rowsOf, rowLimit, mostRows, headerWords}
 use Rattle.tree.specs.KeyOrder.{Placed}
 use Rattle.tree.specs.TrueValue.{Search}
 use Rattle.tree.specs.Tree.{pageAt}
@@ -57,11 +57,11 @@ module _ (measure : Value → ℕ) (m : Measure measure) (tree : ours.Tree) (p :
   entered n page = enter n (p .tick) (p .key) value store used page
 
   fits-at : (page : ℕ) → All Fits (rowsOf (pageAt (tree .table) page))
-  fits-at page = rows-fit (pageAt (tree .table) page) 4 (word (pageAt (tree .table) page) 1)
+  fits-at page = rows-fit (pageAt (tree .table) page) headerWords (word (pageAt (tree .table) page) 1)
 
   -- A page whose step writes no other page first
   alone : (page lo hi : ℕ) (rows : List Row) (rs : List model.Row) → page < used → store page .low ≡ lo → store page .high ≡ hi
-      → lo < hi → hi ≤ keyLimit → All Fits rows → length rows ≤ 67 → viewRows measure rows ≡ rs
+      → lo < hi → hi ≤ keyLimit → All Fits rows → length rows ≤ mostRows → viewRows measure rows ≡ rs
       → Agrees measure tree lo hi (finishPage tree (p .tick) (unwritten tree) page rows) (finish (p .tick) store used page rs)
   alone page lo hi rows rs in-use low high wide top fits few view =
       subst₂

@@ -18,6 +18,7 @@ use Rattle.tree.proofs.ReplacedRows.{tests, split, sum-live-later, sum-
 use Rattle.tree.proofs.SlotLaws.{alike}
 use Rattle.tree.proofs.EnteredPages.{enter-keeps, holds-wide}
 use Rattle.tree.proofs.LeafRows.{level-low}
+use Rattle.tree.specs.Tree.{topLevel}
 
 -- A version: the tree that page p, as a root, holds at tick t. Its lookups are L.
 pub record Version (s : ℕ → Page) (u t : ℕ) (L : ℕ → ℕ) (p : ℕ) : Type 0 where
@@ -30,14 +31,14 @@ pub record Paid (IsKnown : ℕ → Type 0) (s : ℕ → Page) (u t : ℕ) (L : �
   pub tree : Tree ((s p) .level)
   pub held : Holds ((s p) .level) s u t 0 keyLimit p tree
   pub adds : (q : ℕ) → q < keyLimit → lookupTree ((s p) .level) q tree ≈ L q
-  pub budget : (s p) .level ≤ 3 → potential ((s p) .level) s p tree + 18 * u + 18 * (3 - (s p) .level) ≤ C
+  pub budget : (s p) .level ≤ topLevel → potential ((s p) .level) s p tree + 18 * u + 18 * (topLevel - (s p) .level) ≤ C
   pub full : Full IsKnown ((s p) .level) tree
   pub wide : 0 < (s p) .level → 2 ≤ slotCount ((s p) .level) tree
 
 pub forget : (IsKnown : ℕ → Type 0) (s : ℕ → Page) (u t : ℕ) (L : ℕ → ℕ) (p C : ℕ) → Paid IsKnown s u t L p C → Version s u t L p
 forget IsKnown s u t L p C h = record { tree = h .tree; held = h .held; adds = h .adds }
 
-pub low : (IsKnown : ℕ → Type 0) (s : ℕ → Page) (u t : ℕ) (L : ℕ → ℕ) (p C : ℕ) → Paid IsKnown s u t L p C → (s p) .level ≤ 3
+pub low : (IsKnown : ℕ → Type 0) (s : ℕ → Page) (u t : ℕ) (L : ℕ → ℕ) (p C : ℕ) → Paid IsKnown s u t L p C → (s p) .level ≤ topLevel
 low IsKnown s u t L p C h = level-low IsKnown ((s p) .level) s u t p (h .tree) (h .held) (h .full) (h .wide)
 
 -- What holds of a store that took points up to tick t.
@@ -47,7 +48,7 @@ pub record Invariant (IsKnown : ℕ → Type 0) (t : ℕ) (st : State) (L : ℕ 
   pub settled : (x : ℕ) → x < st .used → Settled t ((st .store x) .rows)
   pub root : (w : ℕ) → t ≤ w → st .root w ≡ st .root t
   pub steady : (w q : ℕ) → t ≤ w → L w q ≡ L t q
-  pub levels : (w : ℕ) → w < openEnd → (st .store (st .root w)) .level ≤ 3
+  pub levels : (w : ℕ) → w < openEnd → (st .store (st .root w)) .level ≤ topLevel
 
 slots-map : {A : Type 0} (F G : Slot A → Type 0) → ((y : Slot A) → F y → G y) → (tr : List (Slot A)) → All F tr → All G tr
 slots-map F G k [] h = tt
@@ -78,12 +79,12 @@ version n s u t L p tr h adds =
     record { tree = r .0; held = r .1; adds = r .2 }
 
 paid : (IsKnown : ℕ → Type 0) (n : ℕ) (s : ℕ → Page) (u t : ℕ) (L : ℕ → ℕ) (p C : ℕ) (tr : Tree n) → Holds n s u t 0 keyLimit p tr
-    → ((q : ℕ) → q < keyLimit → lookupTree n q tr ≈ L q) → (n ≤ 3 → potential n s p tr + 18 * u + 18 * (3 - n) ≤ C) → Full IsKnown n tr
+    → ((q : ℕ) → q < keyLimit → lookupTree n q tr ≈ L q) → (n ≤ topLevel → potential n s p tr + 18 * u + 18 * (topLevel - n) ≤ C) → Full IsKnown n tr
     → (0 < n → 2 ≤ slotCount n tr) → Paid IsKnown s u t L p C
 paid IsKnown n s u t L p C tr h adds budget full wide =
     let r =
     subst (λ (m : ℕ). (tr : Tree m) × Holds m s u t 0 keyLimit p tr × ((q : ℕ) → q < keyLimit → lookupTree m q tr ≈ L q)
-    × (m ≤ 3 → potential m s p tr + 18 * u + 18 * (3 - m) ≤ C) × Full IsKnown m tr × (0 < m → 2 ≤ slotCount m tr))
+    × (m ≤ topLevel → potential m s p tr + 18 * u + 18 * (topLevel - m) ≤ C) × Full IsKnown m tr × (0 < m → 2 ≤ slotCount m tr))
     (sym (holds-level n s u t 0 keyLimit p tr h)) (tr, h, adds, budget, full, wide) in
     record { tree = r .0; held = r .1; adds = r .2; budget = r .3; full = r .4; wide = r .5 }
 
@@ -125,7 +126,7 @@ module _ (t : ℕ) (now : t < openEnd) (n : ℕ) (rs : ℕ → ℕ) (s : ℕ →
       → (B : ℕ)
       → Cost (λ a b c x. Holds n s u t a b c x) (λ l q. lookupTree n q l) L (λ b l. Full IsKnown n l × (cond b 20 old ≤ slotCount n l))
       0 keyLimit p (potential n s) u B parts y
-      → let st = grown t n rs s u parts in Paid IsKnown (st .store) (st .used) t L (st .root t) (B + 18 * (3 - n))
+      → let st = grown t n rs s u parts in Paid IsKnown (st .store) (st .used) t L (st .root t) (B + 18 * (topLevel - n))
   grown-now stay e old many y B b =
       rw e (paid IsKnown n s u t L p _ (y .0) (y .1) (λ q j. y .2 q (omega arith) j) (λ i. omega arith) (y .3 .0)
       (λ i. omega (arith, many i, y .3 .1)))
@@ -268,17 +269,17 @@ entering-keeps t₀ t k v st L C IsKnown IsKnown′ wider known invariant i now 
     L′ w q = L w q + onlyIf (leb t w) (onlyIf (leb k q) v)
 
     first : Paid IsKnown′ (st′ .store) (st′ .used) t (λ q. lookupTree n q (ver .tree) + onlyIf (leb k q) v) (st′ .root t)
-        (18 * st .used + potential n s p (ver .tree) + 5 + n + 18 * (3 - n))
+        (18 * st .used + potential n s p (ver .tree) + 5 + n + 18 * (topLevel - n))
     first =
         grown-now t now n rs (o .store) (o .used) (λ q. lookupTree n q (ver .tree) + onlyIf (leb k q) v) p IsKnown′ (o .parts) refl
         (slotCount n (ver .tree)) (ver .wide) (ok .yields) (18 * st .used + potential n s p (ver .tree) + 5 + n) (ok .spent)
 
     paid-up : (w : ℕ) → t ≤ w → w < openEnd
         → Paid IsKnown′ (st′ .store) (st′ .used) w (L′ w) (st′ .root t)
-        (18 * st .used + potential n s p (ver .tree) + 5 + n + 18 * (3 - n))
+        (18 * st .used + potential n s p (ver .tree) + 5 + n + 18 * (topLevel - n))
     paid-up w a l =
         paid-later IsKnown′ (st′ .store) (st′ .used) t w (λ q. lookupTree n q (ver .tree) + onlyIf (leb k q) v) (L′ w) (st′ .root t)
-        (18 * st .used + potential n s p (ver .tree) + 5 + n + 18 * (3 - n))
+        (18 * st .used + potential n s p (ver .tree) + 5 + n + 18 * (topLevel - n))
         (later (st′ .store) (st′ .used) t w a l (grown-settled t now n rs (o .store) (o .used) (L t) p IsKnown′ (o .parts) settled))
         (λ q m. simp tests (omega (arith, ver .adds q m, invariant .steady w q (omega arith), invariant .steady t q i)))
         first
@@ -313,7 +314,7 @@ entering-keeps t₀ t k v st L C IsKnown IsKnown′ wider known invariant i now 
         (invariant .versions w l))
     versions w l (inl a) = forget IsKnown′ (st′ .store) (st′ .used) w (L′ w) (st′ .root w) (C + 8) (current w a l)
 
-    levels : (w : ℕ) → w < openEnd → (t ≤ w) ⊎ (w < t) → (st′ .store (st′ .root w)) .level ≤ 3
+    levels : (w : ℕ) → w < openEnd → (t ≤ w) ⊎ (w < t) → (st′ .store (st′ .root w)) .level ≤ topLevel
     levels w l (inl a) = low IsKnown′ (st′ .store) (st′ .used) w (L′ w) (st′ .root w) (C + 8) (current w a l)
     levels w l (inr a) =
         let x = rs w in

@@ -11,15 +11,15 @@ use Rattle.words.specs.Words.{keyLimit, rootEntry}
 use Rattle.words.specs.declared.value.Value.{Value}
 use Rattle.words.specs.Value as value
 use Rattle.words.proofs.OverwriteLaws.{overwrite-length}
-use Rattle.words.proofs.Measure.{Measure, countOf, sumOf, count-measure, sum-measure}
-use Rattle.tree.specs.Row.{rowsOf, rowLimit}
+use Rattle.words.proofs.Measure.{Measure, countOf, count-measure}
+use Rattle.tree.specs.Row.{rowsOf, rowLimit, pageWords}
 use Rattle.tree.specs.Fresh.{newRow}
 use Rattle.tree.proofs.Lists.{sumBy}
 use Rattle.tree.proofs.TrueValueSums.{numberIf, total-measure}
 use Rattle.tree.specs.declared.types.Root.the-variants.{At}
 use Rattle.tree.specs.declared.types.RootChange.the-variants.{Added}
 use Rattle.tree.specs.declared.types.Plan.the-variants.{Spoiled, Ready}
-use Rattle.tree.specs.Tree.{Tree, pageAt, levelOf, rootAt, rootFor}
+use Rattle.tree.specs.Tree.{Tree, pageAt, levelOf, rootAt, rootFor, topLevel, pageLimit}
 use Rattle.tree.specs.RowSteps.{Point}
 use Rattle.tree.specs.declared.types.Became.{Became}
 use Rattle.tree.specs.declared.types.Became.the-variants.{Stays, Copied, Halved}
@@ -90,10 +90,14 @@ abbrev pub Tells : (Value → ℕ) → Tree → List Point → Type 0
 Tells measure tree points =
     Invariant (Known points) (lastTick points) (stateOf measure tree) (λ t k. numbers measure t k points) (72 + 8 * length points)
 
-pub record Kept (tree : Tree) (points : List Point) : Type 0 where
+-- What every grown tree keeps: its words make sense, and each measure of values reads these points from it
+pub record TreeKept (tree : Tree) (points : List Point) : Type 0 where
   pub words : WordsKept tree (lastTick points)
-  pub counts : Tells countOf tree points
-  pub sumEntries : Tells sumOf tree points
+  pub tells : (measure : Value → ℕ) → Measure measure → Tells measure tree points
+
+-- Values never decide what an entry does, so one measure tells what the pages are like
+pub counts : {tree : Tree} {points : List Point} → TreeKept tree points → Tells countOf tree points
+counts k = k .tells countOf count-measure
 
 -- An entry into a grown tree
 module _ (measure : Value → ℕ) (m : Measure measure) (tree : Tree) (points : List Point) (p : Point)
@@ -131,13 +135,13 @@ module _ (measure : Value → ℕ) (m : Measure measure) (tree : Tree) (points :
       (72 + 8 * length points) (Known points) (Known (p ∷ points)) (known-more p points) (known-new p points) tells (time .later)
       (time .tick) (time .key)
 
-  level-low : levelOf (tree .table) page ≤ 3
+  level-low : levelOf (tree .table) page ≤ topLevel
   level-low =
       low (Known points) (viewTable measure (tree .table)) (tree .used .pages) (p .tick) (λ k. numbers measure (p .tick) k points) page
       (72 + 8 * length points) now-paid
 
   -- "a level 3 root whose rows must go to two pages": it would give a root of level 4
-  halved-low : (lower upper middle : ℕ) → out .parts ≡ two lower upper middle → suc (levelOf (tree .table) page) ≤ 3
+  halved-low : (lower upper middle : ℕ) → out .parts ≡ two lower upper middle → suc (levelOf (tree .table) page) ≤ topLevel
   halved-low lower upper middle e =
       let after : LevelNow (grown (p .tick) (levelOf (tree .table) page) root (out .store) (out .used) (two lower upper middle)) =
       subst (λ (parts : Parts). LevelNow (grown (p .tick) (levelOf (tree .table) page) root (out .store) (out .used) parts)) e
@@ -149,7 +153,7 @@ module _ (measure : Value → ℕ) (m : Measure measure) (tree : Tree) (points :
       root w = pageOf (rootAt tree w)
 
       LevelNow : State → Type 0
-      LevelNow st = (st .store (st .root (p .tick))) .level ≤ 3
+      LevelNow st = (st .store (st .root (p .tick))) .level ≤ topLevel
 
       from-page : ℕ → State
       from-page x =
@@ -168,14 +172,14 @@ module _ (measure : Value → ℕ) (m : Measure measure) (tree : Tree) (points :
 
   no-split : topMustSplit tree p page ≡ false
   no-split =
-      go (enterFrom tree p (levelOf (tree .table) page) page .became) (now-agrees .0 .parts) (eqb (levelOf (tree .table) page) 3) refl
+      go (enterFrom tree p (levelOf (tree .table) page) page .became) (now-agrees .0 .parts) (eqb (levelOf (tree .table) page) topLevel) refl
     where
-      go : (b : Became) → partsOf b ≡ out .parts → (c : Bool) → eqb (levelOf (tree .table) page) 3 ≡ c → (c && isHalved b) ≡ false
+      go : (b : Became) → partsOf b ≡ out .parts → (c : Bool) → eqb (levelOf (tree .table) page) topLevel ≡ c → (c && isHalved b) ≡ false
       go b e false f = refl
       go Stays e true f = refl
       go (Copied x) e true f = refl
       go (Halved x y) e true f =
-          absurd (omega (arith, halved-low (x .page) (y .page) (x .high) (sym e), eqb-true (levelOf (tree .table) page) 3 f))
+          absurd (omega (arith, halved-low (x .page) (y .page) (x .high) (sym e), eqb-true (levelOf (tree .table) page) topLevel f))
 
   -- The plan is never spoiled
   pub plan-ready : plan tree p ≡ Ready (enterRoot tree p page .made) (enterRoot tree p page .root)
@@ -184,7 +188,7 @@ module _ (measure : Value → ℕ) (m : Measure measure) (tree : Tree) (points :
       ap (planRoot tree p) is-root
       ∙ ap (λ (b : Bool). cond b (Ready (enterRoot tree p page .made) (enterRoot tree p page .root)) Spoiled)
       (and-eq-true-iff _ _ .1 (
-        and-eq-true-iff _ _ .1 (lt-ltb page (tree .used .pages) in-use, le-leb (levelOf (tree .table) page) 3 level-low),
+        and-eq-true-iff _ _ .1 (lt-ltb page (tree .used .pages) in-use, le-leb (levelOf (tree .table) page) topLevel level-low),
         and-eq-true-iff _ _ .1 (descent, ap not no-split),
       ))
     where
@@ -216,10 +220,10 @@ module _ (measure : Value → ℕ) (m : Measure measure) (tree : Tree) (points :
         sym plan-ready ∙ room .planned in
         cc
 
-    pages-left : tree .used .pages + enterRoot tree p page .made ≤ min (length (tree .table) / 260) 1000000
+    pages-left : tree .used .pages + enterRoot tree p page .made ≤ min (length (tree .table) / pageWords) pageLimit
     pages-left = omega (arith, is-made, room .pages, words .pages, words .limit)
 
-    pub table-room : (tree .used .pages + enterRoot tree p page .made) * 260 ≤ length (tree .table)
+    pub table-room : (tree .used .pages + enterRoot tree p page .made) * pageWords ≤ length (tree .table)
     table-room = omega (arith, pages-left)
 
     list-room : enterRoot tree p page .root ≡ Added → tree .used .roots < length (tree .roots)
@@ -260,8 +264,8 @@ module _ (measure : Value → ℕ) (m : Measure measure) (tree : Tree) (points :
         (omega arith) next-inv)
 
 -- A tree just opened
-module _ (table roots : List ℕ) (room : 260 ≤ length table) (list : 1 ≤ length roots) where
-  first-whole : length firstPage ≡ 260
+module _ (table roots : List ℕ) (room : pageWords ≤ length table) (list : 1 ≤ length roots) where
+  first-whole : length firstPage ≡ pageWords
   first-whole = fresh-length _ _ _ _ _ (omega arith)
 
   opened-table : pageAt (openedTree table roots .table) 0 ≡ firstPage
@@ -319,41 +323,26 @@ module _ (table roots : List ℕ) (room : 260 ≤ length table) (list : 1 ≤ le
         (opened-keeps (viewTable measure table) (Known []) refl)
 
 -- Every grown tree
-pub kept : (table roots : List ℕ) (points : List Point) → Admitted table roots points → Kept (grow table roots points) points
+pub kept : (table roots : List ℕ) (points : List Point) → Admitted table roots points → TreeKept (grow table roots points) points
 unfolding grow
 kept table roots [] h =
     record {
       words = opened-words table roots (h .0) (h .1);
-      counts = opened-tells table roots (h .0) (h .1) countOf count-measure;
-      sumEntries = opened-tells table roots (h .0) (h .1) sumOf sum-measure;
+      tells = λ measure m. opened-tells table roots (h .0) (h .1) measure m;
     }
 kept table roots (p ∷ points) h = after (kept table roots points (h .2))
   where
     tree : Tree
     tree = grow table roots points
 
-    after : Kept (grow table roots points) points → Kept (enter (grow table roots points) p) (p ∷ points)
+    after : TreeKept (grow table roots points) points → TreeKept (enter (grow table roots points) p) (p ∷ points)
     after k =
         let root = k .words .roots .found (p .tick) in
         record {
           words =
-              next-words countOf count-measure (grow table roots points) points p (k .words) (k .counts) (h .0) (root .0) (root .1)
+              next-words countOf count-measure (grow table roots points) points p (k .words) (counts k) (h .0) (root .0) (root .1)
               (h .1);
-          counts =
-              next-tells countOf count-measure (grow table roots points) points p (k .words) (k .counts) (h .0) (root .0) (root .1)
-              (h .1);
-          sumEntries =
-              next-tells sumOf sum-measure (grow table roots points) points p (k .words) (k .sumEntries) (h .0) (root .0) (root .1)
+          tells =
+              λ measure m. next-tells measure m (grow table roots points) points p (k .words) (k .tells measure m) (h .0) (root .0) (root .1)
               (h .1);
         }
-
--- Read by any measure
-pub told : (measure : Value → ℕ) → Measure measure → (table roots : List ℕ) (points : List Point) → Admitted table roots points
-    → Tells measure (grow table roots points) points
-unfolding grow
-told measure m table roots [] h = opened-tells table roots (h .0) (h .1) measure m
-told measure m table roots (p ∷ points) h =
-    let words = kept table roots points (h .2) .words in
-    let root = words .roots .found (p .tick) in
-    next-tells measure m (grow table roots points) points p words (told measure m table roots points (h .2)) (h .0) (root .0) (root .1)
-    (h .1)

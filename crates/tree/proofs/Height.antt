@@ -8,7 +8,7 @@ use lib.ListN.{length}
 use borrow.Author.Tests.{ne-eqb}
 use Rattle.words.specs.Words.{openEnd, keyLimit}
 use Rattle.words.proofs.Measure.{countOf}
-use Rattle.tree.specs.Tree.{levelOf, rootAt, height}
+use Rattle.tree.specs.Tree.{levelOf, rootAt, height, topLevel}
 use Rattle.tree.specs.Tree as ours
 use Rattle.tree.specs.RowSteps.{Point}
 use Rattle.tree.specs.Grown.{lastTick}
@@ -20,7 +20,7 @@ use Rattle.tree.proofs.LeafRows.{rows-root, rows-known, many-append, ma
 use Rattle.tree.proofs.View.{viewTable}
 use Rattle.tree.proofs.RootLaws.{root-now}
 use Rattle.tree.proofs.TreeViews.{pageOf}
-use Rattle.tree.proofs.Growth.{isKnown, Known, numbers, Kept}
+use Rattle.tree.proofs.Growth.{isKnown, Known, numbers, TreeKept, counts}
 
 pub many-same : (f g : ℕ → Bool) (from n : ℕ) → ((k : ℕ) → from ≤ k → f k ≡ g k) → howMany f from n ≡ howMany g from n
 unfolding howMany
@@ -41,15 +41,15 @@ known-keys points =
     above : (k : ℕ) → 1 ≤ k → isKnown points k ≡ isTaken points k
     above k h = ap (λ (b : Bool). b || isTaken points k) (ne-eqb k 0 (λ e. omega arith))
 
-module _ (tree : ours.Tree) (points : List Point) (kept : Kept tree points) (now : lastTick points < openEnd) where
+module _ (tree : ours.Tree) (points : List Point) (kept : TreeKept tree points) (now : lastTick points < openEnd) where
   abbrev page : ℕ
   page = pageOf (rootAt tree (lastTick points))
 
   paid : Paid (Known points) (viewTable countOf (tree .table)) (tree .used .pages) (lastTick points)
       (λ k. numbers countOf (lastTick points) k points) page (72 + 8 * length points)
-  paid = kept .counts .current (lastTick points) (omega arith) now
+  paid = counts kept .current (lastTick points) (omega arith) now
 
-  level-low : levelOf (tree .table) (pageOf (rootAt tree (lastTick points))) ≤ 3
+  level-low : levelOf (tree .table) (pageOf (rootAt tree (lastTick points))) ≤ topLevel
   level-low =
       low (Known points) (viewTable countOf (tree .table)) (tree .used .pages) (lastTick points)
       (λ k. numbers countOf (lastTick points) k points) page
@@ -60,7 +60,7 @@ module _ (tree : ours.Tree) (points : List Point) (kept : Kept tree points) (now
       ap (λ (x : ℕ). levelOf (tree .table) x + 1)
       (sym (ap pageOf (root-now tree (lastTick points) (lastTick points) (kept .words .roots) (omega arith))))
 
-  pub height-low : height tree ≤ 4
+  pub height-low : height tree ≤ topLevel + 1
   height-low = omega (arith, height-is, level-low)
 
   pub height-keys : 1 < height tree → 2 * 20 ^ (height tree - 1) ≤ differentKeys points + 1

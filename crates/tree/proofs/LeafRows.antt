@@ -7,6 +7,7 @@ use mathlib.Core.List.{List, [], _∷_}
 use mathlib.Core.Bool.{Bool, true}
 use lib.ListN.{length}
 use Rattle.words.specs.Words.{keyLimit}
+use Rattle.tree.specs.Tree.{topLevel}
 use Rattle.tree.specs.PointSums.{howMany}
 use Rattle.tree.proofs.HeldTrees.{chain-le}
 use Rattle.tree.proofs.ModelPages.{Page}
@@ -64,7 +65,7 @@ pow-least (suc m) = rw pow-suc (omega (arith, pow-least m))
 
 -- So it is of level 3 at most.
 pub level-low : (IsKnown : ℕ → Type 0) (n : ℕ) (s : ℕ → Page) (u t p : ℕ) (tr : Tree n) → Holds n s u t 0 keyLimit p tr
-    → Full IsKnown n tr → (0 < n → 2 ≤ slotCount n tr) → n ≤ 3
+    → Full IsKnown n tr → (0 < n → 2 ≤ slotCount n tr) → n ≤ topLevel
 level-low IsKnown zero s u t p tr h f r = omega arith
 level-low IsKnown (suc zero) s u t p tr h f r = omega arith
 level-low IsKnown (suc (suc zero)) s u t p tr h f r = omega arith

@@ -63,5 +63,6 @@ pub mod Height
 pub mod Lives
 pub mod Shape
 pub mod AsPlanned
+pub mod MostMade
 pub mod Enough
 pub mod Main

@@ -14,7 +14,7 @@ use Rattle.tree.specs.declared.types.RootChange.{RootChange}
 use Rattle.tree.specs.declared.types.Lookup.the-variants.{Found}
 use Rattle.tree.specs.declared.types.Plan.the-variants.{Ready}
 use Rattle.tree.specs.Row.{rowsOf}
-use Rattle.tree.specs.Tree.{Tree, pageAt, height, wholePages, pageLimit}
+use Rattle.tree.specs.Tree.{Tree, pageAt, height, wholePages, pageLimit, topLevel}
 use Rattle.tree.specs.RowSteps.{Point}
 use Rattle.tree.specs.Lookup.{lookup}
 use Rattle.tree.specs.Path.{path}
@@ -24,7 +24,7 @@ use Rattle.tree.proofs.PathLength.{path-length, pages-at-most}
 use Rattle.tree.specs.Grown.{grow, lastTick, InTime, InOrder, Admitted}
 use Rattle.tree.specs.PointSums.{sumOfPoints, differentKeys, SameShape}
 use Rattle.tree.specs.Alike.{LookAlike}
-use Rattle.tree.proofs.Growth.{kept, plan-ready, opened-lengths, next-lengths}
+use Rattle.tree.proofs.Growth.{kept, plan-ready, opened-lengths, next-lengths, counts}
 use Rattle.tree.proofs.Sums.{lookup-sum}
 use Rattle.tree.proofs.Past.{past-path, past-looks, later-sum}
 use Rattle.tree.proofs.Lives.{settled-lives}
@@ -52,7 +52,7 @@ lookup-adds table roots points h t k tick key =
     e ∙ ap (Found (sumOfPoints t k points)) (path-length (grow table roots points) t k e)
 
 pub path-short : (table roots : List ℕ) (points : List Point) → Admitted table roots points → (t k : ℕ) → t < openEnd → k < keyLimit
-    → length (path (grow table roots points) t k) ≤ 4
+    → length (path (grow table roots points) t k) ≤ topLevel + 1
 path-short table roots points h t k tick key =
     pages-at-most (grow table roots points) t k (lookup-adds table roots points h t k tick key)
 
@@ -63,7 +63,7 @@ unfolding grow
 past-path-stays table roots p points h t k early key =
     let k₀ = kept table roots points (h .2) in
     let root = k₀ .words .roots .found (p .tick) in
-    past-path countOf count-measure (grow table roots points) points p (k₀ .words) (k₀ .counts) (h .0) (root .0) (root .1) (h .1) t k
+    past-path countOf count-measure (grow table roots points) points p (k₀ .words) (counts k₀) (h .0) (root .0) (root .1) (h .1) t k
     early key
 
 pub past-lookup-stays : (table roots : List ℕ) (p : Point) (points : List Point) → Admitted table roots (p ∷ points)
@@ -94,7 +94,7 @@ unfolding grow
 past-page-stays table roots p points h t x early in-use =
     let k₀ = kept table roots points (h .2) in
     let root = k₀ .words .roots .found (p .tick) in
-    past-looks countOf count-measure (grow table roots points) points p (k₀ .words) (k₀ .counts) (h .0) (root .0) (root .1) (h .1) t
+    past-looks countOf count-measure (grow table roots points) points p (k₀ .words) (counts k₀) (h .0) (root .0) (root .1) (h .1) t
     early x in-use
 
 -- 3. Height. A tree h > 1 pages high took at least 2 × 20^(h - 1) - 1 different keys above zero; no tree is over 4 pages high.
@@ -103,7 +103,7 @@ pub height-took : (table roots : List ℕ) (points : List Point) → Admitted ta
 height-took table roots points h =
     height-laws.height-keys (grow table roots points) points (kept table roots points h) (last-in-time table roots points h)
 
-pub height-at-most : (table roots : List ℕ) (points : List Point) → Admitted table roots points → height (grow table roots points) ≤ 4
+pub height-at-most : (table roots : List ℕ) (points : List Point) → Admitted table roots points → height (grow table roots points) ≤ topLevel + 1
 height-at-most table roots points h =
     height-laws.height-low (grow table roots points) points (kept table roots points h) (last-in-time table roots points h)
 
@@ -122,7 +122,7 @@ plan-never-spoiled table roots points h p time =
     let tree = grow table roots points in (
       enterRoot tree p (root .0) .made,
       enterRoot tree p (root .0) .root,
-      plan-ready countOf count-measure tree points p (k .words) (k .counts) time (root .0) (root .1),
+      plan-ready countOf count-measure tree points p (k .words) (counts k) time (root .0) (root .1),
     )
 
 -- What the plan says is what the entry does, of every tree: the pages used grow by the pages that the plan counts
@@ -160,7 +160,7 @@ lengths-stay table roots (p ∷ points) h =
     let k₀ = kept table roots points (h .2) in
     let root = k₀ .words .roots .found (p .tick) in
     let next =
-    next-lengths countOf count-measure (grow table roots points) points p (k₀ .words) (k₀ .counts) (h .0) (root .0) (root .1)
+    next-lengths countOf count-measure (grow table roots points) points p (k₀ .words) (counts k₀) (h .0) (root .0) (root .1)
     (h .1) in
     let rest = lengths-stay table roots points (h .2) in
     (next .0 ∙ rest .0, next .1 ∙ rest .1)
@@ -170,7 +170,7 @@ pub rows-live : (table roots : List ℕ) (points : List Point) → Admitted tabl
     → x < grow table roots points .used .pages → All (λ (r : Row). r .birth < r .end) (rowsOf (pageAt (grow table roots points .table) x))
 rows-live table roots points h x in-use =
     settled-lives countOf (lastTick points) (last-in-time table roots points h) (rowsOf (pageAt (grow table roots points .table) x))
-    (kept table roots points h .counts .settled x in-use)
+    (counts (kept table roots points h) .settled x in-use)
 
 -- Room enough: a table of 4 + 4n/9 pages and a root list of as many words take any n points in order of time
 pub room-enough : (table roots : List ℕ) (points : List Point) → InOrder points
@@ -182,7 +182,7 @@ room-enough table roots (p ∷ points) order pages list =
     let root = k₀ .words .roots .found (p .tick) in
     let lengths = lengths-stay table roots points before in
     let room =
-    has-room (grow table roots points) points p (k₀ .words) (k₀ .counts) (order .0) (root .0) (root .1)
+    has-room (grow table roots points) points p (k₀ .words) (counts k₀) (order .0) (root .0) (root .1)
     (rw (lengths .0) pages) (rw (lengths .1) list) in
     (order .0, room, before)
 

@@ -12,7 +12,7 @@ use Rattle.words.specs.Words.{openEnd}
 use Rattle.words.specs.declared.value.Value.{Value}
 use Rattle.words.specs.Value as value
 use Rattle.words.specs.Value.{plus}
-use Rattle.words.proofs.ValueLaws.{value-path, plus-comm, plus-assoc, plus-exchange, plus-stored, zero-plus, plus-zero, Stored}
+use Rattle.words.proofs.ValueLaws.{plus-cancel, plus-comm, plus-assoc, plus-exchange, plus-stored, zero-plus, plus-zero, Stored}
 use Rattle.tree.specs.declared.types.Row.{Row}
 use Rattle.tree.specs.Row.{live}
 use Rattle.tree.specs.KeyOrder.{Placed, keyOrder}
@@ -22,12 +22,6 @@ use Rattle.tree.specs.RowSteps.{Point, gained, rowFrom, gainIn, gainRows
 use Rattle.tree.proofs.Places.{AtPlace, order-places}
 use Rattle.tree.proofs.OrderTotals.{total-stored}
 use Rattle.tree.proofs.Searches.{first-has}
-
--- What is added to two sums alike may be left out of both
-cancel : (a x y : Value) → Stored x → Stored y → plus a x ≡ plus a y → x ≡ y
-unfolding plus
-cancel a x y h k e =
-    value-path (omega (arith, h .0, k .0, ap (λ (v : Value). v .count) e)) (omega (arith, h .1, k .1, ap (λ (v : Value). v .sum) e))
 
 module _ (t : ℕ) where
   -- What the rows live at t add up to
@@ -66,7 +60,7 @@ module _ (t : ℕ) where
 
     gains-there : liveTotal (set rows (x .place) (gained v (x .row))) ≡ plus (liveTotal rows) v
     gains-there =
-        cancel (x .row .value) _ _ (stored (set rows (x .place) (gained v (x .row)))) (plus-stored (liveTotal rows) v)
+        plus-cancel (x .row .value) _ _ (stored (set rows (x .place) (gained v (x .row)))) (plus-stored (liveTotal rows) v)
         (over (gained v (x .row))
         ∙ ap (λ (b : Bool). plus (cond b (plus (x .row .value) v) value.zero) (liveTotal rows)) (at .alive)
         ∙ plus-assoc (x .row .value) v (liveTotal rows)

@@ -7,11 +7,13 @@ use mathlib.Core.List.{List, [], _∷_, _++_}
 use lib.ListN.{length, getD, length-append, length-replicate, List·getD-append}
 use lib.Seq.{getD-append-add}
 use Rattle.words.specs.Lists.{All}
-use Rattle.words.specs.Words.{keyRange}
+use Rattle.words.specs.Words.{keyRange, rowKeys, lifeWord}
+use Rattle.words.specs.Value.{valueAt, encodeValue, valueWords}
 use Rattle.words.specs.Overwrite.{overwrite}
+use Rattle.words.proofs.ValueLaws.{value-back}
 use Rattle.words.proofs.OverwriteLaws.{overwrite-length, word-inside, word-before, word-behind}
 use Rattle.tree.specs.declared.types.Row.{Row}
-use Rattle.tree.specs.Row.{word, rowAt, rowStart, rowWords, rowsFrom, rowsOf, encodeRow, encodeRows, headerWords, rowLimit, pageWords}
+use Rattle.tree.specs.Row.{word, rowAt, rowStart, rowWords, rowsFrom, rowsOf, encodeRow, encodeRows, headerWords, rowLimit, pageWords, valueStart}
 use Rattle.tree.specs.Edit.{withRows, putRow}
 use Rattle.tree.specs.Fresh.{zeros, freshPage}
 
@@ -53,14 +55,20 @@ row-back : (words : List ℕ) (at : ℕ) (r : Row) (rest : List ℕ) → Fits r
 row-back words at r rest fits h =
     let k : getD words at 0 ≡ r .low + 65536 * r .high + 4294967296 * r .child = ap (λ (n : ℕ). getD words n 0) (omega arith) ∙ h 0 (omega arith) in
     let l : getD words (at + 1) 0 ≡ r .birth + 4294967296 * r .end = h 1 (omega arith) in
-    let c : getD words (at + 2) 0 ≡ r .value .count = h 2 (omega arith) in
-    let s : getD words (at + 2 + 1) 0 ≡ r .value .sum = ap (λ (n : ℕ). getD words n 0) (omega arith) ∙ h 3 (omega arith) in
     let low : getD words at 0 % 65536 ≡ r .low = rw k (omega arith) in
     let high : getD words at 0 / 65536 % 65536 ≡ r .high = rw k (omega arith) in
     let child : getD words at 0 / 4294967296 ≡ r .child = rw k (omega arith) in
     let birth : getD words (at + 1) 0 % 4294967296 ≡ r .birth = rw l (omega arith) in
     let end : getD words (at + 1) 0 / 4294967296 ≡ r .end = rw l (omega arith) in
-    λ i. record { low = low i; high = high i; child = child i; birth = birth i; end = end i; value = record { count = c i; sum = s i } }
+    let value : valueAt words (at + valueStart) ≡ r .value = value-back words (at + valueStart) (r .value) (λ j l. value-words j l) in
+    λ i. record { low = low i; high = high i; child = child i; birth = birth i; end = end i; value = value i }
+  where
+    value-words : (j : ℕ) → j < valueWords → getD words (at + valueStart + j) 0 ≡ getD (encodeValue (r .value)) j 0
+    value-words j l =
+        ap (λ (n : ℕ). getD words n 0) (omega arith)
+        ∙ h (valueStart + j) (omega (arith, length-append (encodeValue (r .value)) rest))
+        ∙ getD-append-add (rowKeys (r .low) (r .high) (r .child) ∷ (lifeWord (r .birth) (r .end) ∷ [])) (encodeValue (r .value) ++ rest) j 0
+        ∙ List·getD-append (encodeValue (r .value)) rest 0 j l
 
 pub rows-back : (words : List ℕ) (at : ℕ) (rows : List Row) → All Fits rows
     → ((i : ℕ) → i < length (encodeRows rows) → getD words (at + i) 0 ≡ getD (encodeRows rows) i 0) → rowsFrom words at (length rows) ≡ rows
@@ -69,7 +77,7 @@ rows-back words at [] f h = refl
 rows-back words at (r ∷ rs) f h =
     ap₂ _∷_ (row-back words at r (encodeRows rs) (f .0) h)
     (rows-back words (at + rowWords) rs (f .1)
-    (λ i l. ap (λ (n : ℕ). getD words n 0) (omega arith) ∙ h (4 + i) (omega arith) ∙ getD-append-add (encodeRow r) (encodeRows rs) i 0))
+    (λ i l. ap (λ (n : ℕ). getD words n 0) (omega arith) ∙ h (rowWords + i) (omega arith) ∙ getD-append-add (encodeRow r) (encodeRows rs) i 0))
 
 -- A row written at a place: the words before and behind it stay
 module _ (page : List ℕ) (place : ℕ) (r : Row) (fits : rowStart place + rowWords ≤ length page) where

@@ -15,7 +15,7 @@ use Rattle.words.specs.declared.value.Value.{Value}
 use Rattle.words.specs.Value.{plus}
 use Rattle.words.proofs.Measure.{Measure}
 use Rattle.tree.specs.declared.types.Row.{Row}
-use Rattle.tree.specs.Row.{word, rowLimit, copyLimit}
+use Rattle.tree.specs.Row.{word, rowLimit, copyLimit, pageWords, mostRows}
 use Rattle.tree.specs.KeyOrder.{Placed, keyOrder}
 use Rattle.tree.specs.Edit.{bornAt, withRows}
 use Rattle.tree.specs.Fresh.{freshPage}
@@ -50,7 +50,7 @@ pub record Matches (measure : Value → ℕ) (tree : Tree) (lo hi : ℕ) (so : W
   pub used : tree .used .pages + so .made ≡ o .used
   pub covers : Covers lo hi (so .became)
   pub made-some : MadeSome (so .became) (so .made)
-  pub table : (tree .used .pages + so .made) * 260 ≤ length (tree .table)
+  pub table : (tree .used .pages + so .made) * pageWords ≤ length (tree .table)
       → (length (so .table) ≡ length (tree .table)) × (viewTable measure (so .table) ≡ o .store)
 
 -- The model's pages have at most 64 rows each
@@ -62,7 +62,7 @@ abbrev pub Agrees : (Value → ℕ) → Tree → ℕ → ℕ → Written → Out
 Agrees measure tree lo hi so o = Matches measure tree lo hi so o × Small (o .store) (o .used)
 
 -- No page of the model gets more than 64 rows
-pub finish-small : (t : ℕ) (s : ℕ → Page) (u p : ℕ) (rs : List model.Row) → length (orderedEntries t rs) ≤ 67
+pub finish-small : (t : ℕ) (s : ℕ → Page) (u p : ℕ) (rs : List model.Row) → length (orderedEntries t rs) ≤ mostRows
     → ((x : ℕ) → x < u → length ((s x) .rows) ≤ rowLimit)
     → (x : ℕ) → x < (finish t s u p rs) .used → length (((finish t s u p rs) .store x) .rows) ≤ rowLimit
 finish-small t s u p rs few h x =
@@ -138,8 +138,8 @@ module _ (measure : Value → ℕ) where
   module _ (m : Measure measure) (tree : Tree) (t : ℕ) (so : Written) (page lo hi : ℕ) (S : ℕ → Page) (rows : List Row)
       (now : t < 4294967296) (lo-fits : lo < 65536) (hi-fits : hi < 65536)
       (range : word (pageAt (tree .table) page) 2 ≡ lo + 65536 * hi)
-      (fits : All Fits rows) (few : length rows ≤ 67) (in-use : page < tree .used .pages)
-      (table : (tree .used .pages + so .made) * 260 ≤ length (tree .table)
+      (fits : All Fits rows) (few : length rows ≤ mostRows) (in-use : page < tree .used .pages)
+      (table : (tree .used .pages + so .made) * pageWords ≤ length (tree .table)
       → (length (so .table) ≡ length (tree .table)) × (viewTable measure (so .table) ≡ S)) where
     abbrev old : List ℕ
     old = pageAt (tree .table) page
@@ -177,8 +177,8 @@ module _ (measure : Value → ℕ) where
           made-some = tt;
           table =
               λ room. let before = table room in
-              let whole : length old ≡ 260 = page-length (tree .table) page (omega arith) in
-              let place : page * 260 + 260 ≤ length (so .table) = omega (arith, before .0) in
+              let whole : length old ≡ pageWords = page-length (tree .table) page (omega arith) in
+              let place : page * pageWords + pageWords ≤ length (so .table) = omega (arith, before .0) in
               let new-length = with-length old rows (omega arith) ∙ whole in (
                 put-length (so .table) page (withRows old rows) place new-length ∙ before .0,
                 view-put measure (so .table) page (withRows old rows) place new-length
@@ -189,7 +189,7 @@ module _ (measure : Value → ℕ) where
     abbrev moving : List Row
     moving = copiedRows t rows
 
-    moving-few : length (copiedRows t rows) ≤ 67
+    moving-few : length (copiedRows t rows) ≤ mostRows
     moving-few = omega (arith, copied-length t rows)
 
     moving-fits : All Fits (copiedRows t rows)
@@ -223,9 +223,9 @@ module _ (measure : Value → ℕ) where
           made-some = omega arith;
           table =
               λ room. let before = table (omega arith) in
-              let place : U * 260 + 260 ≤ length (so .table) = omega (arith, before .0) in
+              let place : U * pageWords + pageWords ≤ length (so .table) = omega (arith, before .0) in
               let new : List ℕ = freshPage (word old 0) (lowKey (word old 2)) (highKey (word old 2)) t moving in
-              let new-length : length new ≡ 260 =
+              let new-length : length new ≡ pageWords =
               fresh-length (word old 0) (lowKey (word old 2)) (highKey (word old 2)) t moving (omega arith) in (
                 put-length (so .table) U new place new-length ∙ before .0,
                 view-put measure (so .table) U new place new-length
@@ -293,12 +293,12 @@ module _ (measure : Value → ℕ) where
                 λ room. let before = table (omega arith) in
                 let first-page : List ℕ = freshPage (word old 0) (lowKey (word old 2)) middle t lower in
                 let second-page : List ℕ = freshPage (word old 0) middle (highKey (word old 2)) t (gainFirst (totalOf lower) upper) in
-                let first-length : length first-page ≡ 260 = fresh-length (word old 0) (lowKey (word old 2)) middle t lower lower-few in
-                let second-length : length second-page ≡ 260 =
+                let first-length : length first-page ≡ pageWords = fresh-length (word old 0) (lowKey (word old 2)) middle t lower lower-few in
+                let second-length : length second-page ≡ pageWords =
                 fresh-length (word old 0) middle (highKey (word old 2)) t (gainFirst (totalOf lower) upper) upper-few in
-                let place : U * 260 + 260 ≤ length (so .table) = omega (arith, before .0) in
+                let place : U * pageWords + pageWords ≤ length (so .table) = omega (arith, before .0) in
                 let put-first = put-length (so .table) U first-page place first-length in
-                let place-second : (tree .used .pages + (so .made + 1)) * 260 + 260 ≤ length (putPage (so .table) U first-page) =
+                let place-second : (tree .used .pages + (so .made + 1)) * pageWords + pageWords ≤ length (putPage (so .table) U first-page) =
                 omega (arith, before .0, put-first) in (
                   put-length (putPage (so .table) U first-page) (tree .used .pages + (so .made + 1)) second-page place-second
                       second-length ∙ put-first ∙ before .0,
@@ -331,7 +331,7 @@ module _ (measure : Value → ℕ) where
               (plusFirst (totalAmount (take i (map (entryOf measure) moving))) (drop i (map (entryOf measure) moving)))) middle-is
 
           one-put : (length (so .table) ≡ length (tree .table)) × (viewTable measure (so .table) ≡ S)
-              → U * 260 + 260 ≤ length (so .table) → length (freshPage (word old 0) (lowKey (word old 2)) middle t lower) ≡ 260
+              → U * pageWords + pageWords ≤ length (so .table) → length (freshPage (word old 0) (lowKey (word old 2)) middle t lower) ≡ pageWords
               → viewTable measure (putPage (so .table) U (freshPage (word old 0) (lowKey (word old 2)) middle t lower))
               ≡ putAt S U (newPage t (oldPage .level) (oldPage .low) (lowestOf (oldPage .high) (drop i (map (entryOf measure) moving)))
               (take i (map (entryOf measure) moving)))
@@ -343,7 +343,7 @@ module _ (measure : Value → ℕ) where
     split-matches =
         subst
         (λ (n : ℕ). Matches measure tree lo hi (splitPage tree t so old moving)
-        (cond (leb n 40)
+        (cond (leb n copyLimit)
         (record {
           store = putAt S U (newPage t (oldPage .level) (oldPage .low) (oldPage .high) (map (entryOf measure) moving));
           used =

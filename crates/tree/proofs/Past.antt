@@ -12,6 +12,7 @@ use Rattle.words.specs.declared.value.Value.{Value}
 use Rattle.words.specs.Value.{zero, plus}
 use Rattle.words.proofs.Measure.{Measure}
 use Rattle.words.proofs.ValueLaws.{zero-plus}
+use Rattle.tree.specs.Row.{pageWords}
 use Rattle.tree.specs.TrueValue.{totalWhere}
 use Rattle.tree.proofs.OrderTotals.{total-stored}
 use Rattle.tree.specs.Fresh.{freshPage, twoRows}
@@ -159,7 +160,7 @@ module _ (measure : Value → ℕ) (m : Measure measure) (tree : Tree) (points :
       fewer : tree .used .pages + so .made ≤ tree .used .pages + enterRoot tree p page .made
       fewer = omega (arith, root-made-more tree (p .tick) level so (so .became))
 
-      so-room : (tree .used .pages + so .made) * 260 ≤ length (tree .table)
+      so-room : (tree .used .pages + so .made) * pageWords ≤ length (tree .table)
       so-room = omega (arith, fewer, table-room measure m tree points p words tells time page is-root room)
 
       size-is : (length (so .table) ≡ length (tree .table))

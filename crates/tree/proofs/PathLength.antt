@@ -85,27 +85,27 @@ from-length tree t k (suc l) low high page {n} e =
     (omega (arith, a .one-more, ih .0), rw (a .is-held) (omega (arith, a .one-more, ih .1)))
 
 module _ (tree : Tree) (t k : ℕ) {v : Value} {n : ℕ} where
-  both : lookup tree t k ≡ Found v n → (n ≤ 4) × (n ≡ length (path tree t k))
+  both : lookup tree t k ≡ Found v n → (n ≤ topLevel + 1) × (n ≡ length (path tree t k))
   unfolding lookup path
   both e = go (rootAt tree t) e
     where
-      go : (root : Root) → lookupRoot tree t k root ≡ Found v n → (n ≤ 4) × (n ≡ length (pathOfRoot (tree .table) t k root))
+      go : (root : Root) → lookupRoot tree t k root ≡ Found v n → (n ≤ topLevel + 1) × (n ≡ length (pathOfRoot (tree .table) t k root))
       go Missing f = not-spoiled f
       go (At page) f = test (rootInUse tree page) refl f
         where
           test : (b : Bool) → rootInUse tree page ≡ b
               → cond b (lookupFrom tree t k (levelOf (tree .table) page) 0 keyLimit page) Spoiled ≡ Found v n
-              → (n ≤ 4) × (n ≡ length (pathFrom (tree .table) t k (levelOf (tree .table) page) page))
+              → (n ≤ topLevel + 1) × (n ≡ length (pathFrom (tree .table) t k (levelOf (tree .table) page) page))
           test false b g = not-spoiled g
           test true b g =
               let r = from-length tree t k (levelOf (tree .table) page) 0 keyLimit page g in
               let parts = and-eq-true-iff (ltb page (tree .used .pages)) (leb (levelOf (tree .table) page) topLevel) .0 b in
-              let top : levelOf (tree .table) page ≤ 3 = leb-true (levelOf (tree .table) page) topLevel (parts .1) in
+              let top : levelOf (tree .table) page ≤ topLevel = leb-true (levelOf (tree .table) page) topLevel (parts .1) in
               (omega (arith, r .0), r .1)
 
   -- "Pages opened is the number of pages on it."
   pub path-length : lookup tree t k ≡ Found v n → n ≡ length (path tree t k)
   path-length e = both e .1
 
-  pub pages-at-most : lookup tree t k ≡ Found v n → n ≤ 4
+  pub pages-at-most : lookup tree t k ≡ Found v n → n ≤ topLevel + 1
   pages-at-most e = both e .0

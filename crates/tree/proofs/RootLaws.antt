@@ -8,7 +8,7 @@ use lib.Dec.{leb, eqb}
 use lib.ListN.{length, take, drop, getD, length-append}
 use lib.Seq.{take-at, take-suc, length-take-le}
 use borrow.Author.Tests.{eqb-true, le-leb}
-use Rattle.words.specs.Words.{birthOf, rootPage, rootEntry}
+use Rattle.words.specs.Words.{rootBirth, rootPage, rootEntry}
 use Rattle.words.specs.Overwrite.{overwrite}
 use Rattle.words.proofs.OverwriteLaws.{overwrite-length, word-inside}
 use Rattle.tree.specs.Row.{word}
@@ -20,15 +20,15 @@ use Rattle.tree.specs.Enter.{Entered, withRoot}
 
 -- The entry in the highest place comes first
 pub root-behind : (w e : ℕ) (ws : List ℕ)
-    → rootFor w (ws ++ (e ∷ [])) ≡ cond (leb (birthOf e) w) (At (rootPage e)) (rootFor w ws)
+    → rootFor w (ws ++ (e ∷ [])) ≡ cond (leb (rootBirth e) w) (At (rootPage e)) (rootFor w ws)
 unfolding rootFor
 root-behind w e [] = refl
 root-behind w e (v ∷ vs) =
-    ap (λ (r : Root). inHigherPlace r (cond (leb (birthOf v) w) (At (rootPage v)) Missing)) (root-behind w e vs) ∙ go (leb (birthOf e) w)
+    ap (λ (r : Root). inHigherPlace r (cond (leb (rootBirth v) w) (At (rootPage v)) Missing)) (root-behind w e vs) ∙ go (leb (rootBirth e) w)
   where
     go : (b : Bool)
-        → inHigherPlace (cond b (At (rootPage e)) (rootFor w vs)) (cond (leb (birthOf v) w) (At (rootPage v)) Missing)
-        ≡ cond b (At (rootPage e)) (inHigherPlace (rootFor w vs) (cond (leb (birthOf v) w) (At (rootPage v)) Missing))
+        → inHigherPlace (cond b (At (rootPage e)) (rootFor w vs)) (cond (leb (rootBirth v) w) (At (rootPage v)) Missing)
+        ≡ cond b (At (rootPage e)) (inHigherPlace (rootFor w vs) (cond (leb (rootBirth v) w) (At (rootPage v)) Missing))
     go true = refl
     go false = refl
 
@@ -53,13 +53,13 @@ pub record RootsKept (tree : Tree) (last : ℕ) : Type 0 where
   pub some : 1 ≤ tree .used .roots
   pub listed : tree .used .roots ≤ length (tree .roots)
   pub fewer : tree .used .roots ≤ tree .used .pages
-  pub born : birthOf (lastRoot tree) ≤ last
+  pub born : rootBirth (lastRoot tree) ≤ last
   pub found : (w : ℕ) → (page : ℕ) × (rootAt tree w ≡ At page)
 
 -- From the birth of the last root on it is the root
 pub root-now : (tree : Tree) (last w : ℕ) → RootsKept tree last → last ≤ w → rootAt tree w ≡ At (rootPage (lastRoot tree))
 root-now tree last w kept l =
-    let early : birthOf (lastRoot tree) ≤ w = omega (arith, kept .born) in
+    let early : rootBirth (lastRoot tree) ≤ w = omega (arith, kept .born) in
     ap (rootFor w) (take-last (tree .roots) (tree .used .roots) (kept .some) (kept .listed))
     ∙ root-behind w (lastRoot tree) (take (tree .used .roots - 1) (tree .roots))
     ∙ ap (λ (b : Bool). cond b (At (rootPage (lastRoot tree))) (rootFor w (take (tree .used .roots - 1) (tree .roots)))) (le-leb _ _ early)
@@ -98,7 +98,7 @@ either-made false x y n e f = f
 
 pub root-made : (tree : Tree) (t page : ℕ) (table : List ℕ) (made : ℕ) → withRoot tree t page table made .made ≡ made
 root-made tree t page table made =
-    either-made (eqb (birthOf (lastRoot tree)) t) (rootReplaced tree t page table made) (rootAdded tree t page table made) made refl
+    either-made (eqb (rootBirth (lastRoot tree)) t) (rootReplaced tree t page table made) (rootAdded tree t page table made) made refl
     refl
 
 -- A tree that has a new root from tick t on
@@ -112,7 +112,7 @@ pub record Rooted (tree : Tree) (t page : ℕ) (words : List ℕ) (new : ℕ) (s
 
 module _ (tree : Tree) (last t page : ℕ) (table : List ℕ) (made : ℕ) (kept : RootsKept tree last) (time : last ≤ t)
     (now : t < 4294967296) (some : 1 ≤ made) where
-  is-birth : birthOf (rootEntry t page) ≡ t
+  is-birth : rootBirth (rootEntry t page) ≡ t
   is-birth = omega arith
 
   is-page : rootPage (rootEntry t page) ≡ page
@@ -130,7 +130,7 @@ module _ (tree : Tree) (last t page : ℕ) (table : List ℕ) (made : ℕ) (kept
 
   pub root-changed : (withRoot tree t page table made .root ≡ Added → tree .used .roots < length (tree .roots))
       → Rooted tree t page table made (withRoot tree t page table made)
-  root-changed place = go (eqb (birthOf (lastRoot tree)) t) refl place
+  root-changed place = go (eqb (rootBirth (lastRoot tree)) t) refl place
     where
       replaced : Entered
       replaced = rootReplaced tree t page table made
@@ -138,7 +138,7 @@ module _ (tree : Tree) (last t page : ℕ) (table : List ℕ) (made : ℕ) (kept
       added : Entered
       added = rootAdded tree t page table made
 
-      replaced-root : birthOf (lastRoot tree) ≡ t → (w : ℕ) → rootAt (replaced .tree) w ≡ cond (leb t w) (At page) (rootAt tree w)
+      replaced-root : rootBirth (lastRoot tree) ≡ t → (w : ℕ) → rootAt (replaced .tree) w ≡ cond (leb t w) (At page) (rootAt tree w)
       replaced-root e w =
           let n = tree .used .roots in
           let one : n ≡ n - 1 + 1 = omega (arith, kept .some) in
@@ -166,7 +166,7 @@ module _ (tree : Tree) (last t page : ℕ) (table : List ℕ) (made : ℕ) (kept
           ap (rootFor w) (take-written (tree .roots) (tree .used .roots) (rootEntry t page) h)
           ∙ new-root w (take (tree .used .roots) (tree .roots))
 
-      go : (b : Bool) → eqb (birthOf (lastRoot tree)) t ≡ b
+      go : (b : Bool) → eqb (rootBirth (lastRoot tree)) t ≡ b
           → ((cond b replaced added) .root ≡ Added → tree .used .roots < length (tree .roots))
           → Rooted tree t page table made (cond b replaced added)
       go true e h =
@@ -191,7 +191,7 @@ module _ (tree : Tree) (last t page : ℕ) (table : List ℕ) (made : ℕ) (kept
                   born =
                       omega (
                         arith,
-                        ap birthOf (written-word (tree .roots) (tree .used .roots - 1) (tree .used .roots - 1) (rootEntry t page)
+                        ap rootBirth (written-word (tree .roots) (tree .used .roots - 1) (tree .used .roots - 1) (rootEntry t page)
                             inside refl),
                         is-birth,
                       );
@@ -214,7 +214,7 @@ module _ (tree : Tree) (last t page : ℕ) (table : List ℕ) (made : ℕ) (kept
                   born =
                       omega (
                         arith,
-                        ap birthOf (written-word (tree .roots) (tree .used .roots) (tree .used .roots + 1 - 1) (rootEntry t page)
+                        ap rootBirth (written-word (tree .roots) (tree .used .roots) (tree .used .roots + 1 - 1) (rootEntry t page)
                             inside (omega arith)),
                         is-birth,
                       );

@@ -10,11 +10,11 @@ use lib.Dec.{leb, eqb}
 use lib.ListN.{length, take, drop, length-take, length-drop}
 use borrow.Author.Tests.{leb-true}
 use Rattle.words.specs.Lists.{All}
-use Rattle.words.specs.Words.{keyLimit, lowKey, highKey, birthOf, openEnd}
+use Rattle.words.specs.Words.{keyLimit, lowKey, highKey, rootBirth, openEnd}
 use Rattle.words.specs.declared.value.Value.{Value}
 use Rattle.words.proofs.Measure.{Measure}
 use Rattle.tree.specs.declared.types.Row.{Row}
-use Rattle.tree.specs.Row.{word, rowsOf, rowLimit, copyLimit}
+use Rattle.tree.specs.Row.{word, rowsOf, rowLimit, copyLimit, pageWords, mostRows, rowStart, headerWords}
 use Rattle.tree.specs.KeyOrder.{Placed}
 use Rattle.tree.specs.TrueValue.{Search}
 use Rattle.tree.specs.Edit.{withRows}
@@ -57,7 +57,7 @@ same-look w {c = c} e h = subst (λ (page : List ℕ). LookAlike w page c) (sym 
 -- Step 5: a page that stays gets rows that look the same, and new pages are none of those in use
 module _ (tree : ours.Tree) (t w : ℕ) (so : Written) (page : ℕ) (rows : List Row) (in-use : page < tree .used .pages)
     (size-is : length (so .table) ≡ length (tree .table)) (before : LooksSame w tree (so .table))
-    (fits : All Fits rows) (few : length rows ≤ 67) (lookupStored : seen w rows ≡ seen w (rowsOf (pageAt (tree .table) page))) where
+    (fits : All Fits rows) (few : length rows ≤ mostRows) (lookupStored : seen w rows ≡ seen w (rowsOf (pageAt (tree .table) page))) where
   abbrev old : List ℕ
   old = pageAt (tree .table) page
 
@@ -67,16 +67,16 @@ module _ (tree : ours.Tree) (t w : ℕ) (so : Written) (page : ℕ) (rows : List
   abbrev U : ℕ
   U = tree .used .pages + so .made
 
-  stay-looks : length rows ≤ rowLimit → U * 260 ≤ length (tree .table) → LooksSame w tree (putPage (so .table) page (withRows old rows))
+  stay-looks : length rows ≤ rowLimit → U * pageWords ≤ length (tree .table) → LooksSame w tree (putPage (so .table) page (withRows old rows))
   stay-looks small room x l = go (ℕ-discrete x page)
     where
-      whole : length old ≡ 260
+      whole : length old ≡ pageWords
       whole = page-length (tree .table) page (omega arith)
 
-      place : page * 260 + 260 ≤ length (so .table)
+      place : page * pageWords + pageWords ≤ length (so .table)
       place = omega arith
 
-      space : 4 + 4 * length rows ≤ length old
+      space : rowStart (length rows) ≤ length old
       space = omega (arith, whole)
 
       here : LookAlike w (withRows old rows) old
@@ -95,10 +95,10 @@ module _ (tree : ours.Tree) (t w : ℕ) (so : Written) (page : ℕ) (rows : List
           (same-look w (put-same (so .table) page (withRows old rows) place (with-length old rows space ∙ whole)) here)
       go (no e) = same-look w (put-other (so .table) page (withRows old rows) place (with-length old rows space ∙ whole) x e) (before x l)
 
-  moving-few : length (copiedRows t rows) ≤ 67
+  moving-few : length (copiedRows t rows) ≤ mostRows
   moving-few = omega (arith, copied-length t rows)
 
-  copy-looks : length (copiedRows t rows) ≤ copyLimit → (U + 1) * 260 ≤ length (tree .table)
+  copy-looks : length (copiedRows t rows) ≤ copyLimit → (U + 1) * pageWords ≤ length (tree .table)
       → LooksSame w tree (copyPage tree t so old moving .table)
   copy-looks small room x l =
       same-look w
@@ -106,7 +106,7 @@ module _ (tree : ours.Tree) (t w : ℕ) (so : Written) (page : ℕ) (rows : List
       (fresh-length (word old 0) (lowKey (word old 2)) (highKey (word old 2)) t moving (omega arith)) x (λ e. omega arith))
       (before x l)
 
-  halve-looks : (i middle : ℕ) → i ≤ rowLimit → length (copiedRows t rows) - i ≤ rowLimit → (U + 2) * 260 ≤ length (tree .table)
+  halve-looks : (i middle : ℕ) → i ≤ rowLimit → length (copiedRows t rows) - i ≤ rowLimit → (U + 2) * pageWords ≤ length (tree .table)
       → LooksSame w tree (halvePage tree t so old (take i moving) (drop i moving) middle .table)
   halve-looks i middle low high room x l =
       same-look w
@@ -121,10 +121,10 @@ module _ (tree : ours.Tree) (t w : ℕ) (so : Written) (page : ℕ) (rows : List
       second-page : List ℕ
       second-page = freshPage (word old 0) middle (highKey (word old 2)) t (gainFirst (totalOf (take i moving)) (drop i moving))
 
-      first-size : length first-page ≡ 260
+      first-size : length first-page ≡ pageWords
       first-size = fresh-length (word old 0) (lowKey (word old 2)) middle t (take i moving) (rw length-take (omega arith))
 
-      second-size : length second-page ≡ 260
+      second-size : length second-page ≡ pageWords
       second-size =
           fresh-length (word old 0) middle (highKey (word old 2)) t (gainFirst (totalOf (take i moving)) (drop i moving))
           (omega (arith, first-length (totalOf (take i moving)) (drop i moving), length-drop i moving))
@@ -132,7 +132,7 @@ module _ (tree : ours.Tree) (t w : ℕ) (so : Written) (page : ℕ) (rows : List
       put-first : length (putPage (so .table) U first-page) ≡ length (so .table)
       put-first = put-length (so .table) U first-page (omega arith) first-size
 
-  pub finish-looks : (tree .used .pages + finishPage tree t so page rows .made) * 260 ≤ length (tree .table)
+  pub finish-looks : (tree .used .pages + finishPage tree t so page rows .made) * pageWords ≤ length (tree .table)
       → LooksSame w tree (finishPage tree t so page rows .table)
   unfolding finishPage
   finish-looks = go (leb (length rows) rowLimit) refl
@@ -140,7 +140,7 @@ module _ (tree : ours.Tree) (t w : ℕ) (so : Written) (page : ℕ) (rows : List
       halves : (b : Bool) → leb (length (copiedRows t rows)) copyLimit ≡ b
           → (tree .used .pages + (cond b (copyPage tree t so old moving)
           (halvePage tree t so old (take (lowerCount moving) moving) (drop (lowerCount moving) moving)
-          (lowestKey (highKey (word old 2)) (drop (lowerCount moving) moving)))) .made) * 260 ≤ length (tree .table)
+          (lowestKey (highKey (word old 2)) (drop (lowerCount moving) moving)))) .made) * pageWords ≤ length (tree .table)
           → LooksSame w tree
           ((cond b (copyPage tree t so old moving)
           (halvePage tree t so old (take (lowerCount moving) moving) (drop (lowerCount moving) moving)
@@ -153,7 +153,7 @@ module _ (tree : ours.Tree) (t w : ℕ) (so : Written) (page : ℕ) (rows : List
       go : (b : Bool) → leb (length rows) rowLimit ≡ b
           → (tree .used .pages
           + (cond b (record { table = putPage (so .table) page (withRows old rows); made = so .made; became = Stays })
-          (splitPage tree t so old moving)) .made) * 260 ≤ length (tree .table)
+          (splitPage tree t so old moving)) .made) * pageWords ≤ length (tree .table)
           → LooksSame w tree
           ((cond b (record { table = putPage (so .table) page (withRows old rows); made = so .made; became = Stays })
           (splitPage tree t so old moving)) .table)
@@ -192,16 +192,16 @@ module _ (measure : Value → ℕ) (m : Measure measure) (tree : ours.Tree) (p :
   rowsAt page = rowsOf (pageAt (tree .table) page)
 
   fits-at : (page : ℕ) → All Fits (rowsOf (pageAt (tree .table) page))
-  fits-at page = rows-fit (pageAt (tree .table) page) 4 (word (pageAt (tree .table) page) 1)
+  fits-at page = rows-fit (pageAt (tree .table) page) headerWords (word (pageAt (tree .table) page) 1)
 
   abbrev HasRoom : Written → Type 0
-  HasRoom so = (tree .used .pages + so .made) * 260 ≤ length (tree .table)
+  HasRoom so = (tree .used .pages + so .made) * pageWords ≤ length (tree .table)
 
   unchanged : LooksSame w tree (tree .table)
   unchanged x l = record { level = refl; range = refl; rows = refl }
 
   -- A page whose step writes no other page first
-  alone : (page : ℕ) (rows : List Row) → page < used → All Fits rows → length rows ≤ 67 → seen w rows ≡ seen w (rowsAt page)
+  alone : (page : ℕ) (rows : List Row) → page < used → All Fits rows → length rows ≤ mostRows → seen w rows ≡ seen w (rowsAt page)
       → HasRoom (finishPage tree (p .tick) (unwritten tree) page rows)
       → LooksSame w tree (finishPage tree (p .tick) (unwritten tree) page rows .table)
   alone page rows in-use fits few lookupStored =
@@ -288,7 +288,7 @@ module _ (measure : Value → ℕ) (m : Measure measure) (tree : ours.Tree) (p :
 
 -- Step 8: a new root is none of the pages in use
 pub root-looks : (tree : ours.Tree) (t w level : ℕ) (so : Written) → length (so .table) ≡ length (tree .table)
-    → LooksSame w tree (so .table) → (tree .used .pages + enteredAs tree t level so (so .became) .made) * 260 ≤ length (tree .table)
+    → LooksSame w tree (so .table) → (tree .used .pages + enteredAs tree t level so (so .became) .made) * pageWords ≤ length (tree .table)
     → LooksSame w tree (enteredAs tree t level so (so .became) .tree .table)
 root-looks tree t w level so size-is before = go (so .became)
   where
@@ -299,10 +299,10 @@ root-looks tree t w level so size-is before = go (so .became)
 
     with-table : (page : ℕ) (table : List ℕ) (made : ℕ) → withRoot tree t page table made .tree .table ≡ table
     with-table page table made =
-        either-table (eqb (birthOf (lastRoot tree)) t) (rootReplaced tree t page table made) (rootAdded tree t page table made) table
+        either-table (eqb (rootBirth (lastRoot tree)) t) (rootReplaced tree t page table made) (rootAdded tree t page table made) table
         refl refl
 
-    go : (b : Became) → (tree .used .pages + enteredAs tree t level so b .made) * 260 ≤ length (tree .table)
+    go : (b : Became) → (tree .used .pages + enteredAs tree t level so b .made) * pageWords ≤ length (tree .table)
         → LooksSame w tree (enteredAs tree t level so b .tree .table)
     go Stays room x l = before x l
     go (Copied c) room x l =

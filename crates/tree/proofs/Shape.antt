@@ -18,7 +18,7 @@ use Rattle.tree.proofs.GrownStates.{Version}
 use Rattle.tree.proofs.View.{viewTable}
 use Rattle.tree.proofs.TreeViews.{pageOf, stateOf}
 use Rattle.tree.proofs.HeldPaths.{held-path}
-use Rattle.tree.proofs.Growth.{numbers, kept, told, next-state}
+use Rattle.tree.proofs.Growth.{numbers, kept, next-state}
 
 nothing : Value → ℕ
 nothing v = 0
@@ -38,7 +38,7 @@ module _ (table roots : List ℕ) where
       let k = kept table roots points (h .2) in
       let root = k .words .roots .found (p .tick) in
       next-state nothing nothing-measure (grow table roots points) points p (k .words)
-      (told nothing nothing-measure table roots points (h .2)) (h .0)
+      (kept table roots points (h .2) .tells nothing nothing-measure) (h .0)
       (root .0) (root .1) (h .1)
 
   same-state : (points others : List Point) → SameShape points others → Admitted table roots points → Admitted table roots others
@@ -82,4 +82,4 @@ module _ (table roots : List ℕ) where
 
         version : Version (viewTable nothing (grow table roots points .table)) (grow table roots points .used .pages) t
             (λ q. numbers nothing t q points) (pageOf (rootAt (grow table roots points) t))
-        version = told nothing nothing-measure table roots points h .versions t tick
+        version = kept table roots points h .tells nothing nothing-measure .versions t tick

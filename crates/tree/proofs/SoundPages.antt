@@ -10,7 +10,7 @@ use borrow.Author.Tests.{leb-false, ltb-false, le-leb, lt-ltb, eq-eqb}
 use Rattle.words.specs.Lists.{All}
 use Rattle.words.specs.declared.value.Value.{Value}
 use Rattle.tree.specs.declared.types.Row.{Row}
-use Rattle.tree.specs.Row.{word, live, rowsOf, rowLimit}
+use Rattle.tree.specs.Row.{word, live, rowsOf, rowLimit, headerWords}
 use Rattle.tree.specs.PageTest.{rowsTile, soundAt}
 use Rattle.tree.proofs.Lists.{all-map, sumBy, sum-same}
 use Rattle.tree.proofs.Places.{cover}
@@ -114,7 +114,7 @@ module _ (measure : Value → ℕ) (tree : ours.Tree)
   pub held-sound : soundAt t level lo hi (pageAt (tree .table) page) ≡ true
   held-sound =
       let words : List ℕ = pageAt (tree .table) page in
-      let number : length (rowsOf words) ≡ word words 1 = rows-length words 4 (word words 1) in
+      let number : length (rowsOf words) ≡ word words 1 = rows-length words headerWords (word words 1) in
       let some : 1 ≤ length (rowsOf words) = some-row measure P t lo hi (rowsOf words) tr (held .chain) (held .same) (held .wide) in
       let few : length (rowsOf words) ≤ rowLimit = small page (held .in-use) in
       let range : word words 2 ≡ lo + 65536 * hi = omega (arith, held .low, held .high) in

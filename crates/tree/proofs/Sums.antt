@@ -7,11 +7,10 @@ use mathlib.Core.List.{List}
 use borrow.Author.Tests.{le-leb, lt-ltb}
 use Rattle.words.specs.Words.{keyLimit, openEnd}
 use Rattle.words.specs.declared.value.Value.{Value}
-use Rattle.words.proofs.Measure.{Measure, countOf, sumOf, count-measure, sum-measure}
-use Rattle.words.proofs.ValueLaws.{Stored}
+use Rattle.words.proofs.Measure.{Measure, countOf, count-measure, by-measures}
 use Rattle.tree.proofs.OrderTotals.{total-stored}
 use Rattle.tree.specs.declared.types.Lookup.the-variants.{Spoiled, Found}
-use Rattle.tree.specs.Tree.{Tree, levelOf, rootAt}
+use Rattle.tree.specs.Tree.{Tree, levelOf, rootAt, topLevel}
 use Rattle.tree.specs.RowSteps.{Point}
 use Rattle.tree.specs.Lookup.{lookupFrom, lookupRoot, lookup}
 use Rattle.tree.specs.Grown.{lastTick}
@@ -22,7 +21,7 @@ use Rattle.tree.proofs.View.{viewTable}
 use Rattle.tree.proofs.TreeViews.{pageOf, WordsKept}
 use Rattle.tree.proofs.Reading.{Reads, reads}
 use Rattle.tree.proofs.HeldPaths.{found-root}
-use Rattle.tree.proofs.Growth.{numbers, numbers-sum, Tells, Kept}
+use Rattle.tree.proofs.Growth.{numbers, numbers-sum, Tells, TreeKept}
 
 -- Read by one measure
 module _ (measure : Value → ℕ) (m : Measure measure) (tree : Tree) (points : List Point)
@@ -44,7 +43,7 @@ module _ (measure : Value → ℕ) (m : Measure measure) (tree : Tree) (points :
   read-lookup =
       ap (lookupRoot tree t k) (found-root tree words t)
       ∙ ap (λ (b : Bool). cond b (lookupFrom tree t k level 0 keyLimit page) Spoiled)
-      (and-eq-true-iff _ _ .1 (lt-ltb page (tree .used .pages) in-use, le-leb level 3 (tells .levels t tick)))
+      (and-eq-true-iff _ _ .1 (lt-ltb page (tree .used .pages) in-use, le-leb level topLevel (tells .levels t tick)))
       ∙ read .is
     where
       in-use : page < tree .used .pages
@@ -57,44 +56,28 @@ module _ (measure : Value → ℕ) (m : Measure measure) (tree : Tree) (points :
           → measure (sumOfPoints t k points) ≈ numbers measure t k points
       rest e = omega arith
 
-small-same : (a b : ℕ) → a < 2 ^ 64 → b < 2 ^ 64 → a ≈ b → a ≡ b
-small-same a b p q h = omega arith
-
 same-found : {v w : Value} {m n : ℕ} → Found v m ≡ Found w n → v ≡ w
 same-found e = cc
 
--- The count and the sum together
-pub lookup-sum : (tree : Tree) (points : List Point) → Kept tree points → (t k : ℕ) → t < openEnd → k < keyLimit
+-- Read by every measure
+pub lookup-sum : (tree : Tree) (points : List Point) → TreeKept tree points → (t k : ℕ) → t < openEnd → k < keyLimit
     → lookup tree t k ≡ Found (sumOfPoints t k points) (levelOf (tree .table) (pageOf (rootAt tree t)) + 1)
 lookup-sum tree points kept t k tick key =
-    read-lookup countOf count-measure tree points (kept .words) (kept .counts) t k tick key
+    found countOf count-measure
     ∙ ap (λ (v : Value). Found v (levelOf (tree .table) (pageOf (rootAt tree t)) + 1))
-    (λ i. record { count = counts-same i; sum = sums-same i })
+    (by-measures (by countOf count-measure .value) (sumOfPoints t k points) (by countOf count-measure .stored)
+    (total-stored pointValue (dominated t k) points) alike)
   where
-    total-small : Stored (sumOfPoints t k points)
-    total-small = total-stored pointValue (dominated t k) points
+    by : (measure : Value → ℕ) (m : Measure measure) → Reads measure tree t k (levelOf (tree .table) (pageOf (rootAt tree t))) 0 keyLimit
+        (pageOf (rootAt tree t)) (version measure m tree points (kept .words) (kept .tells measure m) t k tick key .tree)
+    by measure m = read measure m tree points (kept .words) (kept .tells measure m) t k tick key
 
-    by-count : Value
-    by-count = read countOf count-measure tree points (kept .words) (kept .counts) t k tick key .value
+    found : (measure : Value → ℕ) (m : Measure measure)
+        → lookup tree t k ≡ Found (by measure m .value) (levelOf (tree .table) (pageOf (rootAt tree t)) + 1)
+    found measure m = read-lookup measure m tree points (kept .words) (kept .tells measure m) t k tick key
 
-    by-sum : Value
-    by-sum = read sumOf sum-measure tree points (kept .words) (kept .sumEntries) t k tick key .value
-
-    same : by-count ≡ by-sum
-    same =
-        same-found
-        (sym (read-lookup countOf count-measure tree points (kept .words) (kept .counts) t k tick key)
-        ∙ read-lookup sumOf sum-measure tree points (kept .words) (kept .sumEntries) t k tick key)
-
-    counts-same : by-count .count ≡ sumOfPoints t k points .count
-    counts-same =
-        small-same (by-count .count) (sumOfPoints t k points .count)
-        (read countOf count-measure tree points (kept .words) (kept .counts) t k tick key .stored .0) (total-small .0)
-        (read-sum countOf count-measure tree points (kept .words) (kept .counts) t k tick key)
-
-    sums-same : by-count .sum ≡ sumOfPoints t k points .sum
-    sums-same =
-        ap (λ (v : Value). v .sum) same
-        ∙ small-same (by-sum .sum) (sumOfPoints t k points .sum)
-        (read sumOf sum-measure tree points (kept .words) (kept .sumEntries) t k tick key .stored .1) (total-small .1)
-        (read-sum sumOf sum-measure tree points (kept .words) (kept .sumEntries) t k tick key)
+    alike : (measure : Value → ℕ) (m : Measure measure)
+        → measure (by countOf count-measure .value) ≈ measure (sumOfPoints t k points)
+    alike measure m =
+        ap (λ (v : Value). measure v % 2 ^ 64) (same-found (sym (found countOf count-measure) ∙ found measure m))
+        ∙ read-sum measure m tree points (kept .words) (kept .tells measure m) t k tick key

@@ -12,24 +12,24 @@ use Rattle.tree.specs.Row.{word, pageWords}
 use Rattle.tree.specs.Tree.{pageAt, putPage, levelOf}
 
 -- The length of a page that lies in the table
-pub page-length : (table : List ℕ) (page : ℕ) → page * 260 + 260 ≤ length table → length (pageAt table page) ≡ 260
-page-length table page fits = length-take-le 260 (drop (page * 260) table) (rw length-drop (omega arith))
+pub page-length : (table : List ℕ) (page : ℕ) → page * pageWords + pageWords ≤ length table → length (pageAt table page) ≡ pageWords
+page-length table page fits = length-take-le pageWords (drop (page * pageWords) table) (rw length-drop (omega arith))
 
-module _ (table : List ℕ) (page : ℕ) (words : List ℕ) (fits : page * 260 + 260 ≤ length table) (whole : length words ≡ 260) where
-  inside : page * 260 + length words ≤ length table
+module _ (table : List ℕ) (page : ℕ) (words : List ℕ) (fits : page * pageWords + pageWords ≤ length table) (whole : length words ≡ pageWords) where
+  inside : page * pageWords + length words ≤ length table
   inside = omega arith
 
   pub put-length : length (putPage table page words) ≡ length table
-  put-length = overwrite-length table (page * 260) words inside
+  put-length = overwrite-length table (page * pageWords) words inside
 
   pub put-same : pageAt (putPage table page words) page ≡ words
   unfolding overwrite
   put-same =
-      let from : length (take (page * 260) table) ≡ page * 260 = length-take-le (page * 260) table (omega arith) in
-      let rest : List ℕ = drop (page * 260 + length words) table in
-      ap (λ (l : List ℕ). take 260 (drop (page * 260) l)) (append-assoc (take (page * 260) table) words rest)
-      ∙ ap (take 260) (drop-at (take (page * 260) table) (words ++ rest) (page * 260) from)
-      ∙ take-at words rest 260 whole
+      let from : length (take (page * pageWords) table) ≡ page * pageWords = length-take-le (page * pageWords) table (omega arith) in
+      let rest : List ℕ = drop (page * pageWords + length words) table in
+      ap (λ (l : List ℕ). take pageWords (drop (page * pageWords) l)) (append-assoc (take (page * pageWords) table) words rest)
+      ∙ ap (take pageWords) (drop-at (take (page * pageWords) table) (words ++ rest) (page * pageWords) from)
+      ∙ take-at words rest pageWords whole
 
   pub put-other : (other : ℕ) → (other ≡ page → ⊥) → pageAt (putPage table page words) other ≡ pageAt table other
   put-other other apart = ext-getD 0 (pageAt (putPage table page words) other) (pageAt table other) same-length same-word
@@ -37,23 +37,23 @@ module _ (table : List ℕ) (page : ℕ) (words : List ℕ) (fits : page * 260 +
       same-length : length (pageAt (putPage table page words) other) ≡ length (pageAt table other)
       same-length = simp (length-take, length-drop, put-length)
 
-      in-table : (i : ℕ) → i < 260 → getD (putPage table page words) (other * 260 + i) 0 ≡ getD table (other * 260 + i) 0
+      in-table : (i : ℕ) → i < pageWords → getD (putPage table page words) (other * pageWords + i) 0 ≡ getD table (other * pageWords + i) 0
       in-table i h = go (decLe page other)
         where
-          go : Dec (page ≤ other) → getD (putPage table page words) (other * 260 + i) 0 ≡ getD table (other * 260 + i) 0
+          go : Dec (page ≤ other) → getD (putPage table page words) (other * pageWords + i) 0 ≡ getD table (other * pageWords + i) 0
           go (yes l) =
               let further : page < other = omega arith in
-              word-behind table (page * 260) words inside (other * 260 + i) (omega arith)
-          go (no l) = word-before table (page * 260) words inside (other * 260 + i) (omega arith)
+              word-behind table (page * pageWords) words inside (other * pageWords + i) (omega arith)
+          go (no l) = word-before table (page * pageWords) words inside (other * pageWords + i) (omega arith)
 
       same-word : (i : ℕ) → i < length (pageAt (putPage table page words) other)
           → getD (pageAt (putPage table page words) other) i 0 ≡ getD (pageAt table other) i 0
       same-word i h =
-          let small : i < 260 = omega (arith, length-take 260 (drop (other * 260) (putPage table page words))) in
-          getD-take 260 (drop (other * 260) (putPage table page words)) i 0 small
-          ∙ getD-drop (other * 260) (putPage table page words) i 0
+          let small : i < pageWords = omega (arith, length-take pageWords (drop (other * pageWords) (putPage table page words))) in
+          getD-take pageWords (drop (other * pageWords) (putPage table page words)) i 0 small
+          ∙ getD-drop (other * pageWords) (putPage table page words) i 0
           ∙ in-table i small
-          ∙ sym (getD-take 260 (drop (other * 260) table) i 0 small ∙ getD-drop (other * 260) table i 0)
+          ∙ sym (getD-take pageWords (drop (other * pageWords) table) i 0 small ∙ getD-drop (other * pageWords) table i 0)
 
 -- The level of a page, read from the table
 pub level-in-table : (table : List ℕ) (page : ℕ) → levelOf table page ≡ word table (page * pageWords)

@@ -11,13 +11,13 @@ use borrow.Author.Tests.{eq-eqb, ne-eqb}
 use Rattle.words.specs.Words.{keyLimit, openEnd}
 use Rattle.words.specs.declared.value.Value.{Value}
 use Rattle.words.proofs.Measure.{Measure}
-use Rattle.tree.specs.Row.{rowsOf, rowLimit}
+use Rattle.tree.specs.Row.{rowsOf, rowLimit, pageWords}
 use Rattle.tree.specs.Fresh.{freshPage, twoRows}
 use Rattle.tree.specs.declared.types.Root.{Root}
 use Rattle.tree.specs.declared.types.Root.the-variants.{At, Missing}
 use Rattle.tree.specs.declared.types.RootChange.the-variants.{Added}
 use Rattle.tree.specs.Tree as ours
-use Rattle.tree.specs.Tree.{pageAt, putPage, levelOf, rootAt}
+use Rattle.tree.specs.Tree.{pageAt, putPage, levelOf, rootAt, pageLimit}
 use Rattle.tree.specs.RowSteps.{Point}
 use Rattle.tree.specs.declared.types.Became.{Became}
 use Rattle.tree.specs.declared.types.Became.the-variants.{Stays, Copied, Halved}
@@ -48,8 +48,8 @@ stateOf measure tree =
 -- What holds of the words of a grown tree, whatever the values are
 pub record WordsKept (tree : ours.Tree) (last : ℕ) : Type 0 where
   pub small : (x : ℕ) → x < tree .used .pages → length (rowsOf (pageAt (tree .table) x)) ≤ rowLimit
-  pub pages : tree .used .pages * 260 ≤ length (tree .table)
-  pub limit : tree .used .pages ≤ 1000000
+  pub pages : tree .used .pages * pageWords ≤ length (tree .table)
+  pub limit : tree .used .pages ≤ pageLimit
   pub roots : RootsKept tree last
 
 pub state-path : {a b : State} → a .store ≡ b .store → a .used ≡ b .used → a .root ≡ b .root → a ≡ b
@@ -127,7 +127,7 @@ module _ (measure : Value → ℕ) (m : Measure measure) (tree : ours.Tree) (las
       next = omega arith
 
   grown-from : (so : Written) → Matches measure tree 0 keyLimit so o
-      → (tree .used .pages + enteredAs tree t level so (so .became) .made) * 260 ≤ length (tree .table)
+      → (tree .used .pages + enteredAs tree t level so (so .became) .made) * pageWords ≤ length (tree .table)
       → (enteredAs tree t level so (so .became) .root ≡ Added → tree .used .roots < length (tree .roots))
       → Grew measure tree t level o (enteredAs tree t level so (so .became))
   grown-from so agree = go (so .became) (agree .parts) (agree .made-some) (agree .covers)
@@ -135,12 +135,12 @@ module _ (measure : Value → ℕ) (m : Measure measure) (tree : ours.Tree) (las
       root : ℕ → ℕ
       root w = pageOf (rootAt tree w)
 
-      none-made : (tree .used .pages + so .made) * 260 ≤ length (tree .table)
+      none-made : (tree .used .pages + so .made) * pageWords ≤ length (tree .table)
           → (length (so .table) ≡ length (tree .table)) × (viewTable measure (so .table) ≡ o .store)
       none-made = agree .table
 
       go : (b : Became) → partsOf b ≡ o .parts → MadeSome b (so .made) → Covers 0 keyLimit b
-          → (tree .used .pages + enteredAs tree t level so b .made) * 260 ≤ length (tree .table)
+          → (tree .used .pages + enteredAs tree t level so b .made) * pageWords ≤ length (tree .table)
           → (enteredAs tree t level so b .root ≡ Added → tree .used .roots < length (tree .roots))
           → Grew measure tree t level o (enteredAs tree t level so b)
       go Stays e some cover room place =
@@ -176,9 +176,9 @@ module _ (measure : Value → ℕ) (m : Measure measure) (tree : ours.Tree) (las
           let words : List ℕ = freshPage (level + 1) 0 keyLimit t (twoRows t (c .high) (c .page) (d .page)) in
           let made-is = root-made tree t page (putPage (so .table) page words) (so .made + 1) in
           let w = none-made (omega (arith, made-is)) in
-          let slotCount : length words ≡ 260 =
+          let slotCount : length words ≡ pageWords =
           fresh-length (level + 1) 0 keyLimit t (twoRows t (c .high) (c .page) (d .page)) (omega arith) in
-          let inside : page * 260 + 260 ≤ length (so .table) = omega (arith, made-is, w .0) in
+          let inside : page * pageWords + pageWords ≤ length (so .table) = omega (arith, made-is, w .0) in
           let r =
           new-root page (putPage (so .table) page words) (so .made + 1)
           (putAt (o .store) (o .used) (newPage t (suc level) 0 keyLimit (topRows (c .page) (d .page) (c .high)))) (suc (o .used))
@@ -217,7 +217,7 @@ module _ (measure : Value → ℕ) (m : Measure measure) (tree : ours.Tree) (p :
       enter-agrees measure m tree p now (kept .small) IsKnown known (levelOf (tree .table) page) page 0 keyLimit tr (omega arith) key
       (omega arith) held full
 
-  pub grew : (tree .used .pages + enterRoot tree p page .made) * 260 ≤ length (tree .table)
+  pub grew : (tree .used .pages + enterRoot tree p page .made) * pageWords ≤ length (tree .table)
       → (enterRoot tree p page .root ≡ Added → tree .used .roots < length (tree .roots))
       → Grew measure tree (p .tick) (levelOf (tree .table) page) modelOut (enterRoot tree p page)
   unfolding enterRoot
@@ -225,8 +225,8 @@ module _ (measure : Value → ℕ) (m : Measure measure) (tree : ours.Tree) (p :
       grown-from measure m tree last (p .tick) (levelOf (tree .table) page) (kept .roots) time now modelOut
       (enterFrom tree p (levelOf (tree .table) page) page) (root-agrees .0)
 
-  pub grew-words : (tree .used .pages + enterRoot tree p page .made) * 260 ≤ length (tree .table)
-      → tree .used .pages + enterRoot tree p page .made ≤ 1000000
+  pub grew-words : (tree .used .pages + enterRoot tree p page .made) * pageWords ≤ length (tree .table)
+      → tree .used .pages + enterRoot tree p page .made ≤ pageLimit
       → (enterRoot tree p page .root ≡ Added → tree .used .roots < length (tree .roots))
       → WordsKept (enterRoot tree p page .tree) (p .tick)
   grew-words room limit place =
@@ -244,7 +244,7 @@ module _ (measure : Value → ℕ) (m : Measure measure) (tree : ours.Tree) (p :
         roots = g .roots;
       }
 
-  pub entered-state : (tree .used .pages + enterRoot tree p page .made) * 260 ≤ length (tree .table)
+  pub entered-state : (tree .used .pages + enterRoot tree p page .made) * pageWords ≤ length (tree .table)
       → (enterRoot tree p page .root ≡ Added → tree .used .roots < length (tree .roots))
       → stateOf measure (enterRoot tree p page .tree) ≡ entering (p .tick) (p .key) (measure (p .value)) (stateOf measure tree)
   entered-state room place = grew room place .state ∙ ap from-page (sym (ap pageOf is-root))

@@ -12,7 +12,7 @@ use Rattle.words.specs.Lists.{All}
 use Rattle.words.specs.declared.value.Value.{Value}
 use Rattle.words.proofs.Measure.{Measure}
 use Rattle.tree.specs.declared.types.Row.{Row}
-use Rattle.tree.specs.Row.{word, live, rowsOf, rowLimit}
+use Rattle.tree.specs.Row.{word, live, rowsOf, rowLimit, pageWords}
 use Rattle.tree.specs.KeyOrder.{Placed, keepIf, livePlaced, insertBy, sortBy, keyOrder}
 use Rattle.tree.specs.TrueValue.{rowValue}
 use Rattle.tree.specs.Edit.{bornAt, withRows}
@@ -101,7 +101,7 @@ module _ (measure : Value → ℕ) where
   page-path : {a b : Page} → a .level ≡ b .level → a .low ≡ b .low → a .high ≡ b .high → a .rows ≡ b .rows → a ≡ b
   page-path p q r s = λ i. record { level = p i; low = q i; high = r i; rows = s i }
 
-  pub view-with : (page : List ℕ) (rows : List Row) → length page ≡ 260 → length rows ≤ rowLimit → All Fits rows
+  pub view-with : (page : List ℕ) (rows : List Row) → length page ≡ pageWords → length rows ≤ rowLimit → All Fits rows
       → viewPage (withRows page rows)
       ≡ record { level = word page 0; low = word page 2 % 65536; high = word page 2 / 65536; rows = viewRows rows }
   view-with page rows whole few fits =
@@ -116,7 +116,7 @@ module _ (measure : Value → ℕ) where
       (ap viewRows (fresh-rows level low high birth rows few fits))
 
   -- A page of the table written over
-  pub view-put : (table : List ℕ) (page : ℕ) (words : List ℕ) → page * 260 + 260 ≤ length table → length words ≡ 260
+  pub view-put : (table : List ℕ) (page : ℕ) (words : List ℕ) → page * pageWords + pageWords ≤ length table → length words ≡ pageWords
       → viewTable (putPage table page words) ≡ putAt (viewTable table) page (viewPage words)
   view-put table page words fits whole = λ i x. at x i
     where

@@ -3,7 +3,7 @@ use Prim.Native.Nat.{ℕ, zero, suc, _+_, _-_}
 use mathlib.Core.List.{List, [], _∷_}
 use mathlib.Core.Bool.{cond}
 use lib.Dec.{eqb}
-use Rattle.words.specs.Words.{birthOf, rootEntry, keyLimit}
+use Rattle.words.specs.Words.{rootBirth, rootEntry, keyLimit}
 use Rattle.words.specs.Overwrite.{overwrite}
 use Rattle.tree.specs.Row.{rowsOf}
 use Rattle.tree.specs.KeyOrder.{Placed}
@@ -46,7 +46,7 @@ pub record Entered : Type 0 where
 -- Step 8: "A root overflow adds a root entry, or replaces the last one if that was born at t."
 abbrev pub withRoot : Tree → ℕ → ℕ → List ℕ → ℕ → Entered
 withRoot tree t page table made =
-    cond (eqb (birthOf (lastRoot tree)) t)
+    cond (eqb (rootBirth (lastRoot tree)) t)
     (record {
       tree =
           record {

@@ -1,6 +1,6 @@
 -- What is known of an entry before anything is written: 26, the pages that the splits make, "counted as if table and root list had room",
 -- and whether a root entry is added, replaced or neither.
-use Prim.Native.Nat.{ℕ, zero, suc}
+use Prim.Native.Nat.{ℕ, zero, suc, _+_, _*_}
 use mathlib.Core.Bool.{Bool, true, false, cond, _&&_, not}
 use lib.Dec.{eqb}
 use Rattle.words.specs.Words.{keyLimit}
@@ -17,6 +17,11 @@ use Rattle.tree.specs.RowSteps.{Point, rowAround}
 use Rattle.tree.specs.declared.types.Became.{Became}
 use Rattle.tree.specs.declared.types.Became.the-variants.{Stays, Copied, Halved}
 use Rattle.tree.specs.Enter.{enterFrom, enterRoot}
+
+-- The pages that one entry may make: two for each page below the top level, and one more, which is the copy of a root at the top level or the
+-- new root over two halves
+abbrev pub mostMade : ℕ
+mostMade = 2 * topLevel + 1
 
 -- The pages met by the descent of step 1: each is tested, and none below the row that ends it
 abbrev pub soundBelow : (Row → Bool) → Search Placed → Bool

@@ -12,9 +12,13 @@ use Rattle.tree.specs.declared.types.Row.{Row}
 abbrev pub headerWords : ℕ
 headerWords = 4
 
--- "64 rows of 4 words": keys, life, and the words of the value
+-- Row words "0 low key ..; 1 birth ..; 2 count": where a row's value starts, behind its keys and its life
+abbrev pub valueStart : ℕ
+valueStart = 2
+
+-- "64 rows of 4 words"
 abbrev pub rowWords : ℕ
-rowWords = 2 + valueWords
+rowWords = valueStart + valueWords
 
 -- "rows, 1 to 64"; "Over 64 rows, the page overflows"
 abbrev pub rowLimit : ℕ
@@ -27,6 +31,14 @@ copyLimit = 40
 -- "260 to a page"
 abbrev pub pageWords : ℕ
 pageWords = headerWords + rowLimit * rowWords
+
+-- The rows that one entry may append to a page: step 3's row, then step 7's lower and upper one
+abbrev pub mostAppended : ℕ
+mostAppended = 3
+
+-- The rows that a page may so get; where it has more than 64 of them, it overflows
+abbrev pub mostRows : ℕ
+mostRows = rowLimit + mostAppended
 
 -- A word of a page; 0 past the page's end
 abbrev pub word : List ℕ → ℕ → ℕ
@@ -45,7 +57,7 @@ rowAt page at =
       child = childPage (word page at);
       birth = birthOf (word page (at + 1));
       end = endOf (word page (at + 1));
-      value = valueAt page (at + 2);
+      value = valueAt page (at + valueStart);
     }
 
 -- The row at a place

@@ -4,7 +4,7 @@ use mathlib.Core.List.{List, [], _∷_}
 use mathlib.Core.Bool.{Bool, cond, _&&_}
 use lib.ListN.{length, take, drop}
 use lib.Dec.{leb, ltb}
-use Rattle.words.specs.Words.{birthOf, rootPage}
+use Rattle.words.specs.Words.{rootBirth, rootPage}
 use Rattle.words.specs.Overwrite.{overwrite}
 use Rattle.tree.specs.Row.{word, pageWords}
 use Rattle.tree.specs.PageTest.{soundAt}
@@ -51,7 +51,7 @@ inHigherPlace Missing lower = lower
 
 unfoldable pub rootFor : ℕ → List ℕ → Root
 rootFor t [] = Missing
-rootFor t (w ∷ ws) = inHigherPlace (rootFor t ws) (cond (leb (birthOf w) t) (At (rootPage w)) Missing)
+rootFor t (w ∷ ws) = inHigherPlace (rootFor t ws) (cond (leb (rootBirth w) t) (At (rootPage w)) Missing)
 
 -- Entries count that are in use
 abbrev pub rootAt : Tree → ℕ → Root

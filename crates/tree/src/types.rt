@@ -1,7 +1,7 @@
 // A row of a page, and what a tree's calls take and give.
 use words::Value;
 
-// A row of a page: four words, taken apart.
+// A row of a page: its words, taken apart.
 pub struct Row {
     pub low: u16,
     pub high: u16,
@@ -9,6 +9,14 @@ pub struct Row {
     pub birth: u32,
     pub end: u32,
     pub value: Value,
+}
+
+impl Row {
+    // Where the value's words start in a row: behind the words of its keys and of its life.
+    pub const VALUE_START: usize = 2;
+
+    // The words of a row.
+    pub const WORDS: usize = Row::VALUE_START + Value::WORDS;
 }
 
 // What a lookup finds in a page: a spoiled page, or the row that holds (t, k) and its true value.
@@ -26,6 +34,9 @@ pub struct TreeUse {
 impl TreeUse {
     // A tree may use so many pages.
     pub const PAGE_LIMIT: u32 = 1000000;
+
+    // The highest level that a page may have.
+    pub const TOP_LEVEL: u64 = 3;
 }
 
 // The page of the root for a tick.

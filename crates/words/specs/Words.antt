@@ -40,5 +40,8 @@ endOf word = word / 4294967296
 abbrev pub rootEntry : ℕ → ℕ → ℕ
 rootEntry birth page = birth + 4294967296 * page
 
+abbrev pub rootBirth : ℕ → ℕ
+rootBirth word = word % 4294967296
+
 abbrev pub rootPage : ℕ → ℕ
 rootPage word = word / 4294967296

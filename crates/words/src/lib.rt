@@ -12,5 +12,8 @@ pub use pack::high_key;
 pub use pack::key_range;
 pub use pack::life;
 pub use pack::low_key;
+pub use pack::root_birth;
+pub use pack::root_entry;
+pub use pack::root_page;
 pub use pack::row_keys;
 pub use value::Value;

@@ -22,6 +22,9 @@ fn word_times(word: u64, factor: u64) -> u64
 }
 
 impl Value {
+    // The words that a value takes.
+    pub const WORDS: usize = 2;
+
     // The value of nothing.
     pub fn zero() -> Value
         ensures { λ r. ⌜ r ≡ zero ⌝ }

@@ -3,7 +3,7 @@ use native.Mathlib.Omega.{arith}
 use mathlib.Core.Path.{_≡_, ap, sym, _∙_}
 use mathlib.Core.List.{List}
 use lib.ListN.{length}
-use Rattle.tree.specs.Row.{word, rowIn, rowLimit}
+use Rattle.tree.specs.Row.{word, rowIn, rowLimit, pageWords}
 use Rattle.tree.specs.declared.types.Row.{Row}
 use Rattle.tree.specs.Tree.{Tree, pageAt}
 use Rattle.tree.specs.RowSteps.{Point}
@@ -79,7 +79,7 @@ module _ (t : ℕ) (s : enter-from-lts.Start (calls t) (enter-from-at t) enter-f
   can : CanEnter tree point (s .args .level) (s .args .page)
   can = s .pre .1 .1
 
-  within : s .args .page * 260 + 260 ≤ length table
+  within : s .args .page * pageWords + pageWords ≤ length table
   within = inside tree point small narrow (s .args .level) (s .args .page) can
 
   few : word page 1 ≤ rowLimit

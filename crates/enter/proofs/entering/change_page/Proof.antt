@@ -9,7 +9,7 @@ use Rattle.tree.specs.Tree.{pageAt}
 use Rattle.tree.specs.Overflow.{Written}
 use Rattle.tree.proofs.TableLaws.{page-length}
 use Rattle.row_steps.specs.PageEdits.{changeWords}
-use Rattle.enter.specs.EnterWords.{madeSo, changed}
+use Rattle.enter.specs.EnterWords.{madeSo, changed, roomyRows}
 use Rattle.enter.proofs.CopyLaws.{part-is, part-back, page-count}
 use Rattle.enter.proofs.SettleLaws.{loaded-count, loaded-length}
 use Rattle.enter.proofs.InPlace.{in-place, in-place-size}
@@ -50,7 +50,7 @@ change-words-requires c κs =
     let pre = c .before .before .before .before .before .pre in
     let table = a .table .now in
     let whole : length (pageAt table (a .page)) ≡ pageWords = page-length table (a .page) (pre .1 .1 .1 .inside) in
-    let few : word (pageAt table (a .page)) 1 ≤ 61 = omega (arith, page-count table (a .page), c .before .if1 .taken) in
+    let few : word (pageAt table (a .page)) 1 ≤ roomyRows = omega (arith, page-count table (a .page), c .before .if1 .taken) in
     rw (part-is table (a .page)) (pre .1 .1 .0, omega arith)
 
 same-length : tie.Need-same-length
@@ -62,14 +62,14 @@ returns c =
     let pre = c .before .before .before .before .before .before .before .before .pre in
     let table = a .table .now in
     let whole : length (pageAt table (a .page)) ≡ pageWords = page-length table (a .page) (pre .1 .1 .1 .inside) in
-    let few : word (pageAt table (a .page)) 1 ≤ 61 = omega (arith, page-count table (a .page), c .before .before .before .before .if1 .taken) in
+    let few : word (pageAt table (a .page)) 1 ≤ roomyRows = omega (arith, page-count table (a .page), c .before .before .before .before .if1 .taken) in
     let new : c .before .before .change-words .last .0 ≡ changeWords (a .t) (a .value) (pageAt table (a .page)) (a .change) =
     c .before .before .change-words .ensures ∙ ap (λ (w : List ℕ). changeWords (a .t) (a .value) w (a .change)) (part-is table (a .page)) in
     let size = in-place-size (a .used) (a .t) (madeSo table (a .made)) (a .page) (a .value) (a .change) whole few (pre .1 .1 .0) in
     let stay = in-place (a .used) (a .t) (madeSo table (a .made)) (a .page) (a .value) (a .change) whole few (pre .1 .1 .0) in
     record {
       table-is =
-          ap (putMid (a .page * 260) (a .page * 260 + 260 - a .page * 260) table) new
+          ap (putMid (a .page * pageWords) (a .page * pageWords + pageWords - a .page * pageWords) table) new
           ∙ part-back table (a .page) (changeWords (a .t) (a .value) (pageAt table (a .page)) (a .change)) (pre .1 .1 .1 .inside) size
           ∙ ap (λ (w : Written). w .table) (sym stay);
       made-is = ap (λ (w : Written). w .made) (sym stay);

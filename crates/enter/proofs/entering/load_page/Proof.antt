@@ -5,11 +5,14 @@ use mathlib.Core.List.{List, _++_}
 use lib.ListN.{take, drop}
 use borrow.Rule.Slice.PartMut.{putMid, mid-len}
 use Rattle.words.proofs.OverwriteLaws.{overwrite-all}
+use Rattle.tree.specs.Row.{pageWords}
 use Rattle.tree.specs.Fresh.{zeros}
 use Rattle.enter.proofs.CopyLaws.{part-length, part-is, load-is}
 use borrow.Author.Needs.{needs}
 use Rattle.enter.proofs.entering.load_page.Statement.{statement}
 use Rattle.enter.proofs.entering.load_page.Tie as tie
+use Rattle.split.specs.SplitWords.{scratchWords}
+use Rattle.enter.specs.EnterWords.{appendedWords}
 
 mul-from : tie.Need-mul-from
 mul-from c = search needs
@@ -57,12 +60,12 @@ returns : tie.Need-returns
 unfolding zeros
 returns c =
     let a = c .before .before .before .before .before .before .before .before .before .before .before .before .args in
-    let part : List ℕ = take (a .page * 260 + 260 - a .page * 260) (drop (a .page * 260) (a .table .now)) in
+    let part : List ℕ = take (a .page * pageWords + pageWords - a .page * pageWords) (drop (a .page * pageWords) (a .table .now)) in
     let copy : List ℕ = c .before .before .before .before .before .before .before .copy-words .last .0 in
-    let room = mid-len 260 272 copy (search needs) in
-    ap₂ (putMid 260 12) (c .before .before .before .before .before .before .before .copy-words .ensures) (c .before .before .copy-words2 .ensures ∙ overwrite-all (take 12 (drop 260 copy)) (zeros 12) (sym room))
+    let room = mid-len pageWords scratchWords copy (search needs) in
+    ap₂ (putMid pageWords appendedWords) (c .before .before .before .before .before .before .before .copy-words .ensures) (c .before .before .copy-words2 .ensures ∙ overwrite-all (take appendedWords (drop pageWords copy)) (zeros appendedWords) (sym room))
     ∙ load-is (a .copy .now) part (search needs) (part-length (a .table .now) (a .page) (search needs))
-    ∙ ap (λ (w : List ℕ). w ++ zeros 12) (part-is (a .table .now) (a .page))
+    ∙ ap (λ (w : List ℕ). w ++ zeros appendedWords) (part-is (a .table .now) (a .page))
 
 pub load-page-spec : {M : Type 1} → statement M
 load-page-spec =

@@ -13,6 +13,7 @@ use Rattle.words.proofs.OverwriteLaws.{overwrite-all}
 use borrow.Author.Needs.{needs}
 use Rattle.enter.proofs.entering.store_page.Statement.{statement}
 use Rattle.enter.proofs.entering.store_page.Tie as tie
+use Rattle.tree.specs.Row.{pageWords}
 
 mul-from : tie.Need-mul-from
 mul-from c = search needs
@@ -45,18 +46,18 @@ part-copy-words-end-2 : tie.Need-part-copy-words-end-2
 part-copy-words-end-2 c = search needs
 
 copy-words-requires : tie.Need-copy-words-requires
-copy-words-requires c κs = omega (arith, part-length (c .before .before .before .before .args .table .now) (c .before .before .before .before .args .page) (search needs), length-take 260 (c .before .before .before .before .args .words .now))
+copy-words-requires c κs = omega (arith, part-length (c .before .before .before .before .args .table .now) (c .before .before .before .before .args .page) (search needs), length-take pageWords (c .before .before .before .before .args .words .now))
 
 same-length : tie.Need-same-length
 same-length c = search needs
 
 returns : tie.Need-returns
 returns c = let a = c .before .before .before .before .before .before .before .args in
-    let part : List ℕ = take (a .page * 260 + 260 - a .page * 260) (drop (a .page * 260) (a .table .now)) in
-    let new : List ℕ = take 260 (a .words .now) in
-    let size : length new ≡ 260 = length-take-le 260 (a .words .now) (omega arith) in
-    let whole : length part ≡ 260 = part-length (a .table .now) (a .page) (search needs) in
-    ap (putMid (a .page * 260) (a .page * 260 + 260 - a .page * 260) (a .table .now)) (c .before .before .copy-words .ensures ∙ overwrite-all part new (omega arith))
+    let part : List ℕ = take (a .page * pageWords + pageWords - a .page * pageWords) (drop (a .page * pageWords) (a .table .now)) in
+    let new : List ℕ = take pageWords (a .words .now) in
+    let size : length new ≡ pageWords = length-take-le pageWords (a .words .now) (omega arith) in
+    let whole : length part ≡ pageWords = part-length (a .table .now) (a .page) (search needs) in
+    ap (putMid (a .page * pageWords) (a .page * pageWords + pageWords - a .page * pageWords) (a .table .now)) (c .before .before .copy-words .ensures ∙ overwrite-all part new (omega arith))
     ∙ part-back (a .table .now) (a .page) new (search needs) size
 
 pub store-page-spec : {M : Type 1} → statement M

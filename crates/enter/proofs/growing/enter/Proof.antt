@@ -4,12 +4,14 @@ use mathlib.Core.Path.{_≡_, refl, ap, ap₂, sym, _∙_}
 use lib.ListN.{length}
 use Rattle.page.specs.declared.fresh.Page.{Page}
 use Rattle.page.specs.PageValue.{encodePage, twoRowRoot}
+use Rattle.tree.specs.Row.{pageWords}
 use Rattle.tree.specs.declared.types.Root.the-variants.{At}
 use Rattle.tree.specs.Tree.{Tree, rootAt, putPage}
 use Rattle.tree.specs.RowSteps.{Point}
 use Rattle.tree.specs.Enter.{enterFrom}
+use Rattle.tree.specs.Plan.{mostMade}
 use Rattle.enter.specs.EnterWords.{pointAt, useOf, DoneAs}
-use Rattle.enter.proofs.EnterRootLaws.{level, rootPage, root-same, level-same, root-in-use, in-table, low-level, no-missing, can-enter-at, done-at, few-pages, stays-way, copied-can, copied-way, halved-can, halved-room, halved-way}
+use Rattle.enter.proofs.EnterRootLaws.{level, rootPage, root-same, level-same, root-in-use, in-table, low-level, no-missing, can-enter-at, done-at, few-made, same-size, stays-way, copied-can, copied-way, halved-can, halved-room, halved-way}
 use borrow.Author.Needs.{needs}
 use Rattle.enter.proofs.growing.enter.Statement.{statement}
 use Rattle.enter.proofs.growing.enter.Tie as tie
@@ -58,7 +60,7 @@ module _ (f : lts.After-known-told calls reads.Pre reads.Post) where
   root-is : rootAt (tree start) (start .args .t) ≡ At root
   root-is = sym (f .before .before .before .find-root .ensures) ∙ f .before .found .given .1
 
-  root-inside : root * 260 + 260 ≤ length (start .args .table .now)
+  root-inside : root * pageWords + pageWords ≤ length (start .args .table .now)
   root-inside =
       omega (
         arith,
@@ -79,16 +81,13 @@ module _ (e : lts.After-enter-from calls reads.Pre reads.Post) where
       (e .enter-from .last .0) (e .enter-from .result)
   done-is = done-at (tree first) (point first) (first .pre) (root found) (root-is found) (e .enter-from .result) (e .enter-from .last .0) (e .enter-from .ensures)
 
-  few-and-same : (e .enter-from .result .made ≤ 8) × (length (e .enter-from .last .0) ≡ length (first .args .table .now))
-  few-and-same =
-      few-pages (tree first) (point first) (first .pre) (omega (arith, first .fits .t .fits)) (omega (arith, first .fits .k .fits))
+  few : e .enter-from .result .made ≤ mostMade
+  few = few-made (tree first) (point first) (first .pre) (e .enter-from .result) (e .enter-from .last .0) done-is
+
+  same : length (e .enter-from .last .0) ≡ length (first .args .table .now)
+  same =
+      same-size (tree first) (point first) (first .pre) (omega (arith, first .fits .t .fits)) (omega (arith, first .fits .k .fits))
       (e .enter-from .result) (e .enter-from .last .0) done-is
-
-  few-made : e .enter-from .result .made ≤ 8
-  few-made = few-and-same .0
-
-  same-size : length (e .enter-from .last .0) ≡ length (first .args .table .now)
-  same-size = few-and-same .1
 
 cast-find-root : tie.Need-cast-find-root
 cast-find-root c = search needs
@@ -135,7 +134,7 @@ enum-told-2 : tie.Need-enum-told-2
 enum-told-2 c = search needs
 
 add-t29 : tie.Need-add-t29
-add-t29 c = omega (arith, few-made (c .before .before .before .before .before .before .before), start (c .before .before .before .before .before .before .before .before .before .before .before) .pre .used-few)
+add-t29 c = omega (arith, few (c .before .before .before .before .before .before .before), start (c .before .before .before .before .before .before .before .before .before .before .before) .pre .used-few)
 
 enum-known-became : tie.Need-enum-known-became
 enum-known-became c = search needs
@@ -144,13 +143,13 @@ put-root-requires : tie.Need-put-root-requires
 put-root-requires c κs =
     let e = c .before .before .before .before .before .before .before in
     let s = start (c .before .before .before .before .before .before .before .before .before .before .before) in
-    copied-can (tree s) (point s) (s .pre) (e .enter-from .result) (e .enter-from .last .0) (done-is e) (few-made e) (c .before .before .became .given .0 .0) (c .before .before .became .given .1)
+    copied-can (tree s) (point s) (s .pre) (e .enter-from .result) (e .enter-from .last .0) (done-is e) (c .before .before .became .given .0 .0) (c .before .before .became .given .1)
 
 enum-known-became-2 : tie.Need-enum-known-became-2
 enum-known-became-2 c = search needs
 
 taken-page-requires : tie.Need-taken-page-requires
-taken-page-requires c κs = (start (c .before .before .before .before .before .before .before .before .before .before) .pre .used-few, omega (arith, few-made (c .before .before .before .before .before .before)))
+taken-page-requires c κs = (start (c .before .before .before .before .before .before .before .before .before .before) .pre .used-few, omega (arith, few (c .before .before .before .before .before .before)))
 
 add-two-row-root : tie.Need-add-two-row-root
 add-two-row-root c =
@@ -166,16 +165,16 @@ put-page-requires c κs =
     let e = c .before .before .before .before .before .before .before .before .before in
     let s = start (c .before .before .before .before .before .before .before .before .before .before .before .before .before) in
     let room = halved-room (tree s) (point s) (s .pre) (e .enter-from .result) (e .enter-from .last .0) (done-is e) (c .before .before .before .before .became2 .given .0 .0) (c .before .before .before .before .became2 .given .0 .1 .0) (c .before .before .before .before .became2 .given .1) in
-    (omega (arith, room, same-size e, c .before .before .taken-page .ensures), rw (c .two-row-root .ensures) (omega arith))
+    (omega (arith, room, same e, c .before .before .taken-page .ensures), rw (c .two-row-root .ensures) (omega arith))
 
 add-put-root : tie.Need-add-put-root
-add-put-root c = omega (arith, few-made (c .before .before .before .before .before .before .before .before .before .before .before .before .before .before))
+add-put-root c = omega (arith, few (c .before .before .before .before .before .before .before .before .before .before .before .before .before .before))
 
 put-root-requires-2 : tie.Need-put-root-requires-2
 put-root-requires-2 c κs =
     let e = c .before .before .before .before .before .before .before .before .before .before .before .before .before .before in
     let s = start (c .before .before .before .before .before .before .before .before .before .before .before .before .before .before .before .before .before .before) in
-    halved-can (tree s) (point s) (s .pre) (e .enter-from .result) (e .enter-from .last .0) (done-is e) (few-made e) (c .before .before .before .before .before .before .before .before .before .became2 .given .0 .0) (c .before .before .before .before .before .before .before .before .before .became2 .given .0 .1 .0) (c .before .before .before .before .before .before .before .before .before .became2 .given .1)
+    halved-can (tree s) (point s) (s .pre) (e .enter-from .result) (e .enter-from .last .0) (done-is e) (c .before .before .before .before .before .before .before .before .before .became2 .given .0 .0) (c .before .before .before .before .before .before .before .before .before .became2 .given .0 .1 .0) (c .before .before .before .before .before .before .before .before .before .became2 .given .1)
 
 same-length-2 : tie.Need-same-length-2
 same-length-2 c = search needs

@@ -2,7 +2,7 @@ use borrow.Author.Tests.{eq-eqb, ne-eqb}
 use mathlib.Core.Path.{_≡_, sym, _∙_}
 use Prim.Native.Nat.{_-_}
 use native.Mathlib.Omega.{arith}
-use Rattle.words.specs.Words.{birthOf, lifeWord}
+use Rattle.words.specs.Words.{rootBirth, rootEntry}
 use Rattle.words.proofs.OverwriteLaws.{overwrite-one}
 use Rattle.tree.specs.Row.{word}
 use borrow.Author.Needs.{needs}
@@ -12,8 +12,8 @@ use Rattle.enter.proofs.growing.put_root.Tie as tie
 cast-count : tie.Need-cast-count
 cast-count c = search needs
 
-life-requires : tie.Need-life-requires
-life-requires c κs = search needs
+root-entry-requires : tie.Need-root-entry-requires
+root-entry-requires c κs = search needs
 
 sub-last : tie.Need-sub-last
 sub-last c = search needs
@@ -24,8 +24,8 @@ mul-last c = search needs
 slice-read-last : tie.Need-slice-read-last
 slice-read-last c = search needs
 
-birth-of-requires : tie.Need-birth-of-requires
-birth-of-requires c κs = search needs
+root-birth-requires : tie.Need-root-birth-requires
+root-birth-requires c κs = search needs
 
 sub-roots : tie.Need-sub-roots
 sub-roots c = search needs
@@ -44,10 +44,10 @@ same-length c = search needs
 
 returns : tie.Need-returns
 returns c = let a = c .before .before .before .before .before .before .before .args in
-    let born : birthOf (word (a .roots .now) (a .used .roots - 1)) ≡ a .t =
-    omega (arith, c .before .before .birth-of .ensures, c .before .if1 .taken) in
+    let born : rootBirth (word (a .roots .now) (a .used .roots - 1)) ≡ a .t =
+    omega (arith, c .before .before .root-birth .ensures, c .before .if1 .taken) in
     record {
-      list = rw (eq-eqb _ _ born, c .before .before .before .before .life .ensures) (overwrite-one (a .roots .now) (a .used .roots - 1) (lifeWord (a .t) (a .page)) (omega (arith, c .before .before .before .before .before .before .before .pre .some, c .before .before .before .before .before .before .before .pre .inside)));
+      list = rw (eq-eqb _ _ born, c .before .before .before .before .root-entry .ensures) (overwrite-one (a .roots .now) (a .used .roots - 1) (rootEntry (a .t) (a .page)) (omega (arith, c .before .before .before .before .before .before .before .pre .some, c .before .before .before .before .before .before .before .pre .inside)));
       use-is = rw (eq-eqb _ _ born);
     }
 
@@ -56,7 +56,7 @@ mul-roots-2 c = search needs
 
 slice-write-roots-2 : tie.Need-slice-write-roots-2
 slice-write-roots-2 c = let a = c .before .before .before .before .before .before .args in
-    let other : birthOf (word (a .roots .now) (a .used .roots - 1)) ≡ a .t → ⊥ = λ e. c .if1 .left (c .before .birth-of .ensures ∙ e) in
+    let other : rootBirth (word (a .roots .now) (a .used .roots - 1)) ≡ a .t → ⊥ = λ e. c .if1 .left (c .before .root-birth .ensures ∙ e) in
     omega (arith, c .before .before .before .before .before .before .pre .place other)
 
 add-t13 : tie.Need-add-t13
@@ -70,9 +70,9 @@ same-length-2 c = search needs
 
 returns-2 : tie.Need-returns-2
 returns-2 c = let a = c .before .before .before .before .before .before .before .before .args in
-    let other : birthOf (word (a .roots .now) (a .used .roots - 1)) ≡ a .t → ⊥ = λ e. c .before .before .if1 .left (c .before .before .before .birth-of .ensures ∙ e) in
+    let other : rootBirth (word (a .roots .now) (a .used .roots - 1)) ≡ a .t → ⊥ = λ e. c .before .before .if1 .left (c .before .before .before .root-birth .ensures ∙ e) in
     record {
-      list = rw (ne-eqb _ _ other, c .before .before .before .before .before .life .ensures) (overwrite-one (a .roots .now) (a .used .roots) (lifeWord (a .t) (a .page)) (c .before .before .before .before .before .before .before .before .pre .place other));
+      list = rw (ne-eqb _ _ other, c .before .before .before .before .before .root-entry .ensures) (overwrite-one (a .roots .now) (a .used .roots) (rootEntry (a .t) (a .page)) (c .before .before .before .before .before .before .before .before .pre .place other));
       use-is = rw (ne-eqb _ _ other);
     }
 
@@ -81,11 +81,11 @@ put-root-spec =
     tie.close
     (tie.spec
     cast-count
-    life-requires
+    root-entry-requires
     sub-last
     mul-last
     slice-read-last
-    birth-of-requires
+    root-birth-requires
     sub-roots
     mul-roots
     slice-write-roots

@@ -1,10 +1,11 @@
 use Rattle.ranges.proofs.SumLaws.{one-small}
-use Prim.Native.Nat.{_-_, _≤_}
+use Prim.Native.Nat.{ℕ, _-_, _≤_}
 use native.Mathlib.Omega.{arith}
-use mathlib.Core.Path.{_≡_, refl}
+use mathlib.Core.Path.{_≡_, refl, ap, _∙_}
+use mathlib.Core.Bool.{cond}
 use mathlib.Core.List.{map}
 use lib.ListN.{length, length-set}
-use Rattle.tree.specs.Row.{rowLimit, rowIn, live}
+use Rattle.tree.specs.Row.{rowLimit, rowAt, rowIn, live}
 use Rattle.ranges.specs.KeyRanges.{rangeOf, placeIn}
 use Rattle.live.specs.LiveRows.{liveRows}
 use Rattle.live.proofs.LiveLaws.{Listing, listing-starts, listing-on, listing-done, listed}
@@ -35,11 +36,8 @@ loop-holds c =
       listing-starts (a .page .now) (a .t) placeIn _ (a .rows) (a .places .now) refl,
     )
 
-mul-at : tie.Need-mul-at Inv-loop μ-loop
-mul-at c = search needs
-
-add-at : tie.Need-add-at Inv-loop μ-loop
-add-at c = search needs
+row-start-requires : tie.Need-row-start-requires Inv-loop μ-loop
+row-start-requires c κs = search needs
 
 mul-range-of : tie.Need-mul-range-of Inv-loop μ-loop
 mul-range-of c = search needs
@@ -76,9 +74,10 @@ count-live-requires c κs = search needs
 
 add-count : tie.Need-add-count Inv-loop μ-loop
 add-count c =
-    let a = c .before .before .before .before .before .before .before .before .before .before .args in
-    let l = c .before .before .before .before .before .loop in
-    omega (arith, one-small (live (a .t) (rowIn (a .page .now) (l .place))) (c .count-live .result) (c .count-live .ensures), l .inv .1)
+    let a = c .before .before .before .before .before .before .before .before .before .before .before .args in
+    let l = c .before .before .before .before .before .before .loop in
+    let counted = c .count-live .ensures ∙ ap (λ (at : ℕ). cond (live (a .t) (rowAt (a .page .now) at)) 1 0) (c .before .before .before .before .row-start .ensures) in
+    omega (arith, one-small (live (a .t) (rowIn (a .page .now) (l .place))) (c .count-live .result) counted, l .inv .1)
 
 add-place : tie.Need-add-place Inv-loop μ-loop
 add-place c = search needs
@@ -88,16 +87,19 @@ loop-less c = search needs
 
 loop-again : tie.Need-loop-again Inv-loop μ-loop
 loop-again c =
-    let a = c .before .before .before .before .before .before .before .before .before .before .args in
-    let l = c .before .before .before .before .before .loop in (
+    let a = c .before .before .before .before .before .before .before .before .before .before .before .args in
+    let l = c .before .before .before .before .before .before .loop in
+    let at-is = c .before .before .before .before .row-start .ensures in
+    let counted = c .count-live .ensures ∙ ap (λ (at : ℕ). cond (live (a .t) (rowAt (a .page .now) at)) 1 0) at-is in
+    let ranged = c .before .before .range-of .ensures ∙ ap (λ (at : ℕ). rangeOf (record { place = l .place; row = rowAt (a .page .now) at })) at-is in (
       search needs,
-      omega (arith, one-small (live (a .t) (rowIn (a .page .now) (l .place))) (c .count-live .result) (c .count-live .ensures), l .inv .1),
+      omega (arith, one-small (live (a .t) (rowIn (a .page .now) (l .place))) (c .count-live .result) counted, l .inv .1),
       simp length-set (search needs),
       simp length-set (search needs),
-      rw (c .count-live .ensures, c .before .before .range-of .ensures)
+      rw (counted, ranged)
           (listing-on (a .page .now) (a .t) rangeOf (map rangeOf (liveRows (a .t) (a .page .now) (a .rows))) (a .rows) (l .count) (l .place) (l .ranges)
           (omega arith) (omega arith) (l .inv .4)),
-      rw (c .count-live .ensures)
+      rw counted
           (listing-on (a .page .now) (a .t) placeIn (map placeIn (liveRows (a .t) (a .page .now) (a .rows))) (a .rows) (l .count) (l .place) (l .places)
           (omega arith) (omega arith) (l .inv .5)),
     )
@@ -124,8 +126,7 @@ list-live-spec =
     μ-loop
     ended-by-requires
     loop-holds
-    mul-at
-    add-at
+    row-start-requires
     mul-range-of
     shared-slice-read-range-of
     range-of-requires

@@ -3,14 +3,11 @@ use borrow.Author.Needs.{needs}
 use Rattle.page.proofs.edit.end_row.Statement.{statement}
 use Rattle.page.proofs.edit.end_row.Tie as tie
 
-mul-at : tie.Need-mul-at
-mul-at c = search needs
+row-start-requires : tie.Need-row-start-requires
+row-start-requires c κs = search needs
 
 add-at : tie.Need-add-at
 add-at c = search needs
-
-add-at-2 : tie.Need-add-at-2
-add-at-2 c = search needs
 
 mul-life : tie.Need-mul-life
 mul-life c = search needs
@@ -34,16 +31,15 @@ same-length : tie.Need-same-length
 same-length c = search needs
 
 returns : tie.Need-returns
-returns c = let a = c .before .before .before .before .args in
-    rw (c .life .ensures, c .before .birth-of .ensures) (end-word (a .page .now) (a .place) (a .t) (search needs))
+returns c = let a = c .before .before .before .before .before .args in
+    rw (c .life .ensures, c .before .birth-of .ensures, c .before .before .before .row-start .ensures) (end-word (a .page .now) (a .place) (a .t) (search needs))
 
 pub end-row-spec : {M : Type 1} → statement M
 end-row-spec =
     tie.close
     (tie.spec
-    mul-at
+    row-start-requires
     add-at
-    add-at-2
     mul-life
     slice-read-life
     birth-of-requires

@@ -1,21 +1,19 @@
 use Prim.Native.Nat.{_+_}
 use native.Mathlib.Omega.{arith}
 use Prim.Native.Nat.{ℕ}
-use mathlib.Core.Path.{ap₂, _∙_}
+use mathlib.Core.Path.{ap, ap₂, _∙_}
 use lib.ListN.{length-set, set}
+use mathlib.Core.List.{List}
 use Rattle.words.specs.Value.{encodeValue}
 use Rattle.words.specs.Overwrite.{overwrite}
-use Rattle.tree.specs.Row.{rowStart}
+use Rattle.tree.specs.Row.{rowStart, valueStart}
 use Rattle.page.proofs.EditLaws.{put-words}
 use borrow.Author.Needs.{needs}
 use Rattle.page.proofs.edit.put_row.Statement.{statement}
 use Rattle.page.proofs.edit.put_row.Tie as tie
 
-mul-at : tie.Need-mul-at
-mul-at c = search needs
-
-add-at : tie.Need-add-at
-add-at c = search needs
+row-start-requires : tie.Need-row-start-requires
+row-start-requires c κs = search needs
 
 row-keys-requires : tie.Need-row-keys-requires
 row-keys-requires c κs = search needs
@@ -48,9 +46,11 @@ same-length : tie.Need-same-length
 same-length c = c .before .before .write .kept .1 .0 ∙ simp length-set
 
 returns : tie.Need-returns
-returns c = let a = c .before .before .before .before .before .before .before .before .args in
+returns c = let a = c .before .before .before .before .before .before .before .before .before .args in
+    let stored : ℕ → ℕ → ℕ → List ℕ = λ at k l. overwrite (set (set (a .page .now) at k) (at + 1) l) (at + valueStart) (encodeValue (a .row .value)) in
     c .before .before .write .ensures
-    ∙ ap₂ (λ (k l : ℕ). overwrite (set (set (a .page .now) (rowStart (a .place)) k) (rowStart (a .place) + 1) l) (rowStart (a .place) + 2) (encodeValue (a .row .value)))
+    ∙ ap (λ (at : ℕ). stored at (c .before .before .before .before .before .before .row-keys .result) (c .before .before .before .before .before .life .result)) (c .before .before .before .before .before .before .before .row-start .ensures)
+    ∙ ap₂ (λ (k l : ℕ). stored (rowStart (a .place)) k l)
     (c .before .before .before .before .before .before .row-keys .ensures) (c .before .before .before .before .before .life .ensures)
     ∙ put-words (a .page .now) (a .place) (a .row) (search needs)
 
@@ -58,8 +58,7 @@ pub put-row-spec : {M : Type 1} → statement M
 put-row-spec =
     tie.close
     (tie.spec
-    mul-at
-    add-at
+    row-start-requires
     row-keys-requires
     mul-page
     slice-write-page

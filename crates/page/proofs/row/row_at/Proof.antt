@@ -2,11 +2,8 @@ use borrow.Author.Needs.{needs}
 use Rattle.page.proofs.row.row_at.Statement.{statement}
 use Rattle.page.proofs.row.row_at.Tie as tie
 
-mul-at : tie.Need-mul-at
-mul-at c = search needs
-
-add-at : tie.Need-add-at
-add-at c = search needs
+row-start-requires : tie.Need-row-start-requires
+row-start-requires c κs = search needs
 
 mul-keys : tie.Need-mul-keys
 mul-keys c = search needs
@@ -51,8 +48,7 @@ pub row-at-spec : {M : Type 1} → statement M
 row-at-spec =
     tie.close
     (tie.spec
-    mul-at
-    add-at
+    row-start-requires
     mul-keys
     shared-slice-read-keys
     add-life

@@ -15,6 +15,7 @@ use Rattle.plan.proofs.planning.plan_above.Reads as plan-above-reads
 use Rattle.plan.proofs.planning.plan_page.Reads as plan-page-reads
 use Rattle.plan.proofs.planning.+plan_from.{statement}
 use Rattle.plan.proofs.planning.+plan_from.Tie.{close}
+use Rattle.tree.specs.Plan.{mostMade}
 
 abbrev μ-plan-from : Measures 1 plan-from-kinds.ps ℕ
 μ-plan-from κs a = a .1 .1 .1 .0
@@ -224,7 +225,7 @@ plan-from-plan-above-requires t c κs =
       few-around (sym (c .before .before .before .before .before .meet-page .ensures)
           ∙ c .before .before .before .met2 .given .1) (met-few (a .table .now) (a .pages) (a .t) (a .k) (a .level) (a .low) (a .high)
           (a .page)),
-      plan-within (a .table .now) (a .pages) (a .t) (a .k) 6 (a .level - 1) _ _ _ (omega arith) (c .plan-from .ensures),
+      plan-within (a .table .now) (a .pages) (a .t) (a .k) (mostMade - 1) (a .level - 1) _ _ _ (omega arith) (c .plan-from .ensures),
     )
 
 plan-from-returns-2 : (t : ℕ) → plan-from-lts.Need-returns-2 (

@@ -1,7 +1,8 @@
-use Prim.Native.Nat.{_<_}
+use Prim.Native.Nat.{_+_, _<_}
 use native.Mathlib.Omega.{arith}
 use mathlib.Core.Path.{ap, sym, _∙_}
 use Rattle.words.specs.Words.{keyLimit}
+use Rattle.tree.specs.Plan.{mostMade}
 use Rattle.tree.specs.Tree.{Tree, lastRoot}
 use Rattle.plan.proofs.PlanBounds.{few-made, plan-within}
 use Rattle.plan.proofs.PlanRoot.{planEnd, some-root, no-root-plan, unused-plan, too-high-plan, opened-plan}
@@ -104,8 +105,8 @@ plan-top-requires c κs =
     let up = c .before .before .before .before .before .before in
     let far = up .before .before .before .before .before .before in
     let a = far .before .before .before .before .before .args in
-    let few = few-made 8 (c .before .before .before .planned .given .1)
-    (plan-within (a .table .now) (a .used .pages) (a .t) (a .k) 8 _ 0 keyLimit _ (omega arith)
+    let few = few-made (mostMade + 1) (c .before .before .before .planned .given .1)
+    (plan-within (a .table .now) (a .used .pages) (a .t) (a .k) (mostMade + 1) _ 0 keyLimit _ (omega arith)
     (c .before .before .before .before .before .plan-from .ensures)) in
     omega (arith, few)
 

@@ -1,3 +1,4 @@
+use Prim.Native.Nat.{_-_}
 use native.Mathlib.Omega.{arith}
 use mathlib.Core.Path.{ap, sym, _∙_}
 use borrow.Author.Tests.{eq-eqb, ne-eqb}
@@ -6,6 +7,7 @@ use Rattle.plan.proofs.PlanBounds.{few-made}
 use borrow.Author.Needs.{needs}
 use Rattle.plan.proofs.planning.plan_above.Statement.{statement}
 use Rattle.plan.proofs.planning.plan_above.Tie as tie
+use Rattle.tree.specs.Plan.{mostMade}
 
 enum-known-below : tie.Need-enum-known-below
 enum-known-below c = search needs
@@ -23,7 +25,7 @@ add-rows c = let few = c .before .before .before .before .pre .0 in omega arith
 
 plan-page-requires : tie.Need-plan-page-requires
 plan-page-requires c κs = let a = c .before .before .before .before .before .args in
-    let few = few-made 6 (c .before .before .before .below .given .1) (c .before .before .before .before .before .pre .1) in
+    let few = few-made (mostMade - 1) (c .before .before .before .below .given .1) (c .before .before .before .before .before .pre .1) in
     omega (arith, few)
 
 returns-2 : tie.Need-returns-2
@@ -40,23 +42,23 @@ sub-more c = search needs
 
 add-plan-page : tie.Need-add-plan-page
 add-plan-page c = let a = c .before .before .before .before .before .before .args in
-    let few = few-made 6 (c .before .before .before .before .below .given .1) (c .before .before .before .before .before .before .pre .1) in
+    let few = few-made (mostMade - 1) (c .before .before .before .before .below .given .1) (c .before .before .before .before .before .before .pre .1) in
     omega (arith, few, c .before .before .before .before .before .before .pre .0)
 
 add-plan-page-2 : tie.Need-add-plan-page-2
 add-plan-page-2 c = let a = c .before .before .before .before .before .before .args in
-    let few = few-made 6 (c .before .before .before .before .below .given .1) (c .before .before .before .before .before .before .pre .1) in
+    let few = few-made (mostMade - 1) (c .before .before .before .before .below .given .1) (c .before .before .before .before .before .before .pre .1) in
     omega (arith, few, c .before .before .before .before .before .before .pre .0)
 
 add-plan-page-3 : tie.Need-add-plan-page-3
 add-plan-page-3 c = let a = c .before .before .before .before .before .before .before .args in
-    let few = few-made 6 (c .before .before .before .before .before .below .given .1)
+    let few = few-made (mostMade - 1) (c .before .before .before .before .before .below .given .1)
     (c .before .before .before .before .before .before .before .pre .1) in
     omega (arith, few, c .before .before .before .before .before .before .before .pre .0)
 
 plan-page-requires-2 : tie.Need-plan-page-requires-2
 plan-page-requires-2 c κs = let a = c .before .before .before .before .before .before .before .args in
-    let few = few-made 6 (c .before .before .before .before .before .below .given .1)
+    let few = few-made (mostMade - 1) (c .before .before .before .before .before .below .given .1)
     (c .before .before .before .before .before .before .before .pre .1) in
     omega (arith, few)
 

@@ -2,7 +2,7 @@ use Prim.Native.Nat.{ℕ, _+_, _-_, _≤_, _<_}
 use native.Mathlib.Omega.{arith}
 use lib.ListN.{getD}
 use borrow.Author.Tests.{eqb-true}
-use Rattle.words.specs.Words.{birthOf}
+use Rattle.words.specs.Words.{rootBirth}
 use Rattle.roots.proofs.RootSearch.{later-more}
 use borrow.Author.Needs.{needs}
 use Rattle.roots.proofs.search.all_later.Statement.{statement}
@@ -10,7 +10,7 @@ use Rattle.roots.proofs.search.all_later.Tie as tie
 
 abbrev Inv-loop : tie.InvT-loop
 Inv-loop roots from t later₀ at₀ later at =
-    (at ≤ 32) × (later ≤ at) × (at ≤ later → (i : ℕ) → i < at → t < birthOf (getD roots (from + i) 0))
+    (at ≤ 32) × (later ≤ at) × (at ≤ later → (i : ℕ) → i < at → t < rootBirth (getD roots (from + i) 0))
 
 abbrev μ-loop : tie.MeasureT-loop
 μ-loop roots from t later₀ at₀ later at = 32 - at
@@ -27,8 +27,8 @@ mul-entry c = search needs
 shared-slice-read-entry : tie.Need-shared-slice-read-entry Inv-loop μ-loop
 shared-slice-read-entry c = search needs
 
-birth-of-requires : tie.Need-birth-of-requires Inv-loop μ-loop
-birth-of-requires c κs = search needs
+root-birth-requires : tie.Need-root-birth-requires Inv-loop μ-loop
+root-birth-requires c κs = search needs
 
 one-if-later-requires : tie.Need-one-if-later-requires Inv-loop μ-loop
 one-if-later-requires c κs = search needs
@@ -47,8 +47,8 @@ loop-again c =
     let a = c .before .before .before .before .before .before .args in
     let l = c .before .before .before .before .loop in
     let one : c .one-if-later .result ≤ 1 = c .one-if-later .ensures .0 in
-    let last : 1 ≤ c .one-if-later .result → a .t < birthOf (getD (a .roots .now) (a .from + l .at) 0) =
-    λ h. omega (arith, c .one-if-later .ensures .1 h, c .before .birth-of .ensures) in
+    let last : 1 ≤ c .one-if-later .result → a .t < rootBirth (getD (a .roots .now) (a .from + l .at) 0) =
+    λ h. omega (arith, c .one-if-later .ensures .1 h, c .before .root-birth .ensures) in
     (omega arith, omega arith, later-more (a .roots .now) (a .t) (a .from) (l .at) (l .later) (c .one-if-later .result) (l .inv .1) (l .inv .2) one last)
 
 cast-result : tie.Need-cast-result Inv-loop μ-loop
@@ -69,7 +69,7 @@ all-later-spec =
     add-entry
     mul-entry
     shared-slice-read-entry
-    birth-of-requires
+    root-birth-requires
     one-if-later-requires
     add-later
     add-at

@@ -3,7 +3,7 @@ use native.Mathlib.Omega.{arith}
 use mathlib.Core.Path.{_≡_, ap, sym, _∙_}
 use borrow.Author.Needs.{needs}
 use lib.ListN.{length, take, getD}
-use Rattle.words.specs.Words.{birthOf}
+use Rattle.words.specs.Words.{rootBirth}
 use Rattle.tree.specs.declared.types.Root.the-variants.{At}
 use Rattle.tree.specs.Tree.{rootFor}
 use Rattle.roots.proofs.RootSearch.{root-none, root-hit, root-miss}
@@ -29,18 +29,18 @@ mul-entry c = search needs
 shared-slice-read-entry : tie.Need-shared-slice-read-entry Inv-loop μ-loop
 shared-slice-read-entry c = search needs
 
-birth-of-requires : tie.Need-birth-of-requires Inv-loop μ-loop
-birth-of-requires c κs = search needs
+root-birth-requires : tie.Need-root-birth-requires Inv-loop μ-loop
+root-birth-requires c κs = search needs
 
-end-of-requires : tie.Need-end-of-requires Inv-loop μ-loop
-end-of-requires c κs = search needs
+root-page-requires : tie.Need-root-page-requires Inv-loop μ-loop
+root-page-requires c κs = search needs
 
 returns : tie.Need-returns Inv-loop μ-loop
 returns c =
     let a = c .before .before .before .before .before .before .before .args in
     let l = c .before .before .before .before .before .loop in
-    let born : birthOf (getD (a .roots .now) (l .left - 1) 0) ≤ a .t = omega (arith, c .before .before .birth-of .ensures, c .before .if1 .taken) in
-    ap At (c .end-of .ensures) ∙ sym (root-hit (a .roots .now) (a .t) (c .before .before .before .before .loop-test .taken) (l .inv .0) born) ∙ l .inv .1
+    let born : rootBirth (getD (a .roots .now) (l .left - 1) 0) ≤ a .t = omega (arith, c .before .before .root-birth .ensures, c .before .if1 .taken) in
+    ap At (c .root-page .ensures) ∙ sym (root-hit (a .roots .now) (a .t) (c .before .before .before .before .loop-test .taken) (l .inv .0) born) ∙ l .inv .1
 
 sub-left : tie.Need-sub-left Inv-loop μ-loop
 sub-left c = search needs
@@ -52,7 +52,7 @@ loop-again : tie.Need-loop-again Inv-loop μ-loop
 loop-again c =
     let a = c .before .before .before .before .before .before .args in
     let l = c .before .before .before .before .loop in
-    let later : a .t < birthOf (getD (a .roots .now) (l .left - 1) 0) = omega (arith, c .before .birth-of .ensures, c .if1 .left) in
+    let later : a .t < rootBirth (getD (a .roots .now) (l .left - 1) 0) = omega (arith, c .before .root-birth .ensures, c .if1 .left) in
     (omega arith, sym (root-miss (a .roots .now) (a .t) (c .before .before .before .loop-test .taken) (l .inv .0) later) ∙ l .inv .1)
 
 returns-2 : tie.Need-returns-2 Inv-loop μ-loop
@@ -70,8 +70,8 @@ walk-roots-spec =
     sub-entry
     mul-entry
     shared-slice-read-entry
-    birth-of-requires
-    end-of-requires
+    root-birth-requires
+    root-page-requires
     returns
     sub-left
     loop-less

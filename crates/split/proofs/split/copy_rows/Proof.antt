@@ -7,8 +7,7 @@ use Rattle.words.specs.declared.value.Value.{Value}
 use Rattle.words.specs.Value as value
 use Rattle.page.specs.declared.fresh.Page.{Page}
 use Rattle.page.specs.PageValue.{emptyPage, encodePage}
-use Rattle.page.specs.Entries.{orderSize}
-use Rattle.tree.specs.Row.{word, copyLimit}
+use Rattle.tree.specs.Row.{word, copyLimit, mostRows}
 use Rattle.tree.specs.Tree.{putPage}
 use Rattle.split.specs.SplitWords.{between, fillPage, gainPage}
 use Rattle.split.proofs.SplitRows.{start-in, in-words, copy-table}
@@ -32,8 +31,8 @@ put-rows-requires : tie.Need-put-rows-requires
 put-rows-requires c κs =
     let a = c .before .before .before .before .before .before .before .before .args in
     let from = c .before .before .before .before .before .before .before .before .pre .0 in
-    let few : orderSize ≤ a .start + copyLimit = c .before .before .before .before .before .before .before .before .pre .1 .0 in
-    let inside : a .start ≤ orderSize = start-in (a .t) (a .words .now) (a .order .now) (a .start) from in
+    let few : mostRows ≤ a .start + copyLimit = c .before .before .before .before .before .before .before .before .pre .1 .0 in
+    let inside : a .start ≤ mostRows = start-in (a .t) (a .words .now) (a .order .now) (a .start) from in
     (omega (arith, from .room), (from .long, (inside, (omega arith, (omega arith, (in-words (a .t) (a .words .now) (a .order .now) (a .start) from, search needs))))))
 
 same-length : tie.Need-same-length
@@ -47,7 +46,7 @@ returns c =
     let blank : emptyPage (word ws 0) (c .before .before .before .before .before .before .low-key .result) (c .before .before .before .before .before .high-key .result) (a .t) ≡ emptyPage (word ws 0) (lowKey (word ws 2)) (highKey (word ws 2)) (a .t) =
     ap₂ (λ (l h : ℕ). emptyPage (word ws 0) l h (a .t)) (c .before .before .before .before .before .before .low-key .ensures) (c .before .before .before .before .before .high-key .ensures) in
     c .before .before .put-rows .ensures
-    ∙ ap₂ (λ (v : Value) (b : Page). putPage (a .table .now) (a .number) (encodePage (gainPage v (fillPage ws (a .t) b (between (a .start) orderSize (a .order .now))))))
+    ∙ ap₂ (λ (v : Value) (b : Page). putPage (a .table .now) (a .number) (encodePage (gainPage v (fillPage ws (a .t) b (between (a .start) mostRows (a .order .now))))))
     (c .before .before .before .before .zero .ensures) blank
     ∙ copy-table (a .t) ws (a .order .now) (a .start) (c .before .before .before .before .before .before .before .before .before .before .before .pre .0) small (a .table .now) (a .number) (c .before .before .before .before .before .before .before .before .before .before .before .pre .1 .0)
 

@@ -3,11 +3,11 @@ use native.Mathlib.Omega.{arith}
 use mathlib.Core.Path.{_≡_, ap, sym, _∙_}
 use lib.ListN.{length, drop, getD}
 use Rattle.tree.specs.declared.types.Row.{Row}
-use Rattle.tree.specs.Row.{word, rowStart, rowWords, rowLimit, rowIn}
+use Rattle.tree.specs.Row.{word, rowStart, rowWords, rowLimit, rowIn, mostRows}
 use Rattle.tree.specs.Edit.{bornAt}
 use Rattle.page.specs.declared.fresh.Page.{Page}
 use Rattle.page.specs.PageValue.{withRow, emptyPage}
-use Rattle.page.specs.Entries.{orderSize, entryPlace, InPage}
+use Rattle.page.specs.Entries.{entryPlace, InPage}
 use Rattle.words.proofs.LoopLaws.{all-here}
 use Rattle.split.specs.SplitWords.{between, copyOf, fillPage}
 use Rattle.split.proofs.SplitLaws.{fill-more, fill-none}
@@ -73,8 +73,8 @@ loop-again : tie.Need-loop-again Inv-loop μ-loop
 loop-again c =
     let a = c .before .before .before .before .before .before .before .before .before .before .args in
     let pre = c .before .before .before .before .before .before .before .before .before .before .pre in
-    let long : length (a .order .now) ≡ orderSize = pre .1 .0 in
-    let inside : a .to ≤ orderSize = pre .1 .1 .1 .0 in
+    let long : length (a .order .now) ≡ mostRows = pre .1 .0 in
+    let inside : a .to ≤ mostRows = pre .1 .1 .1 .0 in
     let l = c .before .before .before .before .before .loop in
     let more = c .before .before .before .before .loop-test .taken in
     let here : c .born-at .result ≡ copyOf (a .words .now) (a .t) (getD (a .order .now) (l .at) 0) =

@@ -8,9 +8,9 @@ use Rattle.words.specs.declared.value.Value.{Value}
 use Rattle.words.specs.Value as value
 use Rattle.tree.specs.declared.types.Row.{Row}
 use Rattle.page.specs.declared.fresh.Page.{Page}
-use Rattle.tree.specs.Row.{word, rowStart, rowWords, copyLimit, rowIn}
+use Rattle.tree.specs.Row.{word, rowStart, rowWords, copyLimit, rowIn, mostRows}
 use Rattle.page.specs.PageValue.{emptyPage, encodePage}
-use Rattle.page.specs.Entries.{orderSize, entryPlace}
+use Rattle.page.specs.Entries.{entryPlace}
 use Rattle.words.proofs.LoopLaws.{all-here}
 use Rattle.tree.specs.Tree.{putPage}
 use Rattle.tree.specs.Overflow.{lowerHalf}
@@ -48,10 +48,10 @@ row-at-requires c κs =
     let os = a .order .now in
     let from = c .before .before .before .before .before .before .before .before .before .pre .0 in
     let cut : ℕ = c .before .before .before .before .before .lower-end .result in
-    let where-cut : cut ≡ a .start + lowerHalf (orderSize - a .start) = c .before .before .before .before .before .lower-end .ensures in
-    let many : a .start + copyLimit < orderSize = c .before .before .before .before .before .before .before .before .before .pre .1 .0 in
+    let where-cut : cut ≡ a .start + lowerHalf (mostRows - a .start) = c .before .before .before .before .before .lower-end .ensures in
+    let many : a .start + copyLimit < mostRows = c .before .before .before .before .before .before .before .before .before .pre .1 .0 in
     let above : a .start ≤ cut = omega arith in
-    let inside : cut < orderSize = omega arith in
+    let inside : cut < mostRows = omega arith in
     rw (c .entry-place .ensures)
     (all-here os cut (λ (e : ℕ). rowStart (entryPlace e) + rowWords ≤ length ws) (omega (arith, from .long)) (in-words-from (a .t) ws os (a .start) from cut above) .0)
 
@@ -62,10 +62,10 @@ total-of-requires c κs =
     let os = a .order .now in
     let from = c .before .before .before .before .before .before .before .before .before .before .pre .0 in
     let cut : ℕ = c .before .before .before .before .before .before .lower-end .result in
-    let where-cut : cut ≡ a .start + lowerHalf (orderSize - a .start) = c .before .before .before .before .before .before .lower-end .ensures in
-    let many : a .start + copyLimit < orderSize = c .before .before .before .before .before .before .before .before .before .before .pre .1 .0 in
+    let where-cut : cut ≡ a .start + lowerHalf (mostRows - a .start) = c .before .before .before .before .before .before .lower-end .ensures in
+    let many : a .start + copyLimit < mostRows = c .before .before .before .before .before .before .before .before .before .before .pre .1 .0 in
     let above : a .start ≤ cut = omega arith in
-    let inside : cut < orderSize = omega arith in
+    let inside : cut < mostRows = omega arith in
     (from .long, (omega arith, (omega arith, in-words (a .t) ws os (a .start) from)))
 
 zero-requires : tie.Need-zero-requires
@@ -78,10 +78,10 @@ put-rows-requires c κs =
     let os = a .order .now in
     let from = c .before .before .before .before .before .before .before .before .before .before .before .before .before .pre .0 in
     let cut : ℕ = c .before .before .before .before .before .before .before .before .before .lower-end .result in
-    let where-cut : cut ≡ a .start + lowerHalf (orderSize - a .start) = c .before .before .before .before .before .before .before .before .before .lower-end .ensures in
-    let many : a .start + copyLimit < orderSize = c .before .before .before .before .before .before .before .before .before .before .before .before .before .pre .1 .0 in
+    let where-cut : cut ≡ a .start + lowerHalf (mostRows - a .start) = c .before .before .before .before .before .before .before .before .before .lower-end .ensures in
+    let many : a .start + copyLimit < mostRows = c .before .before .before .before .before .before .before .before .before .before .before .before .before .pre .1 .0 in
     let above : a .start ≤ cut = omega arith in
-    let inside : cut < orderSize = omega arith in
+    let inside : cut < mostRows = omega arith in
     (omega (arith, from .room), (from .long, (above, (omega arith, (omega arith, (in-words (a .t) ws os (a .start) from, c .before .before .before .before .before .before .before .before .before .before .before .before .before .pre .1 .1 .0))))))
 
 put-rows-requires-2 : tie.Need-put-rows-requires-2
@@ -91,10 +91,10 @@ put-rows-requires-2 c κs =
     let os = a .order .now in
     let from = c .before .before .before .before .before .before .before .before .before .before .before .before .before .before .before .before .before .pre .0 in
     let cut : ℕ = c .before .before .before .before .before .before .before .before .before .before .before .before .before .lower-end .result in
-    let where-cut : cut ≡ a .start + lowerHalf (orderSize - a .start) = c .before .before .before .before .before .before .before .before .before .before .before .before .before .lower-end .ensures in
-    let many : a .start + copyLimit < orderSize = c .before .before .before .before .before .before .before .before .before .before .before .before .before .before .before .before .before .pre .1 .0 in
+    let where-cut : cut ≡ a .start + lowerHalf (mostRows - a .start) = c .before .before .before .before .before .before .before .before .before .before .before .before .before .lower-end .ensures in
+    let many : a .start + copyLimit < mostRows = c .before .before .before .before .before .before .before .before .before .before .before .before .before .before .before .before .before .pre .1 .0 in
     let above : a .start ≤ cut = omega arith in
-    let inside : cut < orderSize = omega arith in (
+    let inside : cut < mostRows = omega arith in (
       omega (arith, from .room),
       (
         from .long,
@@ -121,10 +121,10 @@ returns c =
     let os = a .order .now in
     let from = c .before .before .before .before .before .before .before .before .before .before .before .before .before .before .before .before .before .before .before .before .pre .0 in
     let cut : ℕ = c .before .before .before .before .before .before .before .before .before .before .before .before .before .before .before .before .lower-end .result in
-    let where-cut : cut ≡ a .start + lowerHalf (orderSize - a .start) = c .before .before .before .before .before .before .before .before .before .before .before .before .before .before .before .before .lower-end .ensures in
-    let many : a .start + copyLimit < orderSize = c .before .before .before .before .before .before .before .before .before .before .before .before .before .before .before .before .before .before .before .before .pre .1 .0 in
+    let where-cut : cut ≡ a .start + lowerHalf (mostRows - a .start) = c .before .before .before .before .before .before .before .before .before .before .before .before .before .before .before .before .lower-end .ensures in
+    let many : a .start + copyLimit < mostRows = c .before .before .before .before .before .before .before .before .before .before .before .before .before .before .before .before .before .before .before .before .pre .1 .0 in
     let above : a .start ≤ cut = omega arith in
-    let inside : cut < orderSize = omega arith in
+    let inside : cut < mostRows = omega arith in
     let small : (i : ℕ) → word ws i < 2 ^ 64 = λ i. omega (arith, c .before .before .before .before .before .before .before .before .before .before .before .before .before .before .before .before .before .before .shared-slice-known .given i) in
     let key = c .before .before .before .before .before .before .before .before .before .before .row-at .result .low in
     let middle : key ≡ middleKey ws (a .t) =
@@ -136,7 +136,7 @@ returns c =
           ∙ ap₂ (λ (l p : List ℕ). putPage l (a .second) p)
           (c .before .before .before .before .before .before .put-rows .ensures
           ∙ ap₂ (λ (v : Value) (l : ℕ). putPage (a .table .now) (a .first) (made v l key (between (a .start) cut os))) (c .before .before .before .before .before .before .before .before .zero .ensures) (c .before .before .before .before .before .before .before .before .before .before .before .before .before .before .low-key .ensures))
-          (ap₂ (λ (v : Value) (h : ℕ). made v key h (between cut orderSize os)) (c .before .before .before .before .before .before .before .before .before .total-of .ensures) (c .before .before .before .before .before .before .before .before .before .before .before .before .before .high-key .ensures))
+          (ap₂ (λ (v : Value) (h : ℕ). made v key h (between cut mostRows os)) (c .before .before .before .before .before .before .before .before .before .total-of .ensures) (c .before .before .before .before .before .before .before .before .before .before .before .before .before .high-key .ensures))
           ∙ halve-table (a .t) ws os (a .start) from cut where-cut small (a .table .now) (a .first) (a .second) key middle,
     )
 

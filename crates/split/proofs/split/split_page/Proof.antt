@@ -2,8 +2,7 @@ use Prim.Native.Nat.{ℕ, _+_, _*_, _≤_, _<_}
 use native.Mathlib.Omega.{arith}
 use mathlib.Core.Path.{_≡_, refl, ap, ap₂, sym, subst, _∙_}
 use lib.ListN.{length}
-use Rattle.tree.specs.Row.{pageWords, copyLimit}
-use Rattle.page.specs.Entries.{orderSize}
+use Rattle.tree.specs.Row.{pageWords, copyLimit, mostRows}
 use Rattle.tree.specs.declared.types.Became.the-variants.{Copied, Halved}
 use Rattle.tree.specs.Overflow.{Written, takenPage}
 use Rattle.split.specs.SplitWords.{liveCopies, splitWords, copiedTable, halvedTable}
@@ -44,7 +43,7 @@ copy-rows-requires c κs = let a = c .before .before .before .before .before .be
     let ws = a .words .now in
     let from = sourced (a .t) ws _ (c .before .before .before .before .before .before .before .before .key-order .last .1 .1 .1 .0) (c .before .before .before .before .before .before .before .before .key-order .result) (c .before .before .before .before .before .before .before .before .before .before .before .before .before .pre .0) (c .before .before .before .before .before .before .before .before .before .before .before .before .before .pre .1 .0) refl
     (c .before .before .before .before .before .before .before .before .key-order .ensures .0) (c .before .before .before .before .before .before .before .before .key-order .ensures .1) in
-    let live : c .before .before .before .before .before .before .before .before .key-order .result + length (liveCopies ws (a .t)) ≡ orderSize =
+    let live : c .before .before .before .before .before .before .before .before .key-order .result + length (liveCopies ws (a .t)) ≡ mostRows =
     live-count (a .t) ws _ (c .before .before .before .before .before .before .before .before .key-order .result) from in
     let few : length (liveCopies ws (a .t)) ≤ copyLimit = omega (arith, live, c .before .before .if1 .taken) in
     let is = split-copied (a .table .now) (a .used) (a .made) ws (a .t) few in
@@ -65,7 +64,7 @@ returns c = let a = c .before .before .before .before .before .before .before .b
     let ws = a .words .now in
     let from = sourced (a .t) ws _ (c .before .before .before .before .before .before .before .before .before .before .before .key-order .last .1 .1 .1 .0) (c .before .before .before .before .before .before .before .before .before .before .before .key-order .result) (c .before .before .before .before .before .before .before .before .before .before .before .before .before .before .before .before .pre .0) (c .before .before .before .before .before .before .before .before .before .before .before .before .before .before .before .before .pre .1 .0) refl
     (c .before .before .before .before .before .before .before .before .before .before .before .key-order .ensures .0) (c .before .before .before .before .before .before .before .before .before .before .before .key-order .ensures .1) in
-    let live : c .before .before .before .before .before .before .before .before .before .before .before .key-order .result + length (liveCopies ws (a .t)) ≡ orderSize =
+    let live : c .before .before .before .before .before .before .before .before .before .before .before .key-order .result + length (liveCopies ws (a .t)) ≡ mostRows =
     live-count (a .t) ws _ (c .before .before .before .before .before .before .before .before .before .before .before .key-order .result) from in
     let few : length (liveCopies ws (a .t)) ≤ copyLimit = omega (arith, live, c .before .before .before .before .before .if1 .taken) in
     let is = split-copied (a .table .now) (a .used) (a .made) ws (a .t) few in
@@ -93,7 +92,7 @@ halve-rows-requires c κs = let a = c .before .before .before .before .before .b
     let ws = a .words .now in
     let from = sourced (a .t) ws _ (c .before .before .before .before .before .before .before .before .before .key-order .last .1 .1 .1 .0) (c .before .before .before .before .before .before .before .before .before .key-order .result) (c .before .before .before .before .before .before .before .before .before .before .before .before .before .before .pre .0) (c .before .before .before .before .before .before .before .before .before .before .before .before .before .before .pre .1 .0) refl
     (c .before .before .before .before .before .before .before .before .before .key-order .ensures .0) (c .before .before .before .before .before .before .before .before .before .key-order .ensures .1) in
-    let live : c .before .before .before .before .before .before .before .before .before .key-order .result + length (liveCopies ws (a .t)) ≡ orderSize =
+    let live : c .before .before .before .before .before .before .before .before .before .key-order .result + length (liveCopies ws (a .t)) ≡ mostRows =
     live-count (a .t) ws _ (c .before .before .before .before .before .before .before .before .before .key-order .result) from in
     let many : copyLimit < length (liveCopies ws (a .t)) = omega (arith, live, c .before .before .before .if1 .left) in
     let is = split-halved (a .table .now) (a .used) (a .made) ws (a .t) many in
@@ -115,7 +114,7 @@ returns-2 c = let a = c .before .before .before .before .before .before .before 
     let ws = a .words .now in
     let from = sourced (a .t) ws _ (c .before .before .before .before .before .before .before .before .before .before .before .before .key-order .last .1 .1 .1 .0) (c .before .before .before .before .before .before .before .before .before .before .before .before .key-order .result) (c .before .before .before .before .before .before .before .before .before .before .before .before .before .before .before .before .before .pre .0) (c .before .before .before .before .before .before .before .before .before .before .before .before .before .before .before .before .before .pre .1 .0) refl
     (c .before .before .before .before .before .before .before .before .before .before .before .before .key-order .ensures .0) (c .before .before .before .before .before .before .before .before .before .before .before .before .key-order .ensures .1) in
-    let live : c .before .before .before .before .before .before .before .before .before .before .before .before .key-order .result + length (liveCopies ws (a .t)) ≡ orderSize =
+    let live : c .before .before .before .before .before .before .before .before .before .before .before .before .key-order .result + length (liveCopies ws (a .t)) ≡ mostRows =
     live-count (a .t) ws _ (c .before .before .before .before .before .before .before .before .before .before .before .before .key-order .result) from in
     let many : copyLimit < length (liveCopies ws (a .t)) = omega (arith, live, c .before .before .before .before .before .before .if1 .left) in
     let is = split-halved (a .table .now) (a .used) (a .made) ws (a .t) many in

@@ -74,26 +74,24 @@ loop-again c = let a = c .before .before .before .before .before .before .before
       (base .0, base .1, rw (c .before .before .put-row .ensures, base .2) (row-words (base .0) (a .t1) (base .1) full _ (l .place) (omega arith))),
     )
 
-mul-clear-from : tie.Need-mul-clear-from Inv-loop μ-loop
-mul-clear-from c = search needs
-
-add-clear-from : tie.Need-add-clear-from Inv-loop μ-loop
-add-clear-from c = search needs
+row-start-requires : tie.Need-row-start-requires Inv-loop μ-loop
+row-start-requires c κs = search needs
 
 clear-from-requires : tie.Need-clear-from-requires Inv-loop μ-loop
 clear-from-requires c κs = search needs
 
 same-length : tie.Need-same-length Inv-loop μ-loop
-same-length c = omega (arith, c .before .before .clear-from .kept .0, c .before .before .before .before .before .loop .inv .2)
+same-length c = omega (arith, c .before .before .clear-from .kept .0, c .before .before .before .before .before .before .loop .inv .2)
 
 returns : tie.Need-returns Inv-loop μ-loop
-returns c = let a = c .before .before .before .before .before .before .before .before .args in
-    let l = c .before .before .before .before .before .loop in
+returns c = let a = c .before .before .before .before .before .before .before .before .before .args in
+    let l = c .before .before .before .before .before .before .loop in
     let full : length (a .t1 .rows) ≡ rowLimit = search (needs, length-mapped) in
     let base = l .inv .3 in
     let n = a .t1 .count in
     let here : l .place ≡ n = omega arith in
     c .before .before .clear-from .ensures
+    ∙ ap (λ (at : ℕ). overwrite (l .words) at (zeros (length (l .words) - at))) (c .before .before .before .row-start .ensures)
     ∙ ap (λ (w : List ℕ). overwrite w (rowStart n) (zeros (length w - rowStart n))) (base .2 ∙ ap (λ (m : ℕ). overwrite (base .0) 0 (upTo (a .t1) m)) here)
     ∙ whole-words (base .0) (a .t1) (base .1) full n refl (search needs)
 
@@ -116,8 +114,7 @@ write-spec =
     add-place
     loop-less
     loop-again
-    mul-clear-from
-    add-clear-from
+    row-start-requires
     clear-from-requires
     same-length
     returns)
