@@ -129,12 +129,15 @@ fn run(
     }
 }
 
-// "the program's own tables hold 12 pages a tree and 12 roots".
+// "the program's own tables hold 12 pages a tree and 12 roots": arrays of 3,120 words and of 12.
+const PAGES: usize = 12;
+const TABLE_WORDS: usize = PAGES * page::Page::WORDS;
+
 fn main() {
-    let mut start_table = [0u64; 3120];
-    let mut start_roots = [0u64; 12];
-    let mut end_table = [0u64; 3120];
-    let mut end_roots = [0u64; 12];
+    let mut start_table = [0u64; TABLE_WORDS];
+    let mut start_roots = [0u64; PAGES];
+    let mut end_table = [0u64; TABLE_WORDS];
+    let mut end_roots = [0u64; PAGES];
     let reply = updates::open(
         head::opened_head(),
         &mut start_table,

@@ -5,27 +5,29 @@ use crate::left_behind::memory_sum;
 use crate::paths::height;
 use crate::paths::pages_opened;
 use crate::paths::word_at;
+use page::Page;
 use pass_book::Call;
 use store::Answer;
 use store::Head;
 use tree::TreeUse;
 use updates::Reply;
 ghost use Prim.Native.Nat.{_≤_};
+ghost use Rattle.tree.specs.Plan.{mostMade};
 
-// The most pages that an entry makes in a tree so many pages high: two on each level and a new root, but never more than seven.
+// The most pages that an entry makes in a tree so many pages high: two on each level and a new root, but no root above the top level.
 fn most_made(height: u64) -> u64
-    ensures { λ r. ⌜ r ≤ 7 ⌝ }
+    ensures { λ r. ⌜ r ≤ mostMade ⌝ }
 {
-    if height < 3 {
+    if height < TreeUse::TOP_LEVEL {
         return 2 * height + 1;
     }
-    7
+    2 * TreeUse::TOP_LEVEL + 1
 }
 
 // Whether a tree may lack pages for an entry: more may be made than are left.
 fn may_lack_pages(table: &[u64], roots: &[u64], used: TreeUse) -> bool {
     let most = most_made(height(table, roots, used.roots));
-    table.len() as u64 / 260 < used.pages as u64 + most
+    (table.len() / Page::WORDS) as u64 < used.pages as u64 + most
 }
 
 // Whether a tree may lack a place for a root at a tick: the list is full, and the last root was not born at the tick, so that it would not
@@ -35,7 +37,7 @@ fn may_lack_root(roots: &[u64], used: TreeUse, tick: u32) -> bool {
         return false;
     }
     let last = std::num::wrapping_sub_u32(used.roots, 1);
-    words::birth_of(word_at(roots, last as usize)) < tick
+    words::root_birth(word_at(roots, last as usize)) < tick
 }
 
 // 27 or 28 where the store said so and where it can be so, else 0.

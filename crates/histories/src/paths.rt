@@ -1,8 +1,11 @@
 // Pages opened, by the words that the store holds: the lengths of the paths of a question's or a lookup's lookups.
+use page::Page;
 use pass_book::Asked;
 use store::Head;
 use store::TreeName;
+use tree::Row;
 ghost use Prim.Native.Nat.{_≤_};
+ghost use Rattle.tree.specs.Row.{rowLimit};
 
 // A word of a lent slice, and 0 beyond its end.
 pub fn word_at(slice: &[u64], at: usize) -> u64 {
@@ -18,8 +21,8 @@ fn root_page(roots: &[u64], used: u32, t: u32) -> u32 {
     while 0 < left {
         left -= 1;
         let entry = word_at(roots, left as usize);
-        if words::birth_of(entry) <= t {
-            return words::end_of(entry);
+        if words::root_birth(entry) <= t {
+            return words::root_page(entry);
         }
     }
     0
@@ -41,23 +44,23 @@ fn holds(keys: u64, life: u64, t: u32, k: u32) -> bool {
 
 // How many rows a page has.
 fn row_count(table: &[u64], page: u32) -> usize
-    ensures { λ r. ⌜ r ≤ 64 ⌝ }
+    ensures { λ r. ⌜ r ≤ rowLimit ⌝ }
 {
-    let rows = word_at(table, page as usize * 260 + 1);
-    if 64 < rows {
-        return 64;
+    let rows = word_at(table, page as usize * Page::WORDS + 1);
+    if (Page::ROWS as u64) < rows {
+        return Page::ROWS;
     }
     rows as usize
 }
 
 // The child of the row that holds (t, k).
 fn child(table: &[u64], page: u32, t: u32, k: u32) -> u32 {
-    let from = page as usize * 260 + 4;
+    let from = page as usize * Page::WORDS + Page::HEADER_WORDS;
     let rows = row_count(table, page);
     let mut row: usize = 0;
     while row < rows {
-        let keys = word_at(table, from + 4 * row);
-        let life = word_at(table, from + 4 * row + 1);
+        let keys = word_at(table, from + Row::WORDS * row);
+        let life = word_at(table, from + Row::WORDS * row + 1);
         if holds(keys, life, t, k) {
             return words::child_page(keys);
         }
@@ -72,7 +75,7 @@ fn path_length(table: &[u64], roots: &[u64], used: u32, t: u32, k: u32) -> u32 {
     let mut page = root_page(roots, used, t);
     let mut length: u32 = 1;
     while length < 5 {
-        if word_at(table, page as usize * 260) == 0 {
+        if word_at(table, page as usize * Page::WORDS) == 0 {
             return length;
         }
         page = child(table, page, t, k);
@@ -140,6 +143,6 @@ pub fn pages_opened(
 // "A tree is as many pages high as the level of its last root plus 1."
 pub fn height(table: &[u64], roots: &[u64], used: u32) -> u64 {
     let last = std::num::wrapping_sub_u32(used, 1);
-    let page = words::end_of(word_at(roots, last as usize));
-    std::num::wrapping_add_u64(word_at(table, page as usize * 260), 1)
+    let page = words::root_page(word_at(roots, last as usize));
+    std::num::wrapping_add_u64(word_at(table, page as usize * Page::WORDS), 1)
 }

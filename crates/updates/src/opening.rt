@@ -29,7 +29,7 @@ fn open_tree(table: &mut [u64], roots: &mut [u64])
         0,
         Page::empty(0, 0, words::KEY_LIMIT, 0).with_row(row),
     );
-    roots[0] = words::life(0, 0);
+    roots[0] = words::root_entry(0, 0);
 }
 
 // Opens a store in the memory that is lent, whatever it holds. Refused, it changes nothing and hands back the head that it got.

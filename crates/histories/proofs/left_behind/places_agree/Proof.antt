@@ -2,16 +2,17 @@ use Rattle.tree.proofs.Lists.{length-mapped}
 use Prim.Native.Nat.{_-_, _≤_}
 use mathlib.Core.Path.{_≡_}
 use lib.ListN.{length}
+use Rattle.store.specs.Head.{openLimit}
 use borrow.Author.Needs.{needs}
 use Rattle.histories.proofs.left_behind.places_agree.Statement.{statement}
 use Rattle.histories.proofs.left_behind.places_agree.Tie as tie
 
 abbrev Inv-loop : tie.InvT-loop
 Inv-loop passes started head place₀ least₀ place least =
-    (place ≤ 64) × (length (head .passes) ≡ 64)
+    (place ≤ openLimit) × (length (head .passes) ≡ openLimit)
 
 abbrev μ-loop : tie.MeasureT-loop
-μ-loop passes started head place₀ least₀ place least = 64 - place
+μ-loop passes started head place₀ least₀ place least = openLimit - place
 
 loop-holds : tie.Need-loop-holds Inv-loop μ-loop
 loop-holds c = (search needs, search (needs, length-mapped))

@@ -1,11 +1,12 @@
 use Prim.Native.Nat.{_-_, _≤_, _^_}
+use Rattle.tree.specs.Row.{rowLimit}
 use borrow.Author.Needs.{needs}
 use Rattle.histories.proofs.paths.child.Statement.{statement}
 use Rattle.histories.proofs.paths.child.Tie as tie
 
 abbrev Inv-loop : tie.InvT-loop
 Inv-loop table page t k from rows row₀ row =
-    (row ≤ rows) × (rows ≤ 64) × (from ≤ 2 ^ 42)
+    (row ≤ rows) × (rows ≤ rowLimit) × (from ≤ 2 ^ 42)
 
 abbrev μ-loop : tie.MeasureT-loop
 μ-loop table page t k from rows row₀ row = rows - row

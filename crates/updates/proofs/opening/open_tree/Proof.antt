@@ -24,8 +24,8 @@ with-row-requires c κs = rw (c .empty .ensures) (omega arith)
 put-page-requires : tie.Need-put-page-requires
 put-page-requires c κs = (omega arith, rw (c .with-row .ensures, c .before .empty .ensures) (omega arith))
 
-life-requires : tie.Need-life-requires
-life-requires c κs = search needs
+root-entry-requires : tie.Need-root-entry-requires
+root-entry-requires c κs = search needs
 
 slice-write-roots : tie.Need-slice-write-roots
 slice-write-roots c = search needs
@@ -40,7 +40,7 @@ returns : tie.Need-returns
 returns c =
     let a = c .before .before .before .before .before .before .before .before .before .before .before .args in
     let page : encodePage (c .before .before .before .before .with-row .result) ≡ firstPage = rw (c .before .before .before .before .with-row .ensures, c .before .before .before .before .before .empty .ensures, c .before .before .before .before .before .before .before .new-row .ensures, c .before .before .before .before .before .before .before .before .zero .ensures) first-page in
-    (c .before .before .before .put-page .ensures ∙ ap (putPage (a .table .now) 0) page, rw (c .life .ensures) (overwrite-one (a .roots .now) 0 0 (omega arith)))
+    (c .before .before .before .put-page .ensures ∙ ap (putPage (a .table .now) 0) page, rw (c .root-entry .ensures) (overwrite-one (a .roots .now) 0 0 (omega arith)))
 
 pub open-tree-spec : {M : Type 1} → statement M
 open-tree-spec =
@@ -51,7 +51,7 @@ open-tree-spec =
     empty-requires
     with-row-requires
     put-page-requires
-    life-requires
+    root-entry-requires
     slice-write-roots
     same-length
     same-length-2
