@@ -131,6 +131,7 @@ fn run(
 
 // "the program's own tables hold 12 pages a tree and 12 roots": arrays of 3,120 words and of 12.
 const PAGES: usize = 12;
+
 const TABLE_WORDS: usize = PAGES * page::Page::WORDS;
 
 fn main() {

@@ -27,7 +27,8 @@ fn most_made(height: u64) -> u64
 // Whether a tree may lack pages for an entry: more may be made than are left.
 fn may_lack_pages(table: &[u64], roots: &[u64], used: TreeUse) -> bool {
     let most = most_made(height(table, roots, used.roots));
-    (table.len() / Page::WORDS) as u64 < used.pages as u64 + most
+    let whole = table.len() / Page::WORDS;
+    (whole as u64) < used.pages as u64 + most
 }
 
 // Whether a tree may lack a place for a root at a tick: the list is full, and the last root was not born at the tick, so that it would not

@@ -43,7 +43,6 @@ question-keeps s k1 k2 t1 t2 = go (refusal s (question k1 k2 t1 t2))
     go (suc n) = refl
 
 module _ (s : Store) where
-
   stopped : (n : ℕ) (r : Ran) (before out : List ℕ) → out ≡ overwrite before 0 (n ∷ []) → r ≡ record { head = s .head; length = 1; on = false }
       → RanAs (stops s (n ∷ [])) r before out (s .lent)
   stopped n r before out e is =

@@ -94,8 +94,7 @@ module _ (s : Store) (b : Book) (a : Agrees s b) (tick key weight : ℕ) (argume
             );
         most = omega (arith, room-left);
         kept =
-            all-append (PassKept tick) (b .passes) (pass ∷ []) old-kept
-            (
+            all-append (PassKept tick) (b .passes) (pass ∷ []) old-kept (
               record { key = arguments .bounds .key; some = arguments .some; weight = arguments .weight-fits; start = omega arith; lived = tt },
               tt,
             );
