@@ -10,10 +10,10 @@ use Rattle.tree.specs.Row.{pageWords}
 use Rattle.tree.specs.Tree.{Tree}
 use Rattle.tree.proofs.Main.{UseFits}
 use Rattle.store.specs.declared.types.TreeName.{TreeName}
-use Rattle.store.specs.declared.types.TreeName.the-variants.{Starts, Ends}
-use Rattle.store.specs.Trees.{Store, treeIn, eachTree}
+use Rattle.store.specs.Trees.{Store, treeIn}
 use Rattle.store.specs.Head.{openLimit, passLimit, openPasses, passesFit, numbersRise, useFits, headFits}
 use Rattle.store.specs.Refusals.{firstMet}
+use Rattle.store.proofs.TreeLaws.{of-each}
 use Rattle.refusals.specs.Grounds.{headGrounds}
 
 use-facts : (tree : Tree) → useFits tree ≡ true → UseFits tree
@@ -39,10 +39,6 @@ pub record HeadFacts (s : Store) : Type 0 where
   pub trees : (name : TreeName) → UseFits (treeIn s name)
 
 module _ (s : Store) where
-  trees-facts : eachTree (λ (name : TreeName). useFits (treeIn s name)) ≡ true → (name : TreeName) → UseFits (treeIn s name)
-  trees-facts e Starts = use-facts (treeIn s Starts) (and-eq-true-iff (useFits (treeIn s Starts)) (useFits (treeIn s Ends)) .0 e .0)
-  trees-facts e Ends = use-facts (treeIn s Ends) (and-eq-true-iff (useFits (treeIn s Starts)) (useFits (treeIn s Ends)) .0 e .1)
-
   head-facts : headFits s ≡ true → HeadFacts s
   unfolding headFits
   head-facts e =
@@ -50,7 +46,7 @@ module _ (s : Store) where
       let b = and-eq-true-iff (passesFit (s .head .started) (s .head .last) (openPasses (s .head))) _ .0 (a .1) in
       let c = and-eq-true-iff (numbersRise (openPasses (s .head))) _ .0 (b .1) in
       let d = and-eq-true-iff (leb (s .head .started) passLimit) _ .0 (c .1) in
-      record { count = leb-true _ _ (a .0); passes = b .0; started = leb-true _ _ (d .0); trees = trees-facts (d .1) }
+      record { count = leb-true _ _ (a .0); passes = b .0; started = leb-true _ _ (d .0); trees = λ name. use-facts (treeIn s name) (of-each (λ (n : TreeName). useFits (treeIn s n)) (d .1) name) }
 
   -- No ground for 20 is met
   pub fits-head : firstMet (headGrounds s) ≡ 0 → HeadFacts s

@@ -1,8 +1,8 @@
 -- Demand 3: a store from its opening on answers as the pass book does.
 pub mod SumLaws
 pub mod Intersections
-pub mod TreeLaws
 pub mod RefusalLaws
+pub mod TreeLaws
 pub mod NumberOrder
 pub mod ArgumentFacts
 pub mod PointLaws

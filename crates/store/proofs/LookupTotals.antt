@@ -77,12 +77,14 @@ module _ (points : List Point) (light : All Light points) (few : length points �
 
 -- In a store that agrees with a book, the lookup of each tree gives the totals of the points that the book says the tree took
 module _ (s : Store) (b : Book) (a : Agrees s b) where
+  weights : All (λ (p : Pass). p .weight ≤ weightLimit) (b .passes)
+  weights = all-map (PassKept (b .last)) (λ (p : Pass). p .weight ≤ weightLimit) (λ p k. k .weight) (b .passes) (a .kept)
+
   pub tree-light : (name : TreeName) → All Light (pointsOf name (b .passes))
-  tree-light name =
-      points-light name (b .passes) (all-map (PassKept (b .last)) (λ (p : Pass). p .weight ≤ weightLimit) (λ p k. k .weight) (b .passes) (a .kept))
+  tree-light name = points-light name (b .passes) weights
 
   pub tree-few : (name : TreeName) → length (pointsOf name (b .passes)) ≤ passLimit
-  tree-few name = omega (arith, points-few name (b .passes), a .few)
+  tree-few name = omega (arith, points-few name (b .passes) weights, a .few)
 
   abbrev pub bookValue : PointLookup → Value
   bookValue l =

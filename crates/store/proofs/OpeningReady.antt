@@ -1,17 +1,17 @@
 -- Opening: a store just opened agrees with an empty book.
 use Prim.Native.Nat.{ℕ, zero, suc, _≤_, _<_}
 use native.Mathlib.Omega.{arith}
-use mathlib.Core.Path.{_≡_, refl, ap, sym, _∙_}
+use mathlib.Core.Path.{_≡_, refl, sym, subst}
 use mathlib.Core.Bool.{Bool, true, false, cond, _&&_, _||_, not}
 use mathlib.Core.List.{List, [], _∷_}
 use lib.ListN.{length, length-replicate}
 use lib.Dec.{ltb}
 use borrow.Author.Tests.{ltb-false}
 use Rattle.tree.specs.Row.{pageWords}
+use Rattle.tree.specs.Tree.{Tree}
 use Rattle.tree.specs.Grown.{openedTree, grow}
 use Rattle.store.specs.declared.types.TreeName.{TreeName}
-use Rattle.store.specs.declared.types.TreeName.the-variants.{Starts, Ends}
-use Rattle.store.specs.Trees.{LentTree, Lent, lentTo, Store, treeIn, someTree}
+use Rattle.store.specs.Trees.{LentTree, Lent, lentTo, Store, treeIn}
 use Rattle.store.specs.Head.{openLimit, noPass}
 use Rattle.store.specs.Calls.{opening}
 use Rattle.store.specs.Refusals.{firstMet}
@@ -20,6 +20,7 @@ use Rattle.store.specs.Performing.{refusal, served}
 use Rattle.store.specs.Points.{pointsOf}
 use Rattle.store.specs.Book.{Book, emptyBook}
 use Rattle.store.proofs.RefusalLaws.{or-false}
+use Rattle.store.proofs.TreeLaws.{of-none, opened-tree}
 use Rattle.store.proofs.OpenPasses.{openOf}
 use Rattle.store.proofs.Agreement.{TreeTook, Agrees, lends-enough}
 use Rattle.store.proofs.Ready.{Ready}
@@ -44,8 +45,7 @@ enough t e =
     record { page = ltb-false (length (t .table)) pageWords (both .0); root = ltb-false (length (t .roots)) 1 (both .1) }
 
 pub each-enough : (m : Lent) → lendsTooLittle m ≡ false → (name : TreeName) → Enough (lentTo m name)
-each-enough m e Starts = enough (m .starts) (or-false (tooSmall (m .starts)) (tooSmall (m .ends)) e .0)
-each-enough m e Ends = enough (m .ends) (or-false (tooSmall (m .starts)) (tooSmall (m .ends)) e .1)
+each-enough m e name = enough (lentTo m name) (of-none (λ (n : TreeName). tooSmall (lentTo m n)) e name)
 
 took-none : (t : LentTree) → Enough t → TreeTook (openedTree (t .table) (t .roots)) 0 []
 unfolding grow
@@ -62,8 +62,7 @@ took-none t h =
 
 opened-trees : (m : Lent) → lendsTooLittle m ≡ false → (name : TreeName) → TreeTook (treeIn (openedStore m) name) 0 (pointsOf name [])
 unfolding pointsOf
-opened-trees m e Starts = took-none (m .starts) (each-enough m e Starts)
-opened-trees m e Ends = took-none (m .ends) (each-enough m e Ends)
+opened-trees m e name = subst (λ (t : Tree). TreeTook t 0 []) (sym (opened-tree m name)) (took-none (lentTo m name) (each-enough m e name))
 
 pub opened-agrees : (m : Lent) → lendsTooLittle m ≡ false → Agrees (openedStore m) emptyBook
 unfolding openOf

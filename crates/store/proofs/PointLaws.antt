@@ -64,31 +64,27 @@ pub record Light (p : Point) : Type 0 where
   pub count : p .value .count ≤ 1
   pub sum : p .value .sum ≤ weightLimit
 
-end-light : (p : Pass) (e : End) → p .weight ≤ weightLimit → All Light (endPointsOf p e)
-end-light p stillOpen w = tt
-end-light p (endedAt e) w = (record { count = omega arith; sum = w }, tt)
+-- A pass is at most one point of a tree, and a light one
+abbrev AtMostOne : List Point → Type 0
+AtMostOne points = All Light points × (length points ≤ 1)
 
-pass-light : (name : TreeName) (p : Pass) → p .weight ≤ weightLimit → All Light (pointsOfPass name p)
-pass-light Starts p w = (record { count = omega arith; sum = w }, tt)
-pass-light Ends p w = end-light p (p .end) w
+end-point : (p : Pass) (e : End) → p .weight ≤ weightLimit → AtMostOne (endPointsOf p e)
+end-point p stillOpen w = (tt, omega arith)
+end-point p (endedAt e) w = ((record { count = omega arith; sum = w }, tt), omega arith)
 
-pub points-light : (name : TreeName) (passes : List Pass) → All (λ (p : Pass). p .weight ≤ weightLimit) passes → All Light (pointsOf name passes)
-unfolding pointsOf
-points-light name [] h = tt
-points-light name (p ∷ passes) h =
-    all-append Light (pointsOfPass name p) (pointsOf name passes) (pass-light name p (h .0)) (points-light name passes (h .1))
+pass-point : (name : TreeName) (p : Pass) → p .weight ≤ weightLimit → AtMostOne (pointsOfPass name p)
+pass-point Starts p w = ((record { count = omega arith; sum = w }, tt), omega arith)
+pass-point Ends p w = end-point p (p .end) w
 
--- A pass is at most one point of a tree
-end-one : (p : Pass) (e : End) → length (endPointsOf p e) ≤ 1
-end-one p stillOpen = omega arith
-end-one p (endedAt e) = omega arith
+module _ (name : TreeName) where
+  pub points-light : (passes : List Pass) → All (λ (p : Pass). p .weight ≤ weightLimit) passes → All Light (pointsOf name passes)
+  unfolding pointsOf
+  points-light [] h = tt
+  points-light (p ∷ passes) h =
+      all-append Light (pointsOfPass name p) (pointsOf name passes) (pass-point name p (h .0) .0) (points-light passes (h .1))
 
-pass-one : (name : TreeName) (p : Pass) → length (pointsOfPass name p) ≤ 1
-pass-one Starts p = omega arith
-pass-one Ends p = end-one p (p .end)
-
-pub points-few : (name : TreeName) (passes : List Pass) → length (pointsOf name passes) ≤ length passes
-unfolding pointsOf
-points-few name [] = omega arith
-points-few name (p ∷ passes) =
-    omega (arith, length-append (pointsOfPass name p) (pointsOf name passes), pass-one name p, points-few name passes)
+  pub points-few : (passes : List Pass) → All (λ (p : Pass). p .weight ≤ weightLimit) passes → length (pointsOf name passes) ≤ length passes
+  unfolding pointsOf
+  points-few [] h = omega arith
+  points-few (p ∷ passes) h =
+      omega (arith, length-append (pointsOfPass name p) (pointsOf name passes), pass-point name p (h .0) .1, points-few passes (h .1))

@@ -1,17 +1,35 @@
--- The trees of a store by name: what holds of each.
+-- The trees of a store by name: what holds of each, and of one by its name.
 use Prim.Native.Nat.{ℕ}
 use mathlib.Core.Path.{_≡_, refl}
+use mathlib.Core.Bool.{Bool, true, false, and-eq-true-iff}
 use mathlib.Core.List.{List}
-use mathlib.Core.Bool.{Bool, true, false, _&&_, _||_}
+use Rattle.tree.specs.Grown.{openedTree}
 use Rattle.store.specs.declared.types.TreeName.{TreeName}
 use Rattle.store.specs.declared.types.TreeName.the-variants.{Starts, Ends}
-use Rattle.store.specs.Trees.{eachTree, someTree, lentOf}
+use Rattle.store.specs.Trees.{eachTree, someTree, Lent, lentTo, lentOf, treeIn}
+use Rattle.store.specs.Writing.{openedStore}
+use Rattle.store.proofs.RefusalLaws.{or-false}
 
-pub each-tree : (f : TreeName → Bool) → ((name : TreeName) → f name ≡ true) → eachTree f ≡ true
-each-tree f h = rw (h Starts, h Ends) refl
+module _ (f : TreeName → Bool) where
+  pub each-tree : ((name : TreeName) → f name ≡ true) → eachTree f ≡ true
+  each-tree h = rw (h Starts, h Ends) refl
 
-pub no-tree : (f : TreeName → Bool) → ((name : TreeName) → f name ≡ false) → someTree f ≡ false
-no-tree f h = rw (h Starts, h Ends) refl
+  pub of-each : eachTree f ≡ true → (name : TreeName) → f name ≡ true
+  of-each e Starts = and-eq-true-iff (f Starts) (f Ends) .0 e .0
+  of-each e Ends = and-eq-true-iff (f Starts) (f Ends) .0 e .1
 
+  pub no-tree : ((name : TreeName) → f name ≡ false) → someTree f ≡ false
+  no-tree h = rw (h Starts, h Ends) refl
+
+  pub of-none : someTree f ≡ false → (name : TreeName) → f name ≡ false
+  of-none e Starts = or-false (f Starts) (f Ends) e .0
+  of-none e Ends = or-false (f Starts) (f Ends) e .1
+
+-- What opening leaves to a tree
+pub opened-tree : (m : Lent) (name : TreeName) → treeIn (openedStore m) name ≡ openedTree (lentTo m name .table) (lentTo m name .roots)
+opened-tree m Starts = refl
+opened-tree m Ends = refl
+
+-- The slices, one by one
 pub same-lent : {st st′ sr sr′ et et′ er er′ : List ℕ} → st ≡ st′ → sr ≡ sr′ → et ≡ et′ → er ≡ er′ → lentOf st sr et er ≡ lentOf st′ sr′ et′ er′
 same-lent st sr et er = λ i. lentOf (st i) (sr i) (et i) (er i)

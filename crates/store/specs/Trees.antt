@@ -29,6 +29,9 @@ abbrev pub lentTo : Lent → TreeName → LentTree
 lentTo m Starts = m .starts
 lentTo m Ends = m .ends
 
+abbrev pub lentByName : (TreeName → LentTree) → Lent
+lentByName f = record { starts = f Starts; ends = f Ends }
+
 abbrev pub withLent : Lent → TreeName → LentTree → Lent
 withLent m Starts t = record { starts = t; ends = m .ends }
 withLent m Ends t = record { starts = m .starts; ends = t }

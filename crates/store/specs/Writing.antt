@@ -18,7 +18,7 @@ use Rattle.store.specs.declared.types.FoundPass.the-variants.{Missing, A
 use Rattle.store.specs.declared.types.TreeName.{TreeName}
 use Rattle.store.specs.declared.types.TreeName.the-variants.{Starts, Ends}
 use Rattle.store.specs.declared.types.Head.{Head}
-use Rattle.store.specs.Trees.{LentTree, Lent, lentTo, Store, treeIn, withTree, someTree}
+use Rattle.store.specs.Trees.{LentTree, Lent, lentTo, lentByName, Store, treeIn, withTree, someTree}
 use Rattle.store.specs.Head.{passOf, noPass, openedHead}
 use Rattle.store.specs.Calls.{Call, opening, start, end, question, lookupIn}
 use Rattle.store.specs.Refusals.{Ground, _gives_}
@@ -36,7 +36,7 @@ openedOver t = record { table = openedTree (t .table) (t .roots) .table; roots =
 
 -- It sees no head
 abbrev pub openedStore : Lent → Store
-openedStore m = record { head = openedHead; lent = record { starts = openedOver (m .starts); ends = openedOver (m .ends) } }
+openedStore m = record { head = openedHead; lent = lentByName (λ (name : TreeName). openedOver (lentTo m name)) }
 
 -- "A point is a tick, a key, a count of 1 and a weight."
 abbrev pub pointOf : (tick key weight : ℕ) → Point

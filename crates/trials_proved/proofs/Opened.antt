@@ -1,9 +1,9 @@
 -- P2 for any memory that opening takes: in a store just opened the head fits, and a lookup in each tree finds nothing in one page.
 use Prim.Native.Nat.{ℕ, zero, suc, _/_, _≤_, _<_, zero-le}
 use native.Mathlib.Omega.{arith}
-use mathlib.Core.Path.{_≡_, refl, sym, ap, ap₂, subst, _∙_}
+use mathlib.Core.Path.{_≡_, refl, sym, ap, subst, _∙_}
 use mathlib.Core.List.{List, [], _∷_, _++_}
-use mathlib.Core.Bool.{true, _&&_}
+use mathlib.Core.Bool.{true}
 use lib.ListN.{length, length-append, drop}
 use borrow.Author.Tests.{le-leb, lt-leb, lt-ltb, ne-eqb}
 use Rattle.words.specs.Words.{keyLimit, openEnd}
@@ -17,14 +17,14 @@ use Rattle.store.specs.declared.types.Answer.{Answer}
 use Rattle.store.specs.declared.types.Answer.the-variants.{Refused, Opened, Started, Ended, Totals}
 use Rattle.tree.specs.Grown.{firstPage}
 use Rattle.store.specs.declared.types.TreeName.{TreeName}
-use Rattle.store.specs.declared.types.TreeName.the-variants.{Starts, Ends}
-use Rattle.store.specs.Trees.{LentTree, Lent, Store, treeIn}
+use Rattle.store.specs.Trees.{Lent, lentTo, Store, treeIn}
 use Rattle.store.specs.Head.{headFits, useFits}
 use Rattle.store.specs.Refusals.{firstMet}
 use Rattle.store.specs.Calls.{opening, lookupIn}
 use Rattle.store.specs.Answers.{Answered, unlessRefused}
 use Rattle.store.specs.Writing.{openedStore}
 use Rattle.store.specs.Performing.{refusal, served, perform}
+use Rattle.store.proofs.TreeLaws.{each-tree, opened-tree}
 use Rattle.trials_proved.specs.Computing.{computing}
 
 -- The tree that opening makes, over whatever else the slices hold
@@ -45,11 +45,21 @@ one-page rest = rw (length-append firstPage rest, page-long) (omega arith)
 use-fits : (rest roots : List ℕ) → useFits (firstTree rest roots) ≡ true
 use-fits rest roots = rw (le-leb 1 _ (one-page rest), le-leb 1 (suc (length roots)) (omega arith)) refl
 
+-- Each tree that opening makes
+opened-fits : (m : Lent) (name : TreeName) → useFits (treeIn (openedStore m) name) ≡ true
+unfolding computing
+opened-fits m name =
+    ap useFits (opened-tree m name) ∙ use-fits (drop pageWords (lentTo m name .table)) (drop 1 (lentTo m name .roots))
+
+opened-nothing : (m : Lent) (name : TreeName) (t k : ℕ) → t < openEnd → k < keyLimit → lookup (treeIn (openedStore m) name) t k ≡ Found nothing 1
+unfolding computing
+opened-nothing m name t k ht hk =
+    ap (λ (x : Tree). lookup x t k) (opened-tree m name)
+    ∙ nothing-found (drop pageWords (lentTo m name .table)) (drop 1 (lentTo m name .roots)) t k ht hk
+
 head-fits : (m : Lent) → headFits (openedStore m) ≡ true
 unfolding computing
-head-fits m =
-    ap₂ _&&_ (use-fits (drop pageWords (m .starts .table)) (drop 1 (m .starts .roots)))
-    (use-fits (drop pageWords (m .ends .table)) (drop 1 (m .ends .roots)))
+head-fits m = each-tree (λ (name : TreeName). useFits (treeIn (openedStore m) name)) (opened-fits m)
 
 -- A lookup that no refusal stops says what it found
 lookup-says : (s : Store) (tree : TreeName) (t k : ℕ) → t < openEnd → k < keyLimit → headFits s ≡ true → lookup (treeIn s tree) t k ≡ Found nothing 1
@@ -73,13 +83,8 @@ opened-store : (s : Store) → perform s opening .answer ≡ Opened → perform 
 unfolding served
 opened-store s e = ap (λ (a : Answered). a .store) (unrefused (refusal s opening) s (served s opening) e)
 
-nothing-in : (m : Lent) (tree : TreeName) (t k : ℕ) → t < openEnd → k < keyLimit → lookup (treeIn (openedStore m) tree) t k ≡ Found nothing 1
-unfolding computing
-nothing-in m Starts t k ht hk = nothing-found (drop pageWords (m .starts .table)) (drop 1 (m .starts .roots)) t k ht hk
-nothing-in m Ends t k ht hk = nothing-found (drop pageWords (m .ends .table)) (drop 1 (m .ends .roots)) t k ht hk
-
 pub opened-empty : (s : Store) → perform s opening .answer ≡ Opened → (tree : TreeName) (t k : ℕ) → t < openEnd → k < keyLimit
     → perform (perform s opening .store) (lookupIn tree t k) .answer ≡ Totals 0 0 1
 opened-empty s opened tree t k ht hk =
     ap (λ (x : Store). perform x (lookupIn tree t k) .answer) (opened-store s opened)
-    ∙ lookup-says (openedStore (s .lent)) tree t k ht hk (head-fits (s .lent)) (nothing-in (s .lent) tree t k ht hk)
+    ∙ lookup-says (openedStore (s .lent)) tree t k ht hk (head-fits (s .lent)) (opened-nothing (s .lent) tree t k ht hk)
