@@ -6,7 +6,7 @@ use tree::TreeUse;
 ghost use mathlib.Core.Path.{_≡_};
 ghost use mathlib.Core.Bool.{_&&_};
 ghost use Prim.Native.Nat.{_≤_};
-ghost use Rattle.store.specs.Trees.{storeOf};
+ghost use Rattle.store.specs.Trees.{Store, storeOf};
 ghost use Rattle.store.specs.Head.{openLimit, openPasses, passFits, passesFit, numbersRise, useFitsIn, headFits};
 
 // Whether an open pass has a key and a weight in range, a number below the number started and a start no later than the last tick.
@@ -82,7 +82,9 @@ pub fn head_fits(
     end_table: &[u64],
     end_roots: &[u64],
 ) -> bool
-    ensures { λ r. ⌜ r ≡ headFits (storeOf head (now («start_table» .entry)) (now («start_roots» .entry)) (now («end_table» .entry)) (now («end_roots» .entry))) ⌝ }
+    ensures { λ r. do
+      let s : Store = storeOf head (now («start_table» .entry)) (now («start_roots» .entry)) (now («end_table» .entry)) (now («end_roots» .entry))
+      ⌜ r ≡ headFits s ⌝ }
 {
     if Head::OPEN_LIMIT < head.count {
         return false;

@@ -10,7 +10,7 @@ ghost use mathlib.Core.List.{[], _∷_};
 ghost use Prim.Native.Nat.{_≤_};
 ghost use lib.ListN.{length};
 ghost use Rattle.words.specs.Overwrite.{overwrite};
-ghost use Rattle.store.specs.Trees.{lentOf, storeOf};
+ghost use Rattle.store.specs.Trees.{Lent, lentOf, Store, storeOf};
 ghost use Rattle.command.specs.Stream.{command, kindOf, operandBytes, startCommand, endCommand, questionCommand, runKind, runOne};
 ghost use Rattle.interpret.specs.Runs.{longestAnswer, RanAs};
 
@@ -62,7 +62,10 @@ fn run_start(
     out: &mut [u8],
 ) -> Ran
     requires { ⌜ longestAnswer ≤ length (now out) ⌝ }
-    ensures { λ r. ⌜ RanAs (runKind (storeOf head (now («start_table» .entry)) (now («start_roots» .entry)) (now («end_table» .entry)) (now («end_roots» .entry))) (now (operands .entry)) (command 8 startCommand)) r (now (out .entry)) (now (out .exit)) (lentOf (now («start_table» .exit)) (now («start_roots» .exit)) (now («end_table» .entry)) (now («end_roots» .entry))) ⌝ }
+    ensures { λ r. do
+      let s : Store = storeOf head (now («start_table» .entry)) (now («start_roots» .entry)) (now («end_table» .entry)) (now («end_roots» .entry))
+      let left : Lent = lentOf (now («start_table» .exit)) (now («start_roots» .exit)) (now («end_table» .entry)) (now («end_roots» .entry))
+      ⌜ RanAs (runKind s (now (operands .entry)) (command 8 startCommand)) r (now (out .entry)) (now (out .exit)) left ⌝ }
 {
     if operands.len() < 8 {
         return stop(head, out, 7);
@@ -101,7 +104,10 @@ fn run_end(
     out: &mut [u8],
 ) -> Ran
     requires { ⌜ longestAnswer ≤ length (now out) ⌝ }
-    ensures { λ r. ⌜ RanAs (runKind (storeOf head (now («start_table» .entry)) (now («start_roots» .entry)) (now («end_table» .entry)) (now («end_roots» .entry))) (now (operands .entry)) (command 8 endCommand)) r (now (out .entry)) (now (out .exit)) (lentOf (now («start_table» .entry)) (now («start_roots» .entry)) (now («end_table» .exit)) (now («end_roots» .exit))) ⌝ }
+    ensures { λ r. do
+      let s : Store = storeOf head (now («start_table» .entry)) (now («start_roots» .entry)) (now («end_table» .entry)) (now («end_roots» .entry))
+      let left : Lent = lentOf (now («start_table» .entry)) (now («start_roots» .entry)) (now («end_table» .exit)) (now («end_roots» .exit))
+      ⌜ RanAs (runKind s (now (operands .entry)) (command 8 endCommand)) r (now (out .entry)) (now (out .exit)) left ⌝ }
 {
     if operands.len() < 8 {
         return stop(head, out, 7);
@@ -138,7 +144,10 @@ fn run_question(
     out: &mut [u8],
 ) -> Ran
     requires { ⌜ longestAnswer ≤ length (now out) ⌝ }
-    ensures { λ r. ⌜ RanAs (runKind (storeOf head (now («start_table» .entry)) (now («start_roots» .entry)) (now («end_table» .entry)) (now («end_roots» .entry))) (now (operands .entry)) (command 12 questionCommand)) r (now (out .entry)) (now (out .exit)) (lentOf (now («start_table» .entry)) (now («start_roots» .entry)) (now («end_table» .entry)) (now («end_roots» .entry))) ⌝ }
+    ensures { λ r. do
+      let s : Store = storeOf head (now («start_table» .entry)) (now («start_roots» .entry)) (now («end_table» .entry)) (now («end_roots» .entry))
+      let left : Lent = lentOf (now («start_table» .entry)) (now («start_roots» .entry)) (now («end_table» .entry)) (now («end_roots» .entry))
+      ⌜ RanAs (runKind s (now (operands .entry)) (command 12 questionCommand)) r (now (out .entry)) (now (out .exit)) left ⌝ }
 {
     if operands.len() < 12 {
         return stop(head, out, 7);
@@ -178,7 +187,10 @@ pub fn run_command(
     out: &mut [u8],
 ) -> Ran
     requires { ⌜ longestAnswer ≤ length (now out) ⌝ }
-    ensures { λ r. ⌜ RanAs (runOne (storeOf head (now («start_table» .entry)) (now («start_roots» .entry)) (now («end_table» .entry)) (now («end_roots» .entry))) code (now (operands .entry))) r (now (out .entry)) (now (out .exit)) (lentOf (now («start_table» .exit)) (now («start_roots» .exit)) (now («end_table» .exit)) (now («end_roots» .exit))) ⌝ }
+    ensures { λ r. do
+      let s : Store = storeOf head (now («start_table» .entry)) (now («start_roots» .entry)) (now («end_table» .entry)) (now («end_roots» .entry))
+      let left : Lent = lentOf (now («start_table» .exit)) (now («start_roots» .exit)) (now («end_table» .exit)) (now («end_roots» .exit))
+      ⌜ RanAs (runOne s code (now (operands .entry))) r (now (out .entry)) (now (out .exit)) left ⌝ }
 {
     if code == 1 {
         return run_start(

@@ -15,7 +15,7 @@ ghost use lib.ListN.{length};
 ghost use Rattle.words.specs.Words.{keyLimit};
 ghost use Rattle.tree.specs.Row.{pageWords};
 ghost use Rattle.store.specs.declared.types.TreeName.the-variants.{Starts, Ends};
-ghost use Rattle.store.specs.Trees.{storeOf};
+ghost use Rattle.store.specs.Trees.{Store, storeOf};
 ghost use Rattle.store.specs.Calls.{question, lookupIn};
 ghost use Rattle.store.specs.Reading.{pagesOf};
 ghost use Rattle.store.specs.Performing.{perform};
@@ -45,7 +45,9 @@ pub fn lookup_starts(
     t: u32,
     k: u32,
 ) -> Answer
-    ensures { λ r. ⌜ r ≡ perform (storeOf head (now («start_table» .entry)) (now («start_roots» .entry)) (now («end_table» .entry)) (now («end_roots» .entry))) (lookupIn Starts t k) .answer ⌝ }
+    ensures { λ r. do
+      let s : Store = storeOf head (now («start_table» .entry)) (now («start_roots» .entry)) (now («end_table» .entry)) (now («end_roots» .entry))
+      ⌜ r ≡ perform s (lookupIn Starts t k) .answer ⌝ }
 {
     let input = lookup_input(t, k);
     let refusal = head_refusal(head, start_table, start_roots, end_table, end_roots, input);
@@ -66,7 +68,9 @@ pub fn lookup_ends(
     t: u32,
     k: u32,
 ) -> Answer
-    ensures { λ r. ⌜ r ≡ perform (storeOf head (now («start_table» .entry)) (now («start_roots» .entry)) (now («end_table» .entry)) (now («end_roots» .entry))) (lookupIn Ends t k) .answer ⌝ }
+    ensures { λ r. do
+      let s : Store = storeOf head (now («start_table» .entry)) (now («start_roots» .entry)) (now («end_table» .entry)) (now («end_roots» .entry))
+      ⌜ r ≡ perform s (lookupIn Ends t k) .answer ⌝ }
 {
     let input = lookup_input(t, k);
     let refusal = head_refusal(head, start_table, start_roots, end_table, end_roots, input);
@@ -132,7 +136,9 @@ pub fn question(
     t1: u32,
     t2: u32,
 ) -> Answer
-    ensures { λ r. ⌜ r ≡ perform (storeOf head (now («start_table» .entry)) (now («start_roots» .entry)) (now («end_table» .entry)) (now («end_roots» .entry))) (question k1 k2 t1 t2) .answer ⌝ }
+    ensures { λ r. do
+      let s : Store = storeOf head (now («start_table» .entry)) (now («start_roots» .entry)) (now («end_table» .entry)) (now («end_roots» .entry))
+      ⌜ r ≡ perform s (question k1 k2 t1 t2) .answer ⌝ }
 {
     let input = question_input(k1, k2, t1, t2);
     let refusal = head_refusal(head, start_table, start_roots, end_table, end_roots, input);

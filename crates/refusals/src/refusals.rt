@@ -17,7 +17,7 @@ ghost use mathlib.Core.List.{[], _∷_};
 ghost use lib.Dec.{leb};
 ghost use Prim.Native.Nat.{_≤_};
 ghost use Rattle.tree.specs.Tree.{wholePages, pagesLeft, pageLimit};
-ghost use Rattle.store.specs.Trees.{storeOf};
+ghost use Rattle.store.specs.Trees.{Lent, lentOf, Store, storeOf};
 ghost use Rattle.store.specs.declared.types.Head.{Head};
 ghost use Rattle.store.specs.Calls.{opening, start, end};
 ghost use Rattle.store.specs.Refusals.{_gives_, firstMet};
@@ -42,7 +42,9 @@ pub fn opening_refusal(
     end_table: &[u64],
     end_roots: &[u64],
 ) -> u8
-    ensures { λ r. ⌜ ((head : Head) → r ≡ refusal (storeOf head (now («start_table» .entry)) (now («start_roots» .entry)) (now («end_table» .entry)) (now («end_roots» .entry))) opening) ⌝ }
+    ensures { λ r. do
+      let lent : Lent = lentOf (now («start_table» .entry)) (now («start_roots» .entry)) (now («end_table» .entry)) (now («end_roots» .entry))
+      ⌜ ((head : Head) → r ≡ refusal (record { head = head; lent = lent }) opening) ⌝ }
 {
     if too_small(start_table, start_roots) {
         return 8;
@@ -62,7 +64,9 @@ pub fn head_refusal(
     end_roots: &[u64],
     input: u8,
 ) -> u8
-    ensures { λ r. ⌜ r ≡ earlier input (firstMet (headGrounds (storeOf head (now («start_table» .entry)) (now («start_roots» .entry)) (now («end_table» .entry)) (now («end_roots» .entry))))) ⌝ }
+    ensures { λ r. do
+      let s : Store = storeOf head (now («start_table» .entry)) (now («start_roots» .entry)) (now («end_table» .entry)) (now («end_roots» .entry))
+      ⌜ r ≡ earlier input (firstMet (headGrounds s)) ⌝ }
 {
     if input != 0 {
         return input;
@@ -127,7 +131,9 @@ pub fn start_refusal(
     key: u32,
     weight: u32,
 ) -> u8
-    ensures { λ r. ⌜ r ≡ refusal (storeOf head (now («start_table» .entry)) (now («start_roots» .entry)) (now («end_table» .entry)) (now («end_roots» .entry))) (start tick key weight) ⌝ }
+    ensures { λ r. do
+      let s : Store = storeOf head (now («start_table» .entry)) (now («start_roots» .entry)) (now («end_table» .entry)) (now («end_roots» .entry))
+      ⌜ r ≡ refusal s (start tick key weight) ⌝ }
 {
     let input = start_input(tick, key, weight);
     let early = head_refusal(head, start_table, start_roots, end_table, end_roots, input);
@@ -153,7 +159,9 @@ pub fn end_refusal(
     tick: u32,
     number: u32,
 ) -> u8
-    ensures { λ r. ⌜ r ≡ refusal (storeOf head (now («start_table» .entry)) (now («start_roots» .entry)) (now («end_table» .entry)) (now («end_roots» .entry))) (end tick number) ⌝ }
+    ensures { λ r. do
+      let s : Store = storeOf head (now («start_table» .entry)) (now («start_roots» .entry)) (now («end_table» .entry)) (now («end_roots» .entry))
+      ⌜ r ≡ refusal s (end tick number) ⌝ }
 {
     let input = end_input(tick);
     let early = head_refusal(head, start_table, start_roots, end_table, end_roots, input);

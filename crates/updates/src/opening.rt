@@ -11,7 +11,7 @@ ghost use Prim.Native.Nat.{_≤_};
 ghost use lib.ListN.{length};
 ghost use Rattle.tree.specs.Row.{pageWords};
 ghost use Rattle.tree.specs.Grown.{openedTree};
-ghost use Rattle.store.specs.Trees.{lentOf, storeOf};
+ghost use Rattle.store.specs.Trees.{Lent, lentOf, Store, storeOf};
 ghost use Rattle.store.specs.Calls.{opening};
 ghost use Rattle.store.specs.Performing.{perform};
 ghost use Rattle.updates.specs.Replies.{RepliedAs};
@@ -40,7 +40,10 @@ pub fn open(
     end_table: &mut [u64],
     end_roots: &mut [u64],
 ) -> Reply
-    ensures { λ r. ⌜ RepliedAs (perform (storeOf head (now («start_table» .entry)) (now («start_roots» .entry)) (now («end_table» .entry)) (now («end_roots» .entry))) opening) r (lentOf (now («start_table» .exit)) (now («start_roots» .exit)) (now («end_table» .exit)) (now («end_roots» .exit))) ⌝ }
+    ensures { λ r. do
+      let s : Store = storeOf head (now («start_table» .entry)) (now («start_roots» .entry)) (now («end_table» .entry)) (now («end_roots» .entry))
+      let left : Lent = lentOf (now («start_table» .exit)) (now («start_roots» .exit)) (now («end_table» .exit)) (now («end_roots» .exit))
+      ⌜ RepliedAs (perform s opening) r left ⌝ }
 {
     let refusal = opening_refusal(start_table, start_roots, end_table, end_roots);
     if refusal != 0 {

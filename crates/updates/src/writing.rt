@@ -12,7 +12,7 @@ use store::FoundPass;
 use store::Head;
 use words::Value;
 ghost use mathlib.Core.Path.{_≡_};
-ghost use Rattle.store.specs.Trees.{lentOf, storeOf};
+ghost use Rattle.store.specs.Trees.{Lent, lentOf, Store, storeOf};
 ghost use Rattle.store.specs.Calls.{start, end};
 ghost use Rattle.store.specs.Writing.{pointOf};
 ghost use Rattle.store.specs.Performing.{perform};
@@ -39,7 +39,10 @@ pub fn start(
     key: u32,
     weight: u32,
 ) -> Reply
-    ensures { λ r. ⌜ RepliedAs (perform (storeOf head (now («start_table» .entry)) (now («start_roots» .entry)) (now («end_table» .entry)) (now («end_roots» .entry))) (start tick key weight)) r (lentOf (now («start_table» .exit)) (now («start_roots» .exit)) (now («end_table» .entry)) (now («end_roots» .entry))) ⌝ }
+    ensures { λ r. do
+      let s : Store = storeOf head (now («start_table» .entry)) (now («start_roots» .entry)) (now («end_table» .entry)) (now («end_roots» .entry))
+      let left : Lent = lentOf (now («start_table» .exit)) (now («start_roots» .exit)) (now («end_table» .entry)) (now («end_roots» .entry))
+      ⌜ RepliedAs (perform s (start tick key weight)) r left ⌝ }
 {
     let refusal = start_refusal(
         head,
@@ -73,7 +76,10 @@ pub fn end(
     tick: u32,
     number: u32,
 ) -> Reply
-    ensures { λ r. ⌜ RepliedAs (perform (storeOf head (now («start_table» .entry)) (now («start_roots» .entry)) (now («end_table» .entry)) (now («end_roots» .entry))) (end tick number)) r (lentOf (now («start_table» .entry)) (now («start_roots» .entry)) (now («end_table» .exit)) (now («end_roots» .exit))) ⌝ }
+    ensures { λ r. do
+      let s : Store = storeOf head (now («start_table» .entry)) (now («start_roots» .entry)) (now («end_table» .entry)) (now («end_roots» .entry))
+      let left : Lent = lentOf (now («start_table» .entry)) (now («start_roots» .entry)) (now («end_table» .exit)) (now («end_roots» .exit))
+      ⌜ RepliedAs (perform s (end tick number)) r left ⌝ }
 {
     let refusal = end_refusal(
         head,
