@@ -15,9 +15,10 @@ use Rattle.store.proofs.Outcomes.{served-answers}
 use Rattle.updates.specs.declared.types.Reply.{Reply}
 use Rattle.updates.specs.Replies.{RepliedAs}
 use Rattle.firmware.specs.Heads.{Fields, passNumbers, headOf, fieldsOf, numbersOf}
-use Rattle.firmware.specs.Exported.{storeIn, numberSaid, Told, Tells, Leaves}
+use Rattle.firmware.specs.Exported.{Handed, storeIn, handedBack, numberSaid, Told, totalsTold, Tells, Leaves}
 use Rattle.firmware.proofs.HeadNumbers.{numbers-back}
 
+-- A reading call of the head that the numbers make
 pub told : {a b : Answer} {r : ℕ} {before after : Told} → a ≡ b → Tells a r before after → Tells b r before after
 told {r = r} {before = before} {after = after} e h = subst (λ (x : Answer). Tells x r before after) e h
 
@@ -27,49 +28,56 @@ unchanged : (n : ℕ) (s : Store) (done : Answered) → refusalOf (done .answer)
 unchanged zero s done e some = absurd (some e)
 unchanged (suc n) s done e some = refl
 
-pub call-unchanged : (s : Store) (c : Call) → (refusalOf (perform s c .answer) ≡ 0 → ⊥) → perform s c .store ≡ s
+call-unchanged : (s : Store) (c : Call) → (refusalOf (perform s c .answer) ≡ 0 → ⊥) → perform s c .store ≡ s
 call-unchanged s c = unchanged (refusal s c) s (served s c) (served-answers s c)
 
--- What a call of the store handed back, of the head that the numbers make
-pub handed : (c : Call) (f : Fields) (passes : List ℕ) (lent after : Lent) (head : Head) (reply : Reply) → head ≡ headOf f passes
-    → RepliedAs (perform (record { head = head; lent = lent }) c) reply after → RepliedAs (perform (storeIn f passes lent) c) reply after
-handed c f passes lent after head reply e h = subst (λ (x : Head). RepliedAs (perform (record { head = x; lent = lent }) c) reply after) e h
+module _ (c : Call) (before : Handed) (long : length (before .passes) ≡ passNumbers) {head : Head} (of-head : head ≡ headOf (before .fields) (before .passes))
+    {reply : Reply} {lent : Lent} (replied : RepliedAs (perform (record { head = head; lent = before .lent }) c) reply lent) where
+  abbrev a : Answered
+  a = perform (storeIn before) c
 
-module _ (a : Answered) (f : Fields) (passes : List ℕ) (lent after : Lent) (long : length passes ≡ passNumbers) (reply : Reply)
-    (is : RepliedAs a reply after) where
+  pub is : RepliedAs a reply lent
+  is = subst (λ (x : Head). RepliedAs (perform (record { head = x; lent = before .lent }) c) reply lent) of-head replied
+
   said : (r : ℕ) → r ≡ refusalOf (reply .answer) → r ≡ refusalOf (a .answer)
   said r e = e ∙ ap refusalOf (is .answer)
 
+  back : handedBack (storeIn before) ≡ before
+  back = let same = numbers-back (before .passes) long in λ i. record { fields = before .fields; passes = same i; lent = before .lent }
+
   -- Refused: no field and no number of a pass was written
-  pub leaves-refused : (r : ℕ) → r ≡ refusalOf (reply .answer) → (r ≡ 0 → ⊥) → ((refusalOf (a .answer) ≡ 0 → ⊥) → a .store ≡ storeIn f passes lent)
-      → Leaves a r f passes after
-  leaves-refused r e some same =
-      let kept = same (λ z. some (said r e ∙ z)) in
-      record {
-        refusal = said r e;
-        fields = sym (ap (λ (x : Store). fieldsOf (x .head)) kept);
-        passes-are = sym (ap (λ (x : Store). numbersOf (x .head .passes)) kept ∙ numbers-back passes long);
-        lent-is = is .lent-is;
-      }
+  pub leaves-refused : {r : ℕ} → r ≡ refusalOf (reply .answer) → (r ≡ 0 → ⊥)
+      → Leaves a r before (record { fields = before .fields; passes = before .passes; lent = lent })
+  leaves-refused {r} e some =
+      let stays = call-unchanged (storeIn before) c (λ z. some (said r e ∙ z)) in
+      let same = is .lent-is ∙ ap (λ (x : Store). x .lent) stays in
+      let kept : record { fields = before .fields; passes = before .passes; lent = lent } ≡ before =
+      λ i. record { fields = before .fields; passes = before .passes; lent = same i } in
+      record { refusal = said r e; left = kept ∙ sym (ap handedBack stays ∙ back); kept = λ n. kept }
 
   -- Done: the head that the call handed back was written
-  pub leaves-done : (r : ℕ) → r ≡ refusalOf (reply .answer) → r ≡ 0 → (f′ : Fields) (passes′ : List ℕ) → f′ ≡ fieldsOf (reply .head)
-      → passes′ ≡ numbersOf (reply .head .passes) → Leaves a 0 f′ passes′ after
-  leaves-done r e none f′ passes′ fs ps =
+  pub leaves-done : {r : ℕ} → r ≡ refusalOf (reply .answer) → r ≡ 0 → {fields : Fields} {passes : List ℕ} → fields ≡ fieldsOf (reply .head)
+      → passes ≡ numbersOf (reply .head .passes) → Leaves a 0 before (record { fields = fields; passes = passes; lent = lent })
+  leaves-done {r} e none fs ps =
+      let fields-are = fs ∙ ap fieldsOf (is .head) in
+      let passes-are = ps ∙ ap (λ (h : Head). numbersOf (h .passes)) (is .head) in
+      let lent-is = is .lent-is in
       record {
         refusal = sym none ∙ said r e;
-        fields = fs ∙ ap fieldsOf (is .head);
-        passes-are = ps ∙ ap (λ (h : Head). numbersOf (h .passes)) (is .head);
-        lent-is = is .lent-is;
+        left = λ i. record { fields = fields-are i; passes = passes-are i; lent = lent-is i };
+        kept = λ some. absurd (some refl);
       }
 
--- A pass number that a refused start leaves as it was
-pub start-number-kept : {x y : Answer} (old r : ℕ) → r ≡ refusalOf x → (r ≡ 0 → ⊥) → x ≡ y → old ≡ numberSaid old (valuesOf y)
-start-number-kept {x} {y} old r e some is = go y (λ z. some (e ∙ ap refusalOf is ∙ z))
-  where
-    go : (b : Answer) → (refusalOf b ≡ 0 → ⊥) → old ≡ numberSaid old (valuesOf b)
-    go (Refused n) f = refl
-    go Opened f = refl
-    go (Started n) f = absurd (f refl)
-    go Ended f = refl
-    go (Totals count sum pages) f = refl
+  -- The pass number that a start says, and that a refused one leaves as it was
+  pub number-said : (old : ℕ) {n : ℕ} → n ≡ numberSaid old (valuesOf (reply .answer)) → n ≡ numberSaid old (valuesOf (a .answer))
+  number-said old e = e ∙ ap (λ (x : Answer). numberSaid old (valuesOf x)) (is .answer)
+
+  pub number-kept : (old : ℕ) {r : ℕ} → r ≡ refusalOf (reply .answer) → (r ≡ 0 → ⊥) → old ≡ numberSaid old (valuesOf (a .answer))
+  number-kept old {r} e some = go (a .answer) (λ z. some (said r e ∙ z))
+    where
+      go : (b : Answer) → (refusalOf b ≡ 0 → ⊥) → old ≡ numberSaid old (valuesOf b)
+      go (Refused n) f = refl
+      go Opened f = refl
+      go (Started n) f = absurd (f refl)
+      go Ended f = refl
+      go (Totals count sum pages) f = refl

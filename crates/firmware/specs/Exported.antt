@@ -1,16 +1,30 @@
--- What an exported call says and leaves. Numbers stand for what C is given: 0 or the number of the refusal, and lent numbers.
+-- What an exported call is handed, says and leaves. Numbers stand for what C is given: 0 or the number of the refusal, and lent numbers.
 use Prim.Native.Nat.{ℕ}
 use mathlib.Core.Path.{_≡_}
 use mathlib.Core.List.{List, [], _∷_}
-use lib.ListN.{length}
 use Rattle.store.specs.declared.types.Answer.{Answer}
 use Rattle.store.specs.Trees.{Lent, Store}
 use Rattle.store.specs.Answers.{refusalOf, valuesOf, Answered}
-use Rattle.firmware.specs.Heads.{Fields, passNumbers, headOf, fieldsOf, numbersOf}
+use Rattle.firmware.specs.Heads.{Fields, headOf, fieldsOf, numbersOf}
 
--- The store that the fields of a head, its open passes and the lent slices make
-abbrev pub storeIn : Fields → List ℕ → Lent → Store
-storeIn f passes m = record { head = headOf f passes; lent = m }
+-- The head's numbers, its open passes as numbers, and the lent slices
+pub record Handed : Type 0 where
+  pub fields : Fields
+  pub passes : List ℕ
+  pub lent : Lent
+
+-- The store that they make, and a store in their places
+abbrev pub storeIn : Handed → Store
+storeIn h = record { head = headOf (h .fields) (h .passes); lent = h .lent }
+
+abbrev pub handedBack : Store → Handed
+handedBack s = record { fields = fieldsOf (s .head); passes = numbersOf (s .head .passes); lent = s .lent }
+
+-- A writing call that comes to a: the refusal, and what is left. Refused, "every lent word and the head are as before"
+pub record Leaves (a : Answered) (r : ℕ) (before after : Handed) : Type 0 where
+  pub refusal : r ≡ refusalOf (a .answer)
+  pub left : after ≡ handedBack (a .store)
+  pub kept : (r ≡ 0 → ⊥) → after ≡ before
 
 -- The pass number that an answer's values are; where they are not, what stood in the lent number before
 abbrev pub numberSaid : ℕ → (values : List ℕ) → ℕ
@@ -31,28 +45,8 @@ totalsTold old (v ∷ []) = old
 totalsTold old (v ∷ (w ∷ [])) = old
 totalsTold old (count ∷ (sum ∷ (pages ∷ values))) = record { count = count; sum = sum; pages = pages }
 
--- A reading call that answers a: the refusal, and the totals
+-- A reading call that answers a: the refusal, and the totals. "A refusal returns its number and no other field"
 pub record Tells (a : Answer) (r : ℕ) (before after : Told) : Type 0 where
   pub refusal : r ≡ refusalOf a
-  pub count : after .count ≡ totalsTold before (valuesOf a) .count
-  pub sum : after .sum ≡ totalsTold before (valuesOf a) .sum
-  pub pages : after .pages ≡ totalsTold before (valuesOf a) .pages
-
--- A list of open passes of another length than 256 numbers is no head: 20, and nothing changes
-pub record Shut (r : ℕ) (before after : Told) : Type 0 where
-  pub refusal : r ≡ 20
-  pub same : after ≡ before
-
--- A writing call that comes to a: the refusal, the head's fields, its open passes and every lent word
-pub record Leaves (a : Answered) (r : ℕ) (f : Fields) (passes : List ℕ) (lent : Lent) : Type 0 where
-  pub refusal : r ≡ refusalOf (a .answer)
-  pub fields : f ≡ fieldsOf (a .store .head)
-  pub passes-are : passes ≡ numbersOf (a .store .head .passes)
-  pub lent-is : lent ≡ a .store .lent
-
--- A writing call that is handed a list of open passes of another length: 20, and nothing changes
-pub record Untouched (r : ℕ) (before after : Fields) (passesBefore passesAfter : List ℕ) (lentBefore lentAfter : Lent) : Type 0 where
-  pub refusal : r ≡ 20
-  pub fields : after ≡ before
-  pub passes : passesAfter ≡ passesBefore
-  pub lent : lentAfter ≡ lentBefore
+  pub totals : after ≡ totalsTold before (valuesOf a)
+  pub kept : (r ≡ 0 → ⊥) → after ≡ before

@@ -1,4 +1,4 @@
--- The head as firmware in C hands it over: its fields as numbers, and its open passes as a lent slice of numbers, four to a pass
+-- The head as firmware in C hands it over: its fields as numbers, and its open passes as a lent array of numbers, four to a pass
 -- (number, key, weight, start).
 use Prim.Native.Nat.{ℕ, zero, suc, _+_, _*_}
 use mathlib.Core.Path.{_≡_}

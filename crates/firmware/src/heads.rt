@@ -6,8 +6,9 @@ ghost use mathlib.Core.Path.{_≡_};
 ghost use Prim.Native.Nat.{_+_, _≤_};
 ghost use lib.ListN.{length};
 ghost use Rattle.words.specs.Overwrite.{overwrite};
+ghost use Rattle.tree.specs.declared.types.TreeUse.{TreeUse};
 ghost use Rattle.store.specs.Head.{openLimit};
-ghost use Rattle.firmware.specs.Heads.{numbersOfPass, passNumbers, passAt, passesFrom, passNumbersOf, numbersOf, headOf, fieldsOf};
+ghost use Rattle.firmware.specs.Heads.{numbersOfPass, passNumbers, passAt, passesFrom, passNumbersOf, numbersOf, Fields, headOf, fieldsOf};
 
 // The pass in the four numbers from a place on.
 fn read_pass(numbers: &[u32], at: usize) -> OpenPass
@@ -71,14 +72,18 @@ pub fn head_of(
     last: u32,
     started: u32,
     count: u32,
-    start_pages: u32,
-    start_roots: u32,
-    end_pages: u32,
-    end_roots: u32,
+    start_pages_used: u32,
+    start_roots_used: u32,
+    end_pages_used: u32,
+    end_roots_used: u32,
     passes: &[u32],
 ) -> Head
     requires { ⌜ length (now passes) ≡ passNumbers ⌝ }
-    ensures { λ r. ⌜ r ≡ headOf (record { last = last; started = started; count = count; starts = record { pages = «start_pages»; roots = «start_roots» }; ends = record { pages = «end_pages»; roots = «end_roots» } }) (now (passes .entry)) ⌝ }
+    ensures { λ r. do
+      let starts : TreeUse = record { pages = «start_pages_used»; roots = «start_roots_used» }
+      let ends : TreeUse = record { pages = «end_pages_used»; roots = «end_roots_used» }
+      let fields : Fields = record { last = last; started = started; count = count; starts = starts; ends = ends }
+      ⌜ r ≡ headOf fields (now (passes .entry)) ⌝ }
 {
     let open = read_passes(passes);
     Head {
@@ -87,12 +92,12 @@ pub fn head_of(
         count,
         passes: open,
         starts: TreeUse {
-            pages: start_pages,
-            roots: start_roots,
+            pages: start_pages_used,
+            roots: start_roots_used,
         },
         ends: TreeUse {
-            pages: end_pages,
-            roots: end_roots,
+            pages: end_pages_used,
+            roots: end_roots_used,
         },
     }
 }
@@ -103,25 +108,29 @@ pub fn put_head(
     last: &mut u32,
     started: &mut u32,
     count: &mut u32,
-    start_pages: &mut u32,
-    start_roots: &mut u32,
-    end_pages: &mut u32,
-    end_roots: &mut u32,
+    start_pages_used: &mut u32,
+    start_roots_used: &mut u32,
+    end_pages_used: &mut u32,
+    end_roots_used: &mut u32,
     passes: &mut [u32],
 )
     requires { ⌜ length (now passes) ≡ passNumbers ⌝ }
-    ensures { λ _. ⌜ record { last = now (last .exit); started = now (started .exit); count = now (count .exit); starts = record { pages = now («start_pages» .exit); roots = now («start_roots» .exit) }; ends = record { pages = now («end_pages» .exit); roots = now («end_roots» .exit) } } ≡ fieldsOf head ⌝ }
+    ensures { λ _. do
+      let starts : TreeUse = record { pages = now («start_pages_used» .exit); roots = now («start_roots_used» .exit) }
+      let ends : TreeUse = record { pages = now («end_pages_used» .exit); roots = now («end_roots_used» .exit) }
+      let fields : Fields = record { last = now (last .exit); started = now (started .exit); count = now (count .exit); starts = starts; ends = ends }
+      ⌜ fields ≡ fieldsOf head ⌝ }
     ensures { λ _. ⌜ now (passes .exit) ≡ numbersOf (head .passes) ⌝ }
 {
     *last = head.last;
     *started = head.started;
     *count = head.count;
     let starts = head.starts;
-    *start_pages = starts.pages;
-    *start_roots = starts.roots;
+    *start_pages_used = starts.pages;
+    *start_roots_used = starts.roots;
     let ends = head.ends;
-    *end_pages = ends.pages;
-    *end_roots = ends.roots;
+    *end_pages_used = ends.pages;
+    *end_roots_used = ends.roots;
     let open = head.passes;
     write_passes(passes, open);
 }

@@ -4,17 +4,20 @@ use crate::heads::head_of;
 use store::Answer;
 use store::Head;
 ghost use mathlib.Core.Path.{_≡_};
-ghost use lib.ListN.{length};
+ghost use Rattle.tree.specs.declared.types.TreeUse.{TreeUse};
 ghost use Rattle.store.specs.declared.types.TreeName.the-variants.{Starts, Ends};
-ghost use Rattle.store.specs.Trees.{lentOf};
+ghost use Rattle.store.specs.Trees.{Lent, lentOf};
 ghost use Rattle.store.specs.Calls.{question, lookupIn};
 ghost use Rattle.store.specs.Performing.{perform};
-ghost use Rattle.firmware.specs.Heads.{passNumbers};
-ghost use Rattle.firmware.specs.Exported.{storeIn, Tells, Shut};
+ghost use Rattle.firmware.specs.Heads.{Fields};
+ghost use Rattle.firmware.specs.Exported.{Handed, storeIn, Told, Tells};
 
 // Writes an answer's totals, and returns its refusal, 0 for none.
 fn tell(answer: Answer, count: &mut u64, sum: &mut u64, pages: &mut u32) -> u8
-    ensures { λ r. ⌜ Tells answer r (record { count = now (count .entry); sum = now (sum .entry); pages = now (pages .entry) }) (record { count = now (count .exit); sum = now (sum .exit); pages = now (pages .exit) }) ⌝ }
+    ensures { λ r. do
+      let before : Told = record { count = now (count .entry); sum = now (sum .entry); pages = now (pages .entry) }
+      let after : Told = record { count = now (count .exit); sum = now (sum .exit); pages = now (pages .exit) }
+      ⌜ Tells answer r before after ⌝ }
 {
     match answer {
         Answer::Refused(number) => number,
@@ -40,15 +43,15 @@ pub extern "C" fn nimbleshale_question(
     last: u32,
     started: u32,
     count_open: u32,
-    start_pages: u32,
-    start_roots: u32,
-    end_pages: u32,
-    end_roots: u32,
-    passes: &[u32],
+    start_pages_used: u32,
+    start_roots_used: u32,
+    end_pages_used: u32,
+    end_roots_used: u32,
+    passes: &[u32; Head::PASS_NUMBERS],
     start_table: &[u64],
-    start_list: &[u64],
+    start_roots: &[u64],
     end_table: &[u64],
-    end_list: &[u64],
+    end_roots: &[u64],
     k1: u32,
     k2: u32,
     t1: u32,
@@ -57,28 +60,32 @@ pub extern "C" fn nimbleshale_question(
     sum: &mut u64,
     pages: &mut u32,
 ) -> u8
-    ensures { λ r. ⌜ (length (now (passes .entry)) ≡ passNumbers → Tells (perform (storeIn (record { last = last; started = started; count = «count_open»; starts = record { pages = «start_pages»; roots = «start_roots» }; ends = record { pages = «end_pages»; roots = «end_roots» } }) (now (passes .entry)) (lentOf (now («start_table» .entry)) (now («start_list» .entry)) (now («end_table» .entry)) (now («end_list» .entry)))) (question k1 k2 t1 t2) .answer) r (record { count = now (count .entry); sum = now (sum .entry); pages = now (pages .entry) }) (record { count = now (count .exit); sum = now (sum .exit); pages = now (pages .exit) })) ⌝ }
-    ensures { λ r. ⌜ ((length (now (passes .entry)) ≡ passNumbers → ⊥) → Shut r (record { count = now (count .entry); sum = now (sum .entry); pages = now (pages .entry) }) (record { count = now (count .exit); sum = now (sum .exit); pages = now (pages .exit) })) ⌝ }
+    ensures { λ r. do
+      let handedStarts : TreeUse = record { pages = «start_pages_used»; roots = «start_roots_used» }
+      let handedEnds : TreeUse = record { pages = «end_pages_used»; roots = «end_roots_used» }
+      let handedFields : Fields = record { last = last; started = started; count = «count_open»; starts = handedStarts; ends = handedEnds }
+      let handedLent : Lent = lentOf (now («start_table» .entry)) (now («start_roots» .entry)) (now («end_table» .entry)) (now («end_roots» .entry))
+      let handed : Handed = record { fields = handedFields; passes = now (passes .entry); lent = handedLent }
+      let before : Told = record { count = now (count .entry); sum = now (sum .entry); pages = now (pages .entry) }
+      let after : Told = record { count = now (count .exit); sum = now (sum .exit); pages = now (pages .exit) }
+      ⌜ Tells (perform (storeIn handed) (question k1 k2 t1 t2) .answer) r before after ⌝ }
 {
-    if passes.len() != Head::PASS_NUMBERS {
-        return 20;
-    }
     let head = head_of(
         last,
         started,
         count_open,
-        start_pages,
-        start_roots,
-        end_pages,
-        end_roots,
+        start_pages_used,
+        start_roots_used,
+        end_pages_used,
+        end_roots_used,
         passes,
     );
     let answer = queries::question(
         head,
         start_table,
-        start_list,
+        start_roots,
         end_table,
-        end_list,
+        end_roots,
         k1,
         k2,
         t1,
@@ -93,38 +100,42 @@ pub extern "C" fn nimbleshale_lookup_starts(
     last: u32,
     started: u32,
     count_open: u32,
-    start_pages: u32,
-    start_roots: u32,
-    end_pages: u32,
-    end_roots: u32,
-    passes: &[u32],
+    start_pages_used: u32,
+    start_roots_used: u32,
+    end_pages_used: u32,
+    end_roots_used: u32,
+    passes: &[u32; Head::PASS_NUMBERS],
     start_table: &[u64],
-    start_list: &[u64],
+    start_roots: &[u64],
     end_table: &[u64],
-    end_list: &[u64],
+    end_roots: &[u64],
     t: u32,
     k: u32,
     count: &mut u64,
     sum: &mut u64,
     pages: &mut u32,
 ) -> u8
-    ensures { λ r. ⌜ (length (now (passes .entry)) ≡ passNumbers → Tells (perform (storeIn (record { last = last; started = started; count = «count_open»; starts = record { pages = «start_pages»; roots = «start_roots» }; ends = record { pages = «end_pages»; roots = «end_roots» } }) (now (passes .entry)) (lentOf (now («start_table» .entry)) (now («start_list» .entry)) (now («end_table» .entry)) (now («end_list» .entry)))) (lookupIn Starts t k) .answer) r (record { count = now (count .entry); sum = now (sum .entry); pages = now (pages .entry) }) (record { count = now (count .exit); sum = now (sum .exit); pages = now (pages .exit) })) ⌝ }
-    ensures { λ r. ⌜ ((length (now (passes .entry)) ≡ passNumbers → ⊥) → Shut r (record { count = now (count .entry); sum = now (sum .entry); pages = now (pages .entry) }) (record { count = now (count .exit); sum = now (sum .exit); pages = now (pages .exit) })) ⌝ }
+    ensures { λ r. do
+      let handedStarts : TreeUse = record { pages = «start_pages_used»; roots = «start_roots_used» }
+      let handedEnds : TreeUse = record { pages = «end_pages_used»; roots = «end_roots_used» }
+      let handedFields : Fields = record { last = last; started = started; count = «count_open»; starts = handedStarts; ends = handedEnds }
+      let handedLent : Lent = lentOf (now («start_table» .entry)) (now («start_roots» .entry)) (now («end_table» .entry)) (now («end_roots» .entry))
+      let handed : Handed = record { fields = handedFields; passes = now (passes .entry); lent = handedLent }
+      let before : Told = record { count = now (count .entry); sum = now (sum .entry); pages = now (pages .entry) }
+      let after : Told = record { count = now (count .exit); sum = now (sum .exit); pages = now (pages .exit) }
+      ⌜ Tells (perform (storeIn handed) (lookupIn Starts t k) .answer) r before after ⌝ }
 {
-    if passes.len() != Head::PASS_NUMBERS {
-        return 20;
-    }
     let head = head_of(
         last,
         started,
         count_open,
-        start_pages,
-        start_roots,
-        end_pages,
-        end_roots,
+        start_pages_used,
+        start_roots_used,
+        end_pages_used,
+        end_roots_used,
         passes,
     );
-    let answer = queries::lookup_starts(head, start_table, start_list, end_table, end_list, t, k);
+    let answer = queries::lookup_starts(head, start_table, start_roots, end_table, end_roots, t, k);
     tell(answer, count, sum, pages)
 }
 
@@ -134,37 +145,41 @@ pub extern "C" fn nimbleshale_lookup_ends(
     last: u32,
     started: u32,
     count_open: u32,
-    start_pages: u32,
-    start_roots: u32,
-    end_pages: u32,
-    end_roots: u32,
-    passes: &[u32],
+    start_pages_used: u32,
+    start_roots_used: u32,
+    end_pages_used: u32,
+    end_roots_used: u32,
+    passes: &[u32; Head::PASS_NUMBERS],
     start_table: &[u64],
-    start_list: &[u64],
+    start_roots: &[u64],
     end_table: &[u64],
-    end_list: &[u64],
+    end_roots: &[u64],
     t: u32,
     k: u32,
     count: &mut u64,
     sum: &mut u64,
     pages: &mut u32,
 ) -> u8
-    ensures { λ r. ⌜ (length (now (passes .entry)) ≡ passNumbers → Tells (perform (storeIn (record { last = last; started = started; count = «count_open»; starts = record { pages = «start_pages»; roots = «start_roots» }; ends = record { pages = «end_pages»; roots = «end_roots» } }) (now (passes .entry)) (lentOf (now («start_table» .entry)) (now («start_list» .entry)) (now («end_table» .entry)) (now («end_list» .entry)))) (lookupIn Ends t k) .answer) r (record { count = now (count .entry); sum = now (sum .entry); pages = now (pages .entry) }) (record { count = now (count .exit); sum = now (sum .exit); pages = now (pages .exit) })) ⌝ }
-    ensures { λ r. ⌜ ((length (now (passes .entry)) ≡ passNumbers → ⊥) → Shut r (record { count = now (count .entry); sum = now (sum .entry); pages = now (pages .entry) }) (record { count = now (count .exit); sum = now (sum .exit); pages = now (pages .exit) })) ⌝ }
+    ensures { λ r. do
+      let handedStarts : TreeUse = record { pages = «start_pages_used»; roots = «start_roots_used» }
+      let handedEnds : TreeUse = record { pages = «end_pages_used»; roots = «end_roots_used» }
+      let handedFields : Fields = record { last = last; started = started; count = «count_open»; starts = handedStarts; ends = handedEnds }
+      let handedLent : Lent = lentOf (now («start_table» .entry)) (now («start_roots» .entry)) (now («end_table» .entry)) (now («end_roots» .entry))
+      let handed : Handed = record { fields = handedFields; passes = now (passes .entry); lent = handedLent }
+      let before : Told = record { count = now (count .entry); sum = now (sum .entry); pages = now (pages .entry) }
+      let after : Told = record { count = now (count .exit); sum = now (sum .exit); pages = now (pages .exit) }
+      ⌜ Tells (perform (storeIn handed) (lookupIn Ends t k) .answer) r before after ⌝ }
 {
-    if passes.len() != Head::PASS_NUMBERS {
-        return 20;
-    }
     let head = head_of(
         last,
         started,
         count_open,
-        start_pages,
-        start_roots,
-        end_pages,
-        end_roots,
+        start_pages_used,
+        start_roots_used,
+        end_pages_used,
+        end_roots_used,
         passes,
     );
-    let answer = queries::lookup_ends(head, start_table, start_list, end_table, end_list, t, k);
+    let answer = queries::lookup_ends(head, start_table, start_roots, end_table, end_roots, t, k);
     tell(answer, count, sum, pages)
 }

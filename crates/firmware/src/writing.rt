@@ -5,13 +5,13 @@ use crate::heads::put_head;
 use store::Answer;
 use store::Head;
 ghost use mathlib.Core.Path.{_≡_};
-ghost use lib.ListN.{length};
-ghost use Rattle.store.specs.Answers.{refusalOf, valuesOf};
-ghost use Rattle.store.specs.Trees.{lentOf};
+ghost use Rattle.tree.specs.declared.types.TreeUse.{TreeUse};
+ghost use Rattle.store.specs.Trees.{Lent, lentOf};
 ghost use Rattle.store.specs.Calls.{opening, start, end};
+ghost use Rattle.store.specs.Answers.{refusalOf, valuesOf};
 ghost use Rattle.store.specs.Performing.{perform};
-ghost use Rattle.firmware.specs.Heads.{passNumbers};
-ghost use Rattle.firmware.specs.Exported.{storeIn, numberSaid, Leaves, Untouched};
+ghost use Rattle.firmware.specs.Heads.{Fields};
+ghost use Rattle.firmware.specs.Exported.{Handed, storeIn, numberSaid, Leaves};
 
 // An answer's refusal, 0 for none.
 fn refusal_of(answer: Answer) -> u8
@@ -53,44 +53,56 @@ pub extern "C" fn nimbleshale_start(
     last: &mut u32,
     started: &mut u32,
     count_open: &mut u32,
-    start_pages: &mut u32,
-    start_roots: &mut u32,
-    end_pages: &mut u32,
-    end_roots: &mut u32,
-    passes: &mut [u32],
+    start_pages_used: &mut u32,
+    start_roots_used: &mut u32,
+    end_pages_used: &mut u32,
+    end_roots_used: &mut u32,
+    passes: &mut [u32; Head::PASS_NUMBERS],
     start_table: &mut [u64],
-    start_list: &mut [u64],
+    start_roots: &mut [u64],
     end_table: &[u64],
-    end_list: &[u64],
+    end_roots: &[u64],
     tick: u32,
     key: u32,
     weight: u32,
     number: &mut u32,
 ) -> u8
-    ensures { λ r. ⌜ (length (now (passes .entry)) ≡ passNumbers → Leaves (perform (storeIn (record { last = now (last .entry); started = now (started .entry); count = now («count_open» .entry); starts = record { pages = now («start_pages» .entry); roots = now («start_roots» .entry) }; ends = record { pages = now («end_pages» .entry); roots = now («end_roots» .entry) } }) (now (passes .entry)) (lentOf (now («start_table» .entry)) (now («start_list» .entry)) (now («end_table» .entry)) (now («end_list» .entry)))) (start tick key weight)) r (record { last = now (last .exit); started = now (started .exit); count = now («count_open» .exit); starts = record { pages = now («start_pages» .exit); roots = now («start_roots» .exit) }; ends = record { pages = now («end_pages» .exit); roots = now («end_roots» .exit) } }) (now (passes .exit)) (lentOf (now («start_table» .exit)) (now («start_list» .exit)) (now («end_table» .entry)) (now («end_list» .entry)))) ⌝ }
-    ensures { λ _. ⌜ (length (now (passes .entry)) ≡ passNumbers → now (number .exit) ≡ numberSaid (now (number .entry)) (valuesOf (perform (storeIn (record { last = now (last .entry); started = now (started .entry); count = now («count_open» .entry); starts = record { pages = now («start_pages» .entry); roots = now («start_roots» .entry) }; ends = record { pages = now («end_pages» .entry); roots = now («end_roots» .entry) } }) (now (passes .entry)) (lentOf (now («start_table» .entry)) (now («start_list» .entry)) (now («end_table» .entry)) (now («end_list» .entry)))) (start tick key weight) .answer))) ⌝ }
-    ensures { λ r. ⌜ ((length (now (passes .entry)) ≡ passNumbers → ⊥) → Untouched r (record { last = now (last .entry); started = now (started .entry); count = now («count_open» .entry); starts = record { pages = now («start_pages» .entry); roots = now («start_roots» .entry) }; ends = record { pages = now («end_pages» .entry); roots = now («end_roots» .entry) } }) (record { last = now (last .exit); started = now (started .exit); count = now («count_open» .exit); starts = record { pages = now («start_pages» .exit); roots = now («start_roots» .exit) }; ends = record { pages = now («end_pages» .exit); roots = now («end_roots» .exit) } }) (now (passes .entry)) (now (passes .exit)) (lentOf (now («start_table» .entry)) (now («start_list» .entry)) (now («end_table» .entry)) (now («end_list» .entry))) (lentOf (now («start_table» .exit)) (now («start_list» .exit)) (now («end_table» .entry)) (now («end_list» .entry)))) ⌝ }
-    ensures { λ _. ⌜ ((length (now (passes .entry)) ≡ passNumbers → ⊥) → now (number .exit) ≡ now (number .entry)) ⌝ }
+    ensures { λ r. do
+      let beforeStarts : TreeUse = record { pages = now («start_pages_used» .entry); roots = now («start_roots_used» .entry) }
+      let beforeEnds : TreeUse = record { pages = now («end_pages_used» .entry); roots = now («end_roots_used» .entry) }
+      let beforeFields : Fields = record { last = now (last .entry); started = now (started .entry); count = now («count_open» .entry); starts = beforeStarts; ends = beforeEnds }
+      let beforeLent : Lent = lentOf (now («start_table» .entry)) (now («start_roots» .entry)) (now («end_table» .entry)) (now («end_roots» .entry))
+      let before : Handed = record { fields = beforeFields; passes = now (passes .entry); lent = beforeLent }
+      let afterStarts : TreeUse = record { pages = now («start_pages_used» .exit); roots = now («start_roots_used» .exit) }
+      let afterEnds : TreeUse = record { pages = now («end_pages_used» .exit); roots = now («end_roots_used» .exit) }
+      let afterFields : Fields = record { last = now (last .exit); started = now (started .exit); count = now («count_open» .exit); starts = afterStarts; ends = afterEnds }
+      let afterLent : Lent = lentOf (now («start_table» .exit)) (now («start_roots» .exit)) (now («end_table» .entry)) (now («end_roots» .entry))
+      let after : Handed = record { fields = afterFields; passes = now (passes .exit); lent = afterLent }
+      ⌜ Leaves (perform (storeIn before) (start tick key weight)) r before after ⌝ }
+    ensures { λ _. do
+      let beforeStarts : TreeUse = record { pages = now («start_pages_used» .entry); roots = now («start_roots_used» .entry) }
+      let beforeEnds : TreeUse = record { pages = now («end_pages_used» .entry); roots = now («end_roots_used» .entry) }
+      let beforeFields : Fields = record { last = now (last .entry); started = now (started .entry); count = now («count_open» .entry); starts = beforeStarts; ends = beforeEnds }
+      let beforeLent : Lent = lentOf (now («start_table» .entry)) (now («start_roots» .entry)) (now («end_table» .entry)) (now («end_roots» .entry))
+      let before : Handed = record { fields = beforeFields; passes = now (passes .entry); lent = beforeLent }
+      ⌜ now (number .exit) ≡ numberSaid (now (number .entry)) (valuesOf (perform (storeIn before) (start tick key weight) .answer)) ⌝ }
 {
-    if passes.len() != Head::PASS_NUMBERS {
-        return 20;
-    }
     let head = head_of(
         *last,
         *started,
         *count_open,
-        *start_pages,
-        *start_roots,
-        *end_pages,
-        *end_roots,
+        *start_pages_used,
+        *start_roots_used,
+        *end_pages_used,
+        *end_roots_used,
         passes,
     );
     let reply = updates::start(
         head,
         start_table,
-        start_list,
+        start_roots,
         end_table,
-        end_list,
+        end_roots,
         tick,
         key,
         weight,
@@ -107,10 +119,10 @@ pub extern "C" fn nimbleshale_start(
         last,
         started,
         count_open,
-        start_pages,
-        start_roots,
-        end_pages,
-        end_roots,
+        start_pages_used,
+        start_roots_used,
+        end_pages_used,
+        end_roots_used,
         passes,
     );
     0
@@ -122,40 +134,47 @@ pub extern "C" fn nimbleshale_end(
     last: &mut u32,
     started: &mut u32,
     count_open: &mut u32,
-    start_pages: &mut u32,
-    start_roots: &mut u32,
-    end_pages: &mut u32,
-    end_roots: &mut u32,
-    passes: &mut [u32],
+    start_pages_used: &mut u32,
+    start_roots_used: &mut u32,
+    end_pages_used: &mut u32,
+    end_roots_used: &mut u32,
+    passes: &mut [u32; Head::PASS_NUMBERS],
     start_table: &[u64],
-    start_list: &[u64],
+    start_roots: &[u64],
     end_table: &mut [u64],
-    end_list: &mut [u64],
+    end_roots: &mut [u64],
     tick: u32,
     number: u32,
 ) -> u8
-    ensures { λ r. ⌜ (length (now (passes .entry)) ≡ passNumbers → Leaves (perform (storeIn (record { last = now (last .entry); started = now (started .entry); count = now («count_open» .entry); starts = record { pages = now («start_pages» .entry); roots = now («start_roots» .entry) }; ends = record { pages = now («end_pages» .entry); roots = now («end_roots» .entry) } }) (now (passes .entry)) (lentOf (now («start_table» .entry)) (now («start_list» .entry)) (now («end_table» .entry)) (now («end_list» .entry)))) (end tick number)) r (record { last = now (last .exit); started = now (started .exit); count = now («count_open» .exit); starts = record { pages = now («start_pages» .exit); roots = now («start_roots» .exit) }; ends = record { pages = now («end_pages» .exit); roots = now («end_roots» .exit) } }) (now (passes .exit)) (lentOf (now («start_table» .entry)) (now («start_list» .entry)) (now («end_table» .exit)) (now («end_list» .exit)))) ⌝ }
-    ensures { λ r. ⌜ ((length (now (passes .entry)) ≡ passNumbers → ⊥) → Untouched r (record { last = now (last .entry); started = now (started .entry); count = now («count_open» .entry); starts = record { pages = now («start_pages» .entry); roots = now («start_roots» .entry) }; ends = record { pages = now («end_pages» .entry); roots = now («end_roots» .entry) } }) (record { last = now (last .exit); started = now (started .exit); count = now («count_open» .exit); starts = record { pages = now («start_pages» .exit); roots = now («start_roots» .exit) }; ends = record { pages = now («end_pages» .exit); roots = now («end_roots» .exit) } }) (now (passes .entry)) (now (passes .exit)) (lentOf (now («start_table» .entry)) (now («start_list» .entry)) (now («end_table» .entry)) (now («end_list» .entry))) (lentOf (now («start_table» .entry)) (now («start_list» .entry)) (now («end_table» .exit)) (now («end_list» .exit)))) ⌝ }
+    ensures { λ r. do
+      let beforeStarts : TreeUse = record { pages = now («start_pages_used» .entry); roots = now («start_roots_used» .entry) }
+      let beforeEnds : TreeUse = record { pages = now («end_pages_used» .entry); roots = now («end_roots_used» .entry) }
+      let beforeFields : Fields = record { last = now (last .entry); started = now (started .entry); count = now («count_open» .entry); starts = beforeStarts; ends = beforeEnds }
+      let beforeLent : Lent = lentOf (now («start_table» .entry)) (now («start_roots» .entry)) (now («end_table» .entry)) (now («end_roots» .entry))
+      let before : Handed = record { fields = beforeFields; passes = now (passes .entry); lent = beforeLent }
+      let afterStarts : TreeUse = record { pages = now («start_pages_used» .exit); roots = now («start_roots_used» .exit) }
+      let afterEnds : TreeUse = record { pages = now («end_pages_used» .exit); roots = now («end_roots_used» .exit) }
+      let afterFields : Fields = record { last = now (last .exit); started = now (started .exit); count = now («count_open» .exit); starts = afterStarts; ends = afterEnds }
+      let afterLent : Lent = lentOf (now («start_table» .entry)) (now («start_roots» .entry)) (now («end_table» .exit)) (now («end_roots» .exit))
+      let after : Handed = record { fields = afterFields; passes = now (passes .exit); lent = afterLent }
+      ⌜ Leaves (perform (storeIn before) (end tick number)) r before after ⌝ }
 {
-    if passes.len() != Head::PASS_NUMBERS {
-        return 20;
-    }
     let head = head_of(
         *last,
         *started,
         *count_open,
-        *start_pages,
-        *start_roots,
-        *end_pages,
-        *end_roots,
+        *start_pages_used,
+        *start_roots_used,
+        *end_pages_used,
+        *end_roots_used,
         passes,
     );
     let reply = updates::end(
         head,
         start_table,
-        start_list,
+        start_roots,
         end_table,
-        end_list,
+        end_roots,
         tick,
         number,
     );
@@ -170,10 +189,10 @@ pub extern "C" fn nimbleshale_end(
         last,
         started,
         count_open,
-        start_pages,
-        start_roots,
-        end_pages,
-        end_roots,
+        start_pages_used,
+        start_roots_used,
+        end_pages_used,
+        end_roots_used,
         passes,
     );
     0
@@ -185,33 +204,40 @@ pub extern "C" fn nimbleshale_open(
     last: &mut u32,
     started: &mut u32,
     count_open: &mut u32,
-    start_pages: &mut u32,
-    start_roots: &mut u32,
-    end_pages: &mut u32,
-    end_roots: &mut u32,
-    passes: &mut [u32],
+    start_pages_used: &mut u32,
+    start_roots_used: &mut u32,
+    end_pages_used: &mut u32,
+    end_roots_used: &mut u32,
+    passes: &mut [u32; Head::PASS_NUMBERS],
     start_table: &mut [u64],
-    start_list: &mut [u64],
+    start_roots: &mut [u64],
     end_table: &mut [u64],
-    end_list: &mut [u64],
+    end_roots: &mut [u64],
 ) -> u8
-    ensures { λ r. ⌜ (length (now (passes .entry)) ≡ passNumbers → Leaves (perform (storeIn (record { last = now (last .entry); started = now (started .entry); count = now («count_open» .entry); starts = record { pages = now («start_pages» .entry); roots = now («start_roots» .entry) }; ends = record { pages = now («end_pages» .entry); roots = now («end_roots» .entry) } }) (now (passes .entry)) (lentOf (now («start_table» .entry)) (now («start_list» .entry)) (now («end_table» .entry)) (now («end_list» .entry)))) opening) r (record { last = now (last .exit); started = now (started .exit); count = now («count_open» .exit); starts = record { pages = now («start_pages» .exit); roots = now («start_roots» .exit) }; ends = record { pages = now («end_pages» .exit); roots = now («end_roots» .exit) } }) (now (passes .exit)) (lentOf (now («start_table» .exit)) (now («start_list» .exit)) (now («end_table» .exit)) (now («end_list» .exit)))) ⌝ }
-    ensures { λ r. ⌜ ((length (now (passes .entry)) ≡ passNumbers → ⊥) → Untouched r (record { last = now (last .entry); started = now (started .entry); count = now («count_open» .entry); starts = record { pages = now («start_pages» .entry); roots = now («start_roots» .entry) }; ends = record { pages = now («end_pages» .entry); roots = now («end_roots» .entry) } }) (record { last = now (last .exit); started = now (started .exit); count = now («count_open» .exit); starts = record { pages = now («start_pages» .exit); roots = now («start_roots» .exit) }; ends = record { pages = now («end_pages» .exit); roots = now («end_roots» .exit) } }) (now (passes .entry)) (now (passes .exit)) (lentOf (now («start_table» .entry)) (now («start_list» .entry)) (now («end_table» .entry)) (now («end_list» .entry))) (lentOf (now («start_table» .exit)) (now («start_list» .exit)) (now («end_table» .exit)) (now («end_list» .exit)))) ⌝ }
+    ensures { λ r. do
+      let beforeStarts : TreeUse = record { pages = now («start_pages_used» .entry); roots = now («start_roots_used» .entry) }
+      let beforeEnds : TreeUse = record { pages = now («end_pages_used» .entry); roots = now («end_roots_used» .entry) }
+      let beforeFields : Fields = record { last = now (last .entry); started = now (started .entry); count = now («count_open» .entry); starts = beforeStarts; ends = beforeEnds }
+      let beforeLent : Lent = lentOf (now («start_table» .entry)) (now («start_roots» .entry)) (now («end_table» .entry)) (now («end_roots» .entry))
+      let before : Handed = record { fields = beforeFields; passes = now (passes .entry); lent = beforeLent }
+      let afterStarts : TreeUse = record { pages = now («start_pages_used» .exit); roots = now («start_roots_used» .exit) }
+      let afterEnds : TreeUse = record { pages = now («end_pages_used» .exit); roots = now («end_roots_used» .exit) }
+      let afterFields : Fields = record { last = now (last .exit); started = now (started .exit); count = now («count_open» .exit); starts = afterStarts; ends = afterEnds }
+      let afterLent : Lent = lentOf (now («start_table» .exit)) (now («start_roots» .exit)) (now («end_table» .exit)) (now («end_roots» .exit))
+      let after : Handed = record { fields = afterFields; passes = now (passes .exit); lent = afterLent }
+      ⌜ Leaves (perform (storeIn before) opening) r before after ⌝ }
 {
-    if passes.len() != Head::PASS_NUMBERS {
-        return 20;
-    }
     let head = head_of(
         *last,
         *started,
         *count_open,
-        *start_pages,
-        *start_roots,
-        *end_pages,
-        *end_roots,
+        *start_pages_used,
+        *start_roots_used,
+        *end_pages_used,
+        *end_roots_used,
         passes,
     );
-    let reply = updates::open(head, start_table, start_list, end_table, end_list);
+    let reply = updates::open(head, start_table, start_roots, end_table, end_roots);
     let answer = reply.answer;
     let refusal = refusal_of(answer);
     if refusal != 0 {
@@ -223,10 +249,10 @@ pub extern "C" fn nimbleshale_open(
         last,
         started,
         count_open,
-        start_pages,
-        start_roots,
-        end_pages,
-        end_roots,
+        start_pages_used,
+        start_roots_used,
+        end_pages_used,
+        end_roots_used,
         passes,
     );
     0

@@ -18,8 +18,8 @@ returns c =
       started = a .started;
       count = a .count;
       passes = ps;
-      starts = record { pages = a .start-pages; roots = a .start-roots };
-      ends = record { pages = a .end-pages; roots = a .end-roots };
+      starts = record { pages = a .start-pages-used; roots = a .start-roots-used };
+      ends = record { pages = a .end-pages-used; roots = a .end-roots-used };
     })
     (c .read-passes .ensures)
 

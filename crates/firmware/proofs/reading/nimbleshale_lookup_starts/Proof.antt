@@ -1,4 +1,4 @@
-use mathlib.Core.Path.{refl, ap, _∙_}
+use mathlib.Core.Path.{ap, _∙_}
 use Rattle.store.specs.declared.types.Head.{Head}
 use Rattle.store.specs.declared.types.TreeName.the-variants.{Starts}
 use Rattle.store.specs.Trees.{storeOf}
@@ -9,9 +9,6 @@ use borrow.Author.Needs.{needs}
 use Rattle.firmware.proofs.reading.nimbleshale_lookup_starts.Statement.{statement}
 use Rattle.firmware.proofs.reading.nimbleshale_lookup_starts.Tie as tie
 
-returns : tie.Need-returns
-returns c = (λ e. absurd (c .if1 .taken e), λ n. record { refusal = refl; same = refl })
-
 head-of-requires : tie.Need-head-of-requires
 head-of-requires c κs = search needs
 
@@ -21,13 +18,14 @@ lookup-starts-requires c κs = search needs
 tell-requires : tie.Need-tell-requires
 tell-requires c κs = search needs
 
-returns-2 : tie.Need-returns-2
-returns-2 c =
-    let a = c .before .before .before .before .before .before .before .before .before .before .before .before .args in
-    let said = c .before .before .before .before .lookup-starts .ensures
-    ∙ ap (λ (h : Head). perform (storeOf h (a .start-table .now) (a .start-list .now) (a .end-table .now) (a .end-list .now)) (lookupIn Starts (a .t) (a .k)) .answer) (c .before .before .before .before .before .head-of .ensures) in
-    (λ e. told said (c .tell .ensures), λ n. absurd (n (c .before .before .before .before .before .before .if1 .left)))
+returns : tie.Need-returns
+returns c =
+    let a = c .before .before .before .before .before .before .before .before .before .before .before .args in
+    let is =
+    c .before .before .before .before .lookup-starts .ensures
+    ∙ ap (λ (h : Head). perform (storeOf h (a .start-table .now) (a .start-roots .now) (a .end-table .now) (a .end-roots .now)) (lookupIn Starts (a .t) (a .k)) .answer) (c .before .before .before .before .before .head-of .ensures) in
+    told is (c .tell .ensures)
 
 pub nimbleshale-lookup-starts-spec : {M : Type 1} → statement M
 nimbleshale-lookup-starts-spec =
-    tie.close (tie.spec returns head-of-requires lookup-starts-requires tell-requires returns-2)
+    tie.close (tie.spec head-of-requires lookup-starts-requires tell-requires returns)

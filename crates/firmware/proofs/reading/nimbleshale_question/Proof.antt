@@ -1,4 +1,4 @@
-use mathlib.Core.Path.{refl, ap, _∙_}
+use mathlib.Core.Path.{ap, _∙_}
 use Rattle.store.specs.declared.types.Head.{Head}
 use Rattle.store.specs.Trees.{storeOf}
 use Rattle.store.specs.Calls.{question}
@@ -7,9 +7,6 @@ use Rattle.firmware.proofs.ExportedLaws.{told}
 use borrow.Author.Needs.{needs}
 use Rattle.firmware.proofs.reading.nimbleshale_question.Statement.{statement}
 use Rattle.firmware.proofs.reading.nimbleshale_question.Tie as tie
-
-returns : tie.Need-returns
-returns c = (λ e. absurd (c .if1 .taken e), λ n. record { refusal = refl; same = refl })
 
 head-of-requires : tie.Need-head-of-requires
 head-of-requires c κs = search needs
@@ -20,13 +17,14 @@ question-requires c κs = search needs
 tell-requires : tie.Need-tell-requires
 tell-requires c κs = search needs
 
-returns-2 : tie.Need-returns-2
-returns-2 c =
-    let a = c .before .before .before .before .before .before .before .before .before .before .before .before .args in
-    let said = c .before .before .before .before .question .ensures
-    ∙ ap (λ (h : Head). perform (storeOf h (a .start-table .now) (a .start-list .now) (a .end-table .now) (a .end-list .now)) (question (a .k1) (a .k2) (a .t1) (a .t2)) .answer) (c .before .before .before .before .before .head-of .ensures) in
-    (λ e. told said (c .tell .ensures), λ n. absurd (n (c .before .before .before .before .before .before .if1 .left)))
+returns : tie.Need-returns
+returns c =
+    let a = c .before .before .before .before .before .before .before .before .before .before .before .args in
+    let is =
+    c .before .before .before .before .question .ensures
+    ∙ ap (λ (h : Head). perform (storeOf h (a .start-table .now) (a .start-roots .now) (a .end-table .now) (a .end-roots .now)) (question (a .k1) (a .k2) (a .t1) (a .t2)) .answer) (c .before .before .before .before .before .head-of .ensures) in
+    told is (c .tell .ensures)
 
 pub nimbleshale-question-spec : {M : Type 1} → statement M
 nimbleshale-question-spec =
-    tie.close (tie.spec returns head-of-requires question-requires tell-requires returns-2)
+    tie.close (tie.spec head-of-requires question-requires tell-requires returns)
