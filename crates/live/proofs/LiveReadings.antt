@@ -34,7 +34,7 @@ use Rattle.ranges.specs.declared.search.Place.the-variants.{At, Missing}
 use Rattle.ranges.specs.Nearest.{noRange, least, placeAt, placeFound}
 use Rattle.live.specs.declared.test.Tested.{Tested}
 use Rattle.live.specs.declared.test.Tested.the-variants.{Spoiled, Sound}
-use Rattle.live.specs.Tested.{TestedAs, pagesIn, opened}
+use Rattle.live.specs.Tested.{TestedAs, ListsFit, heldTested, pagesIn, opened}
 use Rattle.live.specs.LiveHeld.{addBelow, heldAtPlace, heldAmong, surveyAmong}
 use Rattle.page.proofs.EntryLaws.{Seated, low-fits, high-fits, live-more, live-seated, liveFrom, order-seated}
 use Rattle.tree.proofs.Searches.{first-has}
@@ -308,15 +308,34 @@ module _ (table : List ℕ) (pages t level low high page : ℕ) (in-table : page
   pub met-few : word (pageAt table page) 1 ≤ rowLimit
   met-few = sound-few t level low high (pageAt table page) (and-eq-true-iff (ltb page pages) (soundAt t level low high (pageAt table page)) .0 met .1)
 
-  pub met-places : (ranges places : List ℕ) (n : ℕ) → Listed t (pageAt table page) (word (pageAt table page) 1) ranges places n → AllIn (pageAt table page) (take n places)
+  met-places : (ranges places : List ℕ) (n : ℕ) → Listed t (pageAt table page) (word (pageAt table page) 1) ranges places n → AllIn (pageAt table page) (take n places)
   met-places ranges places n l =
       listed-in t (pageAt table page) ranges places n met-few l (omega (arith, met-few, page-length table page met-inside))
 
-  -- what is read from the page's words and the lists
-  module _ (words : List ℕ) (here : words ≡ pageAt table page) (ranges places : List ℕ) (n : ℕ)
-      (l : Listed t (pageAt table page) (word (pageAt table page) 1) ranges places n) (k : ℕ) where
-    pub met-held : heldAmong words (take n ranges) (take n places) k ≡ opened (pagesIn table pages) t k level low high page
-    met-held = rw (here, met) (held-listed t (pageAt table page) ranges places n met-few l k)
+  pub met-survey : (words : List ℕ) → words ≡ pageAt table page → (ranges places : List ℕ) (n : ℕ)
+      → Listed t (pageAt table page) (word (pageAt table page) 1) ranges places n → (k : ℕ)
+      → surveyAmong (word words 1) k (take n ranges) (take n places) ≡ surveyOf t k (pageAt table page)
+  met-survey words here ranges places n l k = rw here (survey-listed t (pageAt table page) ranges places n met-few l k)
 
-    pub met-survey : surveyAmong (word words 1) k (take n ranges) (take n places) ≡ surveyOf t k (pageAt table page)
-    met-survey = rw here (survey-listed t (pageAt table page) ranges places n met-few l k)
+-- What is read from the lists that opening a page made
+pub lists-sound : (table : List ℕ) (page : ℕ) (ranges places : List ℕ) {r : Tested} {n : ℕ} → r ≡ Sound n → ListsFit table page ranges places r
+    → ListsFit table page ranges places (Sound n)
+lists-sound table page ranges places e h = subst (λ (s : Tested). ListsFit table page ranges places s) e h
+
+module _ (table : List ℕ) (pages t level low high page : ℕ) (in-table : pages * pageWords ≤ length table) (ranges places : List ℕ) where
+  pub opened-fits : (r : Tested) → TestedAs (metAt (pagesIn table pages) t level low high page) t (pageAt table page) ranges places r
+      → ListsFit table page ranges places r
+  opened-fits Spoiled h = tt
+  opened-fits (Sound n) h = (
+    met-inside table pages t level low high page in-table (h .0),
+    h .1 .bounded,
+    ranges-length _ _ _ _ _ _ (h .1),
+    places-length _ _ _ _ _ _ (h .1),
+    met-places table pages t level low high page in-table (h .0) ranges places n (h .1),
+  )
+
+  pub opened-held : (k : ℕ) (r : Tested) → TestedAs (metAt (pagesIn table pages) t level low high page) t (pageAt table page) ranges places r
+      → heldTested table page ranges places k r ≡ opened (pagesIn table pages) t k level low high page
+  opened-held k Spoiled h = rw h
+  opened-held k (Sound n) h =
+      rw (h .0) (held-listed t (pageAt table page) ranges places n (met-few table pages t level low high page in-table (h .0)) (h .1) k)

@@ -22,7 +22,7 @@ ghost use Rattle.tree.specs.Row.{rowStart, rowWords, valueStart, rowLimit, page
 ghost use Rattle.ranges.specs.KeyRanges.{rangeLow};
 ghost use Rattle.live.specs.LiveRows.{AllIn};
 ghost use Rattle.live.specs.LiveHeld.{addBelow, heldAmong};
-ghost use Rattle.live.specs.Tested.{pagesIn, opened};
+ghost use Rattle.live.specs.Tested.{ListsFit, heldTested, pagesIn, opened};
 
 // What a page has for two keys at one tick.
 pub struct HeldTwo {
@@ -85,6 +85,29 @@ fn held_row(page: &[u64], ranges: &[u32], places: &[u8], k: u16) -> Held
     }
 }
 
+// What the listed rows of a page that was opened have for k.
+fn held_tested(
+    table: &[u64],
+    page: u32,
+    tested: Tested,
+    ranges: &[u32],
+    places: &[u8],
+    k: u16,
+) -> Held
+    requires { ⌜ ListsFit (now table) page (now ranges) (now places) tested ⌝ }
+    ensures { λ r. ⌜ r ≡ heldTested (now (table .entry)) page (now (ranges .entry)) (now (places .entry)) k tested ⌝ }
+{
+    match tested {
+        Tested::Spoiled => Held::Spoiled,
+        Tested::Sound(count) => held_row(
+            page_at(table, page),
+            &ranges[..count],
+            &places[..count],
+            k,
+        ),
+    }
+}
+
 // What a page of the table has for (t, k), where it is one of the expected level and key range: the row that holds (t, k), and its true value.
 pub fn read_page(
     table: &[u64],
@@ -113,10 +136,7 @@ pub fn read_page(
         &mut ranges,
         &mut places,
     );
-    let Tested::Sound(count) = tested else {
-        return Held::Spoiled;
-    };
-    held_row(page_at(table, page), &ranges[..count], &places[..count], k)
+    held_tested(table, page, tested, &ranges, &places, k)
 }
 
 // The same for two keys: the test, the dear part, is made once.
@@ -149,14 +169,7 @@ pub fn read_page_for_two(
         &mut ranges,
         &mut places,
     );
-    let Tested::Sound(count) = tested else {
-        return HeldTwo {
-            lower: Held::Spoiled,
-            upper: Held::Spoiled,
-        };
-    };
-    let words = page_at(table, page);
-    let lower = held_row(words, &ranges[..count], &places[..count], lower_key);
-    let upper = held_row(words, &ranges[..count], &places[..count], upper_key);
+    let lower = held_tested(table, page, tested, &ranges, &places, lower_key);
+    let upper = held_tested(table, page, tested, &ranges, &places, upper_key);
     HeldTwo { lower, upper }
 }

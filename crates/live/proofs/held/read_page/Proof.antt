@@ -1,7 +1,5 @@
 use mathlib.Core.Path.{_∙_}
-use Rattle.tree.specs.Tree.{pageAt, metAt}
-use Rattle.live.specs.Tested.{pagesIn}
-use Rattle.live.proofs.LiveReadings.{tested-spoiled, tested-sound, ranges-length, places-length, ranges-few, same-length, met-inside, met-places, met-held}
+use Rattle.live.proofs.LiveReadings.{opened-fits, opened-held}
 use borrow.Author.Needs.{needs}
 use Rattle.live.proofs.held.read_page.Statement.{statement}
 use Rattle.live.proofs.held.read_page.Tie as tie
@@ -15,66 +13,25 @@ slice-aggregate-open-page-2 c = search needs
 open-page-requires : tie.Need-open-page-requires
 open-page-requires c κs = search needs
 
-enum-known-tested : tie.Need-enum-known-tested
-enum-known-tested c = search needs
+slice-aggregate-held-tested : tie.Need-slice-aggregate-held-tested
+slice-aggregate-held-tested c = search needs
 
-enum-told : tie.Need-enum-told
-enum-told c = search needs
+slice-aggregate-held-tested-2 : tie.Need-slice-aggregate-held-tested-2
+slice-aggregate-held-tested-2 c = search needs
+
+held-tested-requires : tie.Need-held-tested-requires
+held-tested-requires c κs =
+    let a = c .before .before .before .before .before .before .before .before .args in
+    let l = c .before .before .before .before .open-page in
+    let lists = l .last .1 .1 .1 .1 .1 .1 .1 in
+    opened-fits (a .table .now) (a .pages) (a .t) (a .level) (a .low) (a .high) (a .page) (search needs) (lists .0) (lists .1 .0) (l .result) (l .ensures)
 
 returns : tie.Need-returns
 returns c =
-    let a = c .before .before .before .before .before .before .before .before .args in
-    rw (tested-spoiled (metAt (pagesIn (a .table .now) (a .pages)) (a .t) (a .level) (a .low) (a .high) (a .page)) (a .t) (pageAt (a .table .now) (a .page)) _ _
-    (c .enum-told .given .1) (c .before .before .before .before .open-page .ensures))
-
-page-at-requires : tie.Need-page-at-requires
-page-at-requires c κs =
     let a = c .before .before .before .before .before .before .before .before .before .args in
-    let s = tested-sound (metAt (pagesIn (a .table .now) (a .pages)) (a .t) (a .level) (a .low) (a .high) (a .page)) (a .t) (pageAt (a .table .now) (a .page)) _ _
-    (c .before .tested .given .1) (c .before .before .before .before .before .open-page .ensures) in
-    met-inside (a .table .now) (a .pages) (a .t) (a .level) (a .low) (a .high) (a .page) (search needs) (s .0)
-
-array-share-prefix-ranges : tie.Need-array-share-prefix-ranges
-array-share-prefix-ranges c =
-    let a = c .before .before .before .before .before .before .before .before .before .before .args in
-    let s = tested-sound (metAt (pagesIn (a .table .now) (a .pages)) (a .t) (a .level) (a .low) (a .high) (a .page)) (a .t) (pageAt (a .table .now) (a .page)) _ _
-    (c .before .before .tested .given .1) (c .before .before .before .before .before .before .open-page .ensures) in
-    let few = s .1 .bounded in search needs
-
-slice-aggregate-held-row : tie.Need-slice-aggregate-held-row
-slice-aggregate-held-row c =
-    let a = c .before .before .before .before .before .before .before .before .before .before .before .args in
-    let s = tested-sound (metAt (pagesIn (a .table .now) (a .pages)) (a .t) (a .level) (a .low) (a .high) (a .page)) (a .t) (pageAt (a .table .now) (a .page)) _ _
-    (c .before .before .before .tested .given .1) (c .before .before .before .before .before .before .before .open-page .ensures) in
-    ranges-length _ _ _ _ _ _ (s .1)
-
-array-share-prefix-places : tie.Need-array-share-prefix-places
-array-share-prefix-places c =
-    let a = c .before .before .before .before .before .before .before .before .before .before .before .args in
-    let s = tested-sound (metAt (pagesIn (a .table .now) (a .pages)) (a .t) (a .level) (a .low) (a .high) (a .page)) (a .t) (pageAt (a .table .now) (a .page)) _ _
-    (c .before .before .before .tested .given .1) (c .before .before .before .before .before .before .before .open-page .ensures) in
-    let few = s .1 .bounded in search needs
-
-slice-aggregate-held-row-2 : tie.Need-slice-aggregate-held-row-2
-slice-aggregate-held-row-2 c =
-    let a = c .before .before .before .before .before .before .before .before .before .before .before .before .args in
-    let s = tested-sound (metAt (pagesIn (a .table .now) (a .pages)) (a .t) (a .level) (a .low) (a .high) (a .page)) (a .t) (pageAt (a .table .now) (a .page)) _ _
-    (c .before .before .before .before .tested .given .1) (c .before .before .before .before .before .before .before .before .open-page .ensures) in
-    places-length _ _ _ _ _ _ (s .1)
-
-held-row-requires : tie.Need-held-row-requires
-held-row-requires c κs =
-    let a = c .before .before .before .before .before .before .before .before .before .before .before .before .args in
-    let s = tested-sound (metAt (pagesIn (a .table .now) (a .pages)) (a .t) (a .level) (a .low) (a .high) (a .page)) (a .t) (pageAt (a .table .now) (a .page)) _ _
-    (c .before .before .before .before .tested .given .1) (c .before .before .before .before .before .before .before .before .open-page .ensures) in
-    (ranges-few _ _ _ _ _ _ (s .1), (same-length _ _ _ _ _ _ (s .1), rw (c .before .before .page-at .ensures) (met-places (a .table .now) (a .pages) (a .t) (a .level) (a .low) (a .high) (a .page) (search needs) (s .0) _ _ _ (s .1))))
-
-returns-2 : tie.Need-returns-2
-returns-2 c =
-    let a = c .before .before .before .before .before .before .before .before .before .before .before .before .before .args in
-    let s = tested-sound (metAt (pagesIn (a .table .now) (a .pages)) (a .t) (a .level) (a .low) (a .high) (a .page)) (a .t) (pageAt (a .table .now) (a .page)) _ _
-    (c .before .before .before .before .before .tested .given .1) (c .before .before .before .before .before .before .before .before .before .open-page .ensures) in
-    c .held-row .ensures ∙ met-held (a .table .now) (a .pages) (a .t) (a .level) (a .low) (a .high) (a .page) (search needs) (s .0) _ (c .before .before .before .page-at .ensures) _ _ _ (s .1) (a .k)
+    let l = c .before .before .before .before .before .open-page in
+    let lists = l .last .1 .1 .1 .1 .1 .1 .1 in
+    c .held-tested .ensures ∙ opened-held (a .table .now) (a .pages) (a .t) (a .level) (a .low) (a .high) (a .page) (search needs) (lists .0) (lists .1 .0) (a .k) (l .result) (l .ensures)
 
 pub read-page-spec : {M : Type 1} → statement M
 read-page-spec =
@@ -83,13 +40,7 @@ read-page-spec =
     slice-aggregate-open-page
     slice-aggregate-open-page-2
     open-page-requires
-    enum-known-tested
-    enum-told
-    returns
-    page-at-requires
-    array-share-prefix-ranges
-    slice-aggregate-held-row
-    array-share-prefix-places
-    slice-aggregate-held-row-2
-    held-row-requires
-    returns-2)
+    slice-aggregate-held-tested
+    slice-aggregate-held-tested-2
+    held-tested-requires
+    returns)

@@ -1,8 +1,6 @@
-use native.Mathlib.Omega.{arith}
 use mathlib.Core.Path.{ap, _∙_}
 use lib.ListN.{length}
-use borrow.Author.Tests.{lt-ltb, le-ltb}
-use Rattle.tree.specs.Tree.{pageAt}
+use borrow.Author.Tests.{le-ltb}
 use Rattle.tree.proofs.TableLaws.{page-length}
 use Rattle.live.proofs.LiveReadings.{met-tested}
 use borrow.Author.Needs.{needs}
