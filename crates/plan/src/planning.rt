@@ -21,7 +21,8 @@ ghost use Rattle.words.specs.Words.{openEnd, rootBirth};
 ghost use Rattle.tree.specs.Row.{pageWords};
 ghost use Rattle.tree.specs.declared.types.RootChange.the-variants as change;
 ghost use Rattle.tree.specs.Tree.{topLevel};
-ghost use Rattle.tree.specs.Plan.{mostMade, plan};
+ghost use Rattle.tree.specs.Plan.{plan};
+ghost use Rattle.tree.specs.Limits.{mostMade};
 ghost use Rattle.plan.specs.PlanSteps.{InWords, appended, metSurvey, metPage, Few, FewParts};
 ghost use Rattle.plan.specs.PlanSteps.{partsOf, planPage, planAbove, planFrom, planTop};
 

@@ -10,7 +10,7 @@ use Rattle.roots.proofs.TopLaws.{Starts, starts, top-roots}
 use Rattle.tree.specs.Tree.{Tree, rootAt, putPage}
 use Rattle.tree.specs.RowSteps.{Point}
 use Rattle.tree.specs.Enter.{enterFrom}
-use Rattle.tree.specs.Plan.{mostMade}
+use Rattle.tree.specs.Limits.{mostMade}
 use Rattle.enter.specs.EnterWords.{pointAt, useOf, DoneAs}
 use Rattle.enter.proofs.EnterRootLaws.{level, rootPage, level-same, in-table, low-level, no-missing, can-enter-at, done-at, few-made, same-size, stays-way, copied-can, copied-way, halved-can, halved-room, halved-way}
 use borrow.Author.Needs.{needs}

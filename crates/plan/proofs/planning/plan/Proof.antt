@@ -3,7 +3,7 @@ use native.Mathlib.Omega.{arith}
 use mathlib.Core.Path.{ap, sym, _∙_}
 use mathlib.Core.List.{[]}
 use Rattle.words.specs.Words.{keyLimit}
-use Rattle.tree.specs.Plan.{mostMade}
+use Rattle.tree.specs.Limits.{mostMade}
 use Rattle.tree.specs.Tree.{Tree, lastRoot}
 use Rattle.roots.proofs.TopLaws.{top-roots, top-fits, starts}
 use Rattle.plan.proofs.PlanBounds.{few-made, plan-within}
