@@ -7,7 +7,8 @@ use mathlib.Core.List.{List}
 use lib.ListN.{length}
 use borrow.Author.Tests.{ltb-true}
 use Rattle.tree.specs.declared.types.Row.{Row}
-use Rattle.tree.specs.Row.{word, rowStart, rowsOf, pageWords, rowLimit, mostRows, mostAppended}
+use Rattle.tree.specs.Row.{word, rowStart, rowsOf, pageWords, rowLimit}
+use Rattle.tree.specs.Limits.{mostRows, mostAppended}
 use Rattle.tree.specs.KeyOrder.{Placed}
 use Rattle.tree.specs.TrueValue.{Search, none, one}
 use Rattle.page.proofs.PageReadings.{header-facts}

@@ -4,9 +4,10 @@ use native.Mathlib.Omega.{arith}
 use mathlib.Core.Path.{_≡_, refl, sym, ap, ap₂, _∙_}
 use mathlib.Core.List.{List, _++_}
 use lib.ListN.{length}
-use Rattle.tree.specs.Plan.{mostMade}
+use Rattle.tree.specs.Limits.{mostMade, mostRows, mostAppended}
 use Rattle.tree.specs.declared.types.Row.{Row}
-use Rattle.tree.specs.Row.{word, rowStart, rowsOf, pageWords, rowLimit, rowIn, mostRows, mostAppended}
+use Rattle.tree.specs.Row.{word, rowStart, rowsOf, pageWords, rowLimit}
+use Rattle.tree.specs.RowEdits.{rowIn}
 use Rattle.tree.specs.KeyOrder.{Placed}
 use Rattle.tree.specs.TrueValue.{none, one}
 use Rattle.ranges.specs.Nearest.{placeFound}

@@ -9,7 +9,7 @@ use lib.ListN.{length}
 use borrow.Author.Tests.{leb-true, ltb-true, ne-eqb}
 use Rattle.words.specs.Words.{rootBirth, keyLimit}
 use Rattle.tree.specs.declared.types.Row.{Row}
-use Rattle.tree.specs.Row.{word, rowsOf, pageWords}
+use Rattle.tree.specs.Row.{rowsOf, pageWords}
 use Rattle.tree.specs.KeyOrder.{Placed}
 use Rattle.tree.specs.TrueValue.{Search, none, one}
 use Rattle.tree.specs.Fresh.{freshPage, twoRows}
@@ -27,11 +27,14 @@ use Rattle.tree.specs.declared.types.Became.{Became}
 use Rattle.tree.specs.declared.types.Became.the-variants.{Stays, Copied, Halved}
 use Rattle.tree.specs.Overflow.{Written, takenPage, finishPage}
 use Rattle.tree.specs.Enter.{Entered, enterAbove, enterBelow, enterFrom, withRoot, enteredAs, enterRoot}
-use Rattle.tree.specs.Plan.{soundBelow, descentSound, topMustSplit, planRoot, plan, enteredRoot, enter, mostMade}
+use Rattle.tree.specs.Plan.{soundBelow, descentSound, topMustSplit, planRoot, plan, enteredRoot, enter}
+use Rattle.tree.specs.Limits.{mostMade}
 use Rattle.split.specs.declared.done.Done.{Done}
 use Rattle.enter.specs.EnterWords.{useOf, CanEnter, DoneAs}
 use Rattle.tree.proofs.MostMade.{made-at-most}
-use Rattle.tree.proofs.TableLaws.{level-in-table}
+use Rattle.roots.specs.declared.top.Top.the-variants as top
+use Rattle.roots.specs.TopPage.{topOf}
+use Rattle.roots.proofs.TopLaws.{top-opens}
 use Rattle.enter.proofs.EnterFacts.{enter-facts}
 use Rattle.enter.specs.EnterRoot.{rootTree, CanPut, RootPut, Planned, EnteredAs}
 
@@ -191,33 +194,24 @@ module _ (tree : Tree) (p : Point) (pl : Planned tree p) where
       }
 
   -- the root that the code finds, and its level
-  pub root-same : (q : ℕ) → rootAt tree (p .tick) ≡ At q → rootPage ≡ q
+  root-same : (q : ℕ) → rootAt tree (p .tick) ≡ At q → rootPage ≡ q
   root-same q e = let f : At rootPage ≡ At q = sym (facts .root-is) ∙ e in cc
 
-  pub level-same : (q : ℕ) → rootPage ≡ q → level ≡ word (tree .table) (q * pageWords)
+  pub level-same : (q l : ℕ) → rootAt tree (p .tick) ≡ At q → levelOf (tree .table) q ≡ l → level ≡ l
   unfolding level
-  level-same q e = ap (levelOf (tree .table)) e ∙ level-in-table (tree .table) q
+  level-same q l e is = ap (levelOf (tree .table)) (root-same q e) ∙ is
 
-  pub can-enter-at : (q : ℕ) → rootAt tree (p .tick) ≡ At q → CanEnter (useOf (tree .table) (tree .used)) p (word (tree .table) (q * pageWords)) q
-  can-enter-at q e =
-      let same = root-same q e in
-      let high : word (tree .table) (q * pageWords) ≡ level = sym (level-same q same) in
-      rw (high, ← same) can-enter
+  pub can-enter-at : (q l : ℕ) → rootAt tree (p .tick) ≡ At q → levelOf (tree .table) q ≡ l → CanEnter (useOf (tree .table) (tree .used)) p l q
+  can-enter-at q l e is = rw (← level-same q l e is, ← root-same q e) can-enter
 
-  pub done-at : (q : ℕ) → rootAt tree (p .tick) ≡ At q → (done : Done) (now : List ℕ) →
-      DoneAs (enterFrom (useOf (tree .table) (tree .used)) p (word (tree .table) (q * pageWords)) q) now done →
+  pub done-at : (q l : ℕ) → rootAt tree (p .tick) ≡ At q → levelOf (tree .table) q ≡ l → (done : Done) (now : List ℕ) →
+      DoneAs (enterFrom (useOf (tree .table) (tree .used)) p l q) now done →
       DoneAs (enterFrom (useOf (tree .table) (tree .used)) p level rootPage) now done
-  done-at q e done now is =
-      let same = root-same q e in
-      let high : word (tree .table) (q * pageWords) ≡ level = sym (level-same q same) in
-      rw (high, ← same) at is
+  done-at q l e is done now so = rw (← level-same q l e is, ← root-same q e) at so
 
   pub low-level : level ≤ topLevel
   unfolding level
   low-level = facts .low-level
-
-  pub root-in-use : rootPage < tree .used .pages
-  root-in-use = facts .in-use
 
   pub same-size : p .tick < 4294967296 → p .key < 65536 → (done : Done) (now : List ℕ) →
       DoneAs (enterFrom (useOf (tree .table) (tree .used)) p level rootPage) now done → length now ≡ length (tree .table)
@@ -327,9 +321,11 @@ module _ (tree : Tree) (p : Point) (pl : Planned tree p) where
           use-is = put .use-is ∙ ap (λ (n : ℕ). root n .used) done-made ∙ sym (parts .2) ∙ ap (λ (x : Tree). x .used) (sym w);
         }
 
--- A planned entry has a root
-pub no-missing : (tree : Tree) (p : Point) → Planned tree p → rootAt tree (p .tick) ≡ Missing → ⊥
-no-missing tree p pl e =
-    let f = plan-facts tree p (pl .plan-is) .1 .root-is in
+-- A planned entry has a root, and starts at its page
+pub no-missing : (tree : Tree) (p : Point) → Planned tree p → (root : Root) → root ≡ rootAt tree (p .tick) → topOf tree root ≡ top.Missing → ⊥
+no-missing tree p pl root found e =
+    let f = plan-facts tree p (pl .plan-is) in
+    let opens = top-opens tree (f .0) (f .1 .in-use) (levelOf (tree .table) (f .0)) refl (f .1 .low-level) in
+    let there = ap (topOf tree) (found ∙ f .1 .root-is) ∙ opens in
     let z : _≡_ {A = ℕ} 0 1 = cc in
     omega arith

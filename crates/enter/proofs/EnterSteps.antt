@@ -5,7 +5,8 @@ use mathlib.Core.Path.{_≡_, refl, sym, ap, _∙_}
 use mathlib.Core.List.{List}
 use Rattle.tree.specs.declared.types.Row.{Row}
 use Rattle.ranges.specs.declared.search.Place.the-variants.{At, Missing}
-use Rattle.tree.specs.Row.{word, rowsOf, rowIn}
+use Rattle.tree.specs.Row.{word, rowsOf}
+use Rattle.tree.specs.RowEdits.{rowIn}
 use Rattle.tree.specs.KeyOrder.{Placed}
 use Rattle.tree.specs.TrueValue.{Search, none, one}
 use Rattle.ranges.specs.Nearest.{placeFound}

@@ -9,7 +9,8 @@ use borrow.Author.Tests.{le-leb, lt-leb}
 use Rattle.words.specs.Lists.{All}
 use Rattle.words.specs.Words.{lowKey, highKey}
 use Rattle.tree.specs.declared.types.Row.{Row}
-use Rattle.tree.specs.Row.{word, rowLimit, copyLimit, pageWords, mostRows}
+use Rattle.tree.specs.Row.{word, rowLimit, copyLimit, pageWords}
+use Rattle.tree.specs.Limits.{mostRows}
 use Rattle.tree.specs.Edit.{withRows}
 use Rattle.tree.specs.Fresh.{freshPage}
 use Rattle.tree.proofs.Lists.{all-drop}

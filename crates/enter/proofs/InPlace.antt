@@ -11,8 +11,10 @@ use Rattle.words.specs.Overwrite.{overwrite}
 use Rattle.words.specs.declared.value.Value.{Value}
 use Rattle.words.specs.Value.{zero}
 use Rattle.tree.specs.declared.types.Row.{Row}
-use Rattle.tree.specs.Row.{word, rowStart, rowWords, rowIn, pageWords, encodeRow, mostAppended}
-use Rattle.tree.specs.Edit.{putRow, endRow, appendRow, putCount, ended, bornAt}
+use Rattle.tree.specs.Row.{word, rowStart, rowWords, pageWords, encodeRow}
+use Rattle.tree.specs.Limits.{mostAppended}
+use Rattle.tree.specs.RowEdits.{rowIn, putRow, endRow, appendRow}
+use Rattle.tree.specs.Edit.{putCount, ended, bornAt}
 use Rattle.tree.specs.Fresh.{newRow, zeros}
 use Rattle.tree.specs.RowSteps.{gained, cutAt, linkedTo}
 use Rattle.tree.specs.Tree.{pageAt, putPage}

@@ -10,7 +10,8 @@ use borrow.Author.Tests.{le-leb, lt-leb}
 use Rattle.words.specs.Lists.{All}
 use Rattle.words.proofs.ValueLaws.{value-alike}
 use Rattle.tree.specs.declared.types.Row.{Row}
-use Rattle.tree.specs.Row.{word, rowAt, rowStart, rowWords, rowsFrom, rowsOf, rowLimit, pageWords, headerWords, mostRows, valueStart}
+use Rattle.tree.specs.Row.{word, rowAt, rowStart, rowWords, rowsFrom, rowsOf, rowLimit, pageWords, headerWords, valueStart}
+use Rattle.tree.specs.Limits.{mostRows}
 use Rattle.tree.specs.Edit.{withRows}
 use Rattle.tree.specs.Fresh.{zeros}
 use Rattle.tree.proofs.PageCodec.{Fits, with-level, with-count, with-range, with-rows}

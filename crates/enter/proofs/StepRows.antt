@@ -11,12 +11,14 @@ use borrow.Author.Tests.{leb-true, ltb-true}
 use Rattle.words.specs.Lists.{All}
 use Rattle.words.specs.Value.{zero}
 use Rattle.tree.specs.declared.types.Row.{Row}
-use Rattle.tree.specs.Row.{word, rowAt, rowStart, rowsOf, headerWords, live, rowIn, mostAppended}
+use Rattle.tree.specs.Row.{word, rowAt, rowStart, rowsOf, headerWords, live}
+use Rattle.tree.specs.Limits.{mostAppended}
+use Rattle.tree.specs.RowEdits.{rowIn, appendRow}
 use Rattle.tree.specs.KeyOrder.{Placed, keyOrder}
 use Rattle.tree.specs.TrueValue.{Search, none, one, first}
 use Rattle.ranges.specs.Nearest.{placeFound}
 use Rattle.live.specs.Survey.{isAround, startsFrom}
-use Rattle.tree.specs.Edit.{ended, bornAt, appendRow, withRows}
+use Rattle.tree.specs.Edit.{ended, bornAt, withRows}
 use Rattle.tree.specs.Fresh.{newRow}
 use Rattle.tree.proofs.Places.{AtPlace, order-places}
 use Rattle.tree.proofs.Searches.{first-has, first-passes}

@@ -11,7 +11,8 @@ use Rattle.tree.specs.declared.types.Plan.the-variants.{Ready}
 use Rattle.tree.specs.Tree.{Tree, lastRoot, pageLimit}
 use Rattle.tree.specs.RowSteps.{Point}
 use Rattle.tree.specs.Enter.{withRoot}
-use Rattle.tree.specs.Plan.{mostMade, plan, enter}
+use Rattle.tree.specs.Plan.{plan, enter}
+use Rattle.tree.specs.Limits.{mostMade}
 use Rattle.words.specs.Words.{rootBirth}
 
 -- A root list and a use, where the table does not matter

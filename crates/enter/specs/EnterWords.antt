@@ -7,7 +7,8 @@ use lib.ListN.{length, take}
 use lib.Dec.{leb}
 use Rattle.words.specs.declared.value.Value.{Value}
 use Rattle.ranges.specs.declared.search.Place.{Place}
-use Rattle.tree.specs.Row.{word, rowsOf, rowLimit, pageWords, mostRows, rowWords, mostAppended}
+use Rattle.tree.specs.Row.{word, rowsOf, rowLimit, pageWords, rowWords}
+use Rattle.tree.specs.Limits.{mostRows, mostAppended, mostMade}
 use Rattle.live.specs.Survey.{surveyOf}
 use Rattle.tree.specs.Fresh.{zeros}
 use Rattle.tree.specs.declared.types.TreeUse.{TreeUse}
@@ -17,7 +18,7 @@ use Rattle.tree.specs.RowSteps.{Point}
 use Rattle.tree.specs.declared.types.Became.{Became}
 use Rattle.tree.specs.declared.types.Became.the-variants.{Stays}
 use Rattle.tree.specs.Enter.{enterFrom}
-use Rattle.tree.specs.Plan.{mostMade, descentSound}
+use Rattle.tree.specs.Plan.{descentSound}
 use Rattle.tree.specs.Overflow.{Written, splitPage, copiedRows}
 use Rattle.split.specs.SplitWords.{scratchWords}
 use Rattle.row_steps.specs.declared.steps.Change.{Change}

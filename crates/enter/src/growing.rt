@@ -1,11 +1,12 @@
 // Entering a point into a tree: from the root for its tick down, and what a root overflow does to the root list.
 use crate::entering::enter_from;
 use page::Page;
+use roots::Top;
 use roots::find_root;
+use roots::find_top;
 use split::put_page;
 use split::taken_page;
 use tree::Became;
-use tree::Root;
 use tree::TreeUse;
 use words::Value;
 ghost use mathlib.Core.Path.{_≡_};
@@ -49,13 +50,13 @@ pub fn enter(
     requires { ⌜ Planned (record { table = now table; roots = now roots; used = used }) (pointAt t k value) ⌝ }
     ensures { λ r. ⌜ EnteredAs (record { table = now (table .entry); roots = now (roots .entry); used = used }) (pointAt t k value) (now (table .exit)) (now (roots .exit)) r ⌝ }
 {
-    let found = find_root(roots, used.roots as usize, t);
-    let Root::At(root) = found else {
+    let root = find_root(roots, used.roots as usize, t);
+    let top = find_top(table, used, root);
+    let Top::At { page, level } = top else {
         return used;
     };
-    let level = table[root as usize * Page::WORDS];
     let mut scratch = [0u64; Page::SCRATCH_WORDS];
-    let done = enter_from(table, &mut scratch, used, level, root, k, value, t);
+    let done = enter_from(table, &mut scratch, used, level, page, k, value, t);
     let became = done.became;
     match became {
         Became::Stays => TreeUse {

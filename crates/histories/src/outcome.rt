@@ -12,7 +12,7 @@ use store::Head;
 use tree::TreeUse;
 use updates::Reply;
 ghost use Prim.Native.Nat.{_≤_};
-ghost use Rattle.tree.specs.Plan.{mostMade};
+ghost use Rattle.tree.specs.Limits.{mostMade};
 
 // The most pages that an entry makes in a tree so many pages high: two on each level and a new root, but no root above the top level.
 fn most_made(height: u64) -> u64

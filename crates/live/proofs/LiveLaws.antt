@@ -13,7 +13,8 @@ use Rattle.words.specs.Words.{endOf}
 use lib.Seq.{take-set-le, take-suc-set, length-take-le}
 use Rattle.words.specs.declared.value.Value.{Value}
 use Rattle.words.specs.Value as value
-use Rattle.tree.specs.Row.{rowStart, rowsFrom, rowLimit, rowIn, live, valueStart}
+use Rattle.tree.specs.Row.{rowStart, rowsFrom, rowLimit, live, valueStart}
+use Rattle.tree.specs.RowEdits.{rowIn}
 use Rattle.tree.specs.KeyOrder.{Placed, keepIf, livePlaced}
 use Rattle.page.specs.Entries.{placedAt}
 use Rattle.ranges.specs.KeyRanges.{rangeOf, rangeLow, placeIn}

@@ -1,13 +1,13 @@
 -- What the lists of a page's live rows say of the page: the page test, the holding row with its true value, the survey.
-use Prim.Native.Nat.{ℕ, zero, suc, _+_, _%_, _≤_, _<_}
+use Prim.Native.Nat.{ℕ, zero, suc, _+_, _*_, _%_, _≤_, _<_}
 use native.Mathlib.Omega.{arith}
 use native.Mathlib.Decide.{decLe}
 use mathlib.Core.Path.{_≡_, refl, sym, ap, ap₂, subst, _∙_}
-use mathlib.Core.Bool.{Bool, true, false, cond, _&&_}
+use mathlib.Core.Bool.{Bool, true, false, cond, _&&_, and-eq-true-iff}
 use mathlib.Core.List.{List, [], _∷_, map}
 use lib.Dec.{leb, ltb}
 use lib.ListN.{length, getD, take, length-map}
-use borrow.Author.Tests.{leb-false, le-leb, lt-leb, lt-ltb, le-ltb}
+use borrow.Author.Tests.{leb-false, le-leb, lt-leb, lt-ltb, le-ltb, ltb-true}
 use Rattle.words.specs.declared.value.Value.{Value}
 use Rattle.words.specs.Value as value
 use Rattle.words.specs.Value.{plus, valueAt}
@@ -17,7 +17,9 @@ use Rattle.tree.specs.declared.types.Held.the-variants.{Found}
 use Rattle.tree.specs.Row.{word, pageWords, rowAt, rowStart, rowWords, rowsFrom, rowsOf, headerWords, holds, rowLimit, live, valueStart}
 use Rattle.tree.specs.KeyOrder.{Placed, placedLow, placedHigh, keepIf, livePlaced, sortBy, keyOrder}
 use Rattle.tree.specs.PageTest.{headerFits, rowsTile, soundAt}
-use Rattle.tree.specs.TrueValue.{Search, none, one, first, totalWhere, rowValue, holdingRow, heldAs, heldIn}
+use Rattle.tree.specs.TrueValue.{Search, none, one, first, totalWhere, rowValue, holdingRow, heldAs}
+use Rattle.tree.specs.Tree.{pageAt, metAt}
+use Rattle.tree.proofs.TableLaws.{page-length}
 use Rattle.tree.proofs.Lists as lists
 use Rattle.tree.proofs.Lists.{All, all-map, all-at}
 use Rattle.tree.proofs.Sorted.{sort-all, all-sort, sort-sum, sort-total}
@@ -32,7 +34,7 @@ use Rattle.ranges.specs.declared.search.Place.the-variants.{At, Missing}
 use Rattle.ranges.specs.Nearest.{noRange, least, placeAt, placeFound}
 use Rattle.live.specs.declared.test.Tested.{Tested}
 use Rattle.live.specs.declared.test.Tested.the-variants.{Spoiled, Sound}
-use Rattle.live.specs.Tested.{TestedAs, ListsFit, heldTested}
+use Rattle.live.specs.Tested.{TestedAs, ListsFit, heldTested, pagesIn, opened}
 use Rattle.live.specs.LiveHeld.{addBelow, heldAtPlace, heldAmong, surveyAmong}
 use Rattle.page.proofs.EntryLaws.{Seated, low-fits, high-fits, live-more, live-seated, liveFrom, order-seated}
 use Rattle.tree.proofs.Searches.{first-has}
@@ -258,13 +260,20 @@ module _ (t level low high : ℕ) (page ranges places : List ℕ) where
     pub tested-says : (n : ℕ) → Listed t page (word page 1) ranges places n → tiles low high (take n ranges) ≡ soundAt t level low high page
     tested-says n l = rw (l .ranges-are, tile-says page t (word page 1) few-rows low high some, fits)
 
-  module _ {r : Tested} where
-    pub tested-spoiled : r ≡ Spoiled → TestedAs t level low high page ranges places r → soundAt t level low high page ≡ false
-    tested-spoiled e h = subst (λ (s : Tested). TestedAs t level low high page ranges places s) e h
+-- What it says of a page that it calls spoiled, or sound
+module _ (sound : Bool) (t : ℕ) (page ranges places : List ℕ) {r : Tested} where
+  pub tested-spoiled : r ≡ Spoiled → TestedAs sound t page ranges places r → sound ≡ false
+  tested-spoiled e h = subst (λ (s : Tested). TestedAs sound t page ranges places s) e h
 
-    pub tested-sound : {n : ℕ} → r ≡ Sound n → TestedAs t level low high page ranges places r →
-        (soundAt t level low high page ≡ true) × Listed t page (word page 1) ranges places n
-    tested-sound e h = subst (λ (s : Tested). TestedAs t level low high page ranges places s) e h
+  pub tested-sound : {n : ℕ} → r ≡ Sound n → TestedAs sound t page ranges places r → (sound ≡ true) × Listed t page (word page 1) ranges places n
+  tested-sound e h = subst (λ (s : Tested). TestedAs sound t page ranges places s) e h
+
+-- In the table: the page is tested on its own words, where its number is one in use
+pub met-tested : (table : List ℕ) (pages t level low high page : ℕ) (words ranges places : List ℕ) (r : Tested) → page < pages → words ≡ pageAt table page
+    → TestedAs (soundAt t level low high words) t words ranges places r
+    → TestedAs (metAt (pagesIn table pages) t level low high page) t (pageAt table page) ranges places r
+met-tested table pages t level low high page words ranges places r used is h =
+    rw (lt-ltb page pages used) (subst (λ (w : List ℕ). TestedAs (soundAt t level low high w) t w ranges places r) is h)
 
 -- The lists, said of the parts of the arrays that are lent on
 module _ (t : ℕ) (page : List ℕ) (rows : ℕ) (ranges places : List ℕ) (n : ℕ) (l : Listed t page rows ranges places n) where
@@ -290,22 +299,43 @@ module _ (t : ℕ) (page ranges places : List ℕ) (n : ℕ) (few : word page 1 
   pub survey-listed : (k : ℕ) → surveyAmong (word page 1) k (take n ranges) (take n places) ≡ surveyOf t k page
   survey-listed k = rw (l .ranges-are, l .places-are) (survey-says t k page few)
 
--- What is read from the lists that the test of a page made
-pub lists-sound : (page ranges places : List ℕ) {r : Tested} {n : ℕ} → r ≡ Sound n → ListsFit page ranges places r → ListsFit page ranges places (Sound n)
-lists-sound page ranges places e h = subst (λ (s : Tested). ListsFit page ranges places s) e h
+-- A page of the table that passed its test: it lies in the table, and its live rows are listed
+module _ (table : List ℕ) (pages t level low high page : ℕ) (in-table : pages * pageWords ≤ length table)
+    (met : metAt (pagesIn table pages) t level low high page ≡ true) where
+  pub met-inside : page * pageWords + pageWords ≤ length table
+  met-inside = omega (arith, ltb-true page pages (and-eq-true-iff (ltb page pages) (soundAt t level low high (pageAt table page)) .0 met .0))
 
-module _ (t level low high : ℕ) (page ranges places : List ℕ) where
-  pub tested-fits : (r : Tested) → length page ≡ pageWords → TestedAs t level low high page ranges places r → ListsFit page ranges places r
-  tested-fits Spoiled long h = tt
-  tested-fits (Sound n) long h =
-      let few = sound-few t level low high page (h .0) in (
-        h .1 .bounded,
-        ranges-length _ _ _ _ _ _ (h .1),
-        places-length _ _ _ _ _ _ (h .1),
-        listed-in t page ranges places n few (h .1) (omega (arith, few, long)),
-      )
+  pub met-few : word (pageAt table page) 1 ≤ rowLimit
+  met-few = sound-few t level low high (pageAt table page) (and-eq-true-iff (ltb page pages) (soundAt t level low high (pageAt table page)) .0 met .1)
 
-  pub tested-held : (k : ℕ) (r : Tested) → TestedAs t level low high page ranges places r →
-      heldTested page ranges places k r ≡ heldIn t k level low high page
-  tested-held k Spoiled h = rw h
-  tested-held k (Sound n) h = rw (h .0) (held-listed t page ranges places n (sound-few t level low high page (h .0)) (h .1) k)
+  met-places : (ranges places : List ℕ) (n : ℕ) → Listed t (pageAt table page) (word (pageAt table page) 1) ranges places n → AllIn (pageAt table page) (take n places)
+  met-places ranges places n l =
+      listed-in t (pageAt table page) ranges places n met-few l (omega (arith, met-few, page-length table page met-inside))
+
+  pub met-survey : (words : List ℕ) → words ≡ pageAt table page → (ranges places : List ℕ) (n : ℕ)
+      → Listed t (pageAt table page) (word (pageAt table page) 1) ranges places n → (k : ℕ)
+      → surveyAmong (word words 1) k (take n ranges) (take n places) ≡ surveyOf t k (pageAt table page)
+  met-survey words here ranges places n l k = rw here (survey-listed t (pageAt table page) ranges places n met-few l k)
+
+-- What is read from the lists that opening a page made
+pub lists-sound : (table : List ℕ) (page : ℕ) (ranges places : List ℕ) {r : Tested} {n : ℕ} → r ≡ Sound n → ListsFit table page ranges places r
+    → ListsFit table page ranges places (Sound n)
+lists-sound table page ranges places e h = subst (λ (s : Tested). ListsFit table page ranges places s) e h
+
+module _ (table : List ℕ) (pages t level low high page : ℕ) (in-table : pages * pageWords ≤ length table) (ranges places : List ℕ) where
+  pub opened-fits : (r : Tested) → TestedAs (metAt (pagesIn table pages) t level low high page) t (pageAt table page) ranges places r
+      → ListsFit table page ranges places r
+  opened-fits Spoiled h = tt
+  opened-fits (Sound n) h = (
+    met-inside table pages t level low high page in-table (h .0),
+    h .1 .bounded,
+    ranges-length _ _ _ _ _ _ (h .1),
+    places-length _ _ _ _ _ _ (h .1),
+    met-places table pages t level low high page in-table (h .0) ranges places n (h .1),
+  )
+
+  pub opened-held : (k : ℕ) (r : Tested) → TestedAs (metAt (pagesIn table pages) t level low high page) t (pageAt table page) ranges places r
+      → heldTested table page ranges places k r ≡ opened (pagesIn table pages) t k level low high page
+  opened-held k Spoiled h = rw h
+  opened-held k (Sound n) h =
+      rw (h .0) (held-listed t (pageAt table page) ranges places n (met-few table pages t level low high page in-table (h .0)) (h .1) k)

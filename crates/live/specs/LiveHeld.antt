@@ -8,7 +8,8 @@ use Rattle.words.specs.declared.value.Value.{Value}
 use Rattle.words.specs.Value.{zero, plus, valueAt}
 use Rattle.tree.specs.declared.types.Held.{Held}
 use Rattle.tree.specs.declared.types.Held.the-variants.{Spoiled, Found}
-use Rattle.tree.specs.Row.{rowStart, rowIn, valueStart}
+use Rattle.tree.specs.Row.{rowStart, valueStart}
+use Rattle.tree.specs.RowEdits.{rowIn}
 use Rattle.ranges.specs.declared.search.Place.{Place}
 use Rattle.ranges.specs.declared.search.Place.the-variants.{At, Missing}
 use Rattle.live.specs.declared.survey.Survey.{Survey}

@@ -1,7 +1,8 @@
 // One page of a lookup: the row that holds (t, k), and its true value.
 use crate::test::Tested;
-use crate::test::list_tested;
+use crate::test::open_page;
 use page::Page;
+use page::page_at;
 use page::row_at;
 use page::row_start;
 use ranges::Place;
@@ -12,17 +13,16 @@ use tree::Row;
 use words::Value;
 ghost use mathlib.Core.Path.{_≡_};
 ghost use mathlib.Core.Bool.{cond};
-ghost use Prim.Native.Nat.{_+_, _≤_, _<_};
+ghost use Prim.Native.Nat.{_+_, _*_, _≤_, _<_};
 ghost use lib.ListN.{length};
 ghost use lib.Dec.{ltb};
 ghost use Rattle.words.specs.Value.{valueAt};
 ghost use Rattle.words.specs.Value as value;
 ghost use Rattle.tree.specs.Row.{rowStart, rowWords, valueStart, rowLimit, pageWords};
-ghost use Rattle.tree.specs.TrueValue.{heldIn};
 ghost use Rattle.ranges.specs.KeyRanges.{rangeLow};
 ghost use Rattle.live.specs.LiveRows.{AllIn};
 ghost use Rattle.live.specs.LiveHeld.{addBelow, heldAmong};
-ghost use Rattle.live.specs.Tested.{ListsFit, heldTested};
+ghost use Rattle.live.specs.Tested.{ListsFit, heldTested, pagesIn, opened};
 
 // What a page has for two keys at one tick.
 pub struct HeldTwo {
@@ -85,32 +85,65 @@ fn held_row(page: &[u64], ranges: &[u32], places: &[u8], k: u16) -> Held
     }
 }
 
-// What the listed rows of a tested page have for k.
-fn held_tested(page: &[u64], tested: Tested, ranges: &[u32], places: &[u8], k: u16) -> Held
-    requires { ⌜ ListsFit (now page) (now ranges) (now places) tested ⌝ }
-    ensures { λ r. ⌜ r ≡ heldTested (now (page .entry)) (now (ranges .entry)) (now (places .entry)) k tested ⌝ }
+// What the listed rows of a page that was opened have for k.
+fn held_tested(
+    table: &[u64],
+    page: u32,
+    tested: Tested,
+    ranges: &[u32],
+    places: &[u8],
+    k: u16,
+) -> Held
+    requires { ⌜ ListsFit (now table) page (now ranges) (now places) tested ⌝ }
+    ensures { λ r. ⌜ r ≡ heldTested (now (table .entry)) page (now (ranges .entry)) (now (places .entry)) k tested ⌝ }
 {
     match tested {
         Tested::Spoiled => Held::Spoiled,
-        Tested::Sound(count) => held_row(page, &ranges[..count], &places[..count], k),
+        Tested::Sound(count) => held_row(
+            page_at(table, page),
+            &ranges[..count],
+            &places[..count],
+            k,
+        ),
     }
 }
 
-// The row that holds (t, k) in a page of the expected level and key range, and its true value. The page is tested in the same pass.
-pub fn read_page(page: &[u64], level: u64, low: u16, high: u16, t: u32, k: u16) -> Held
-    requires { ⌜ length (now page) ≡ pageWords ⌝ }
+// What a page of the table has for (t, k), where it is one of the expected level and key range: the row that holds (t, k), and its true value.
+pub fn read_page(
+    table: &[u64],
+    pages: u32,
+    page: u32,
+    level: u64,
+    low: u16,
+    high: u16,
+    t: u32,
+    k: u16,
+) -> Held
+    requires { ⌜ pages * pageWords ≤ length (now table) ⌝ }
     requires { ⌜ low < high ⌝ }
-    ensures { λ r. ⌜ r ≡ heldIn t k level low high (now (page .entry)) ⌝ }
+    ensures { λ r. ⌜ r ≡ opened (pagesIn (now (table .entry)) pages) t k level low high page ⌝ }
 {
     let mut ranges = [0u32; Page::ROWS];
     let mut places = [0u8; Page::ROWS];
-    let tested = list_tested(page, level, low, high, t, &mut ranges, &mut places);
-    held_tested(page, tested, &ranges, &places, k)
+    let tested = open_page(
+        table,
+        pages,
+        page,
+        level,
+        low,
+        high,
+        t,
+        &mut ranges,
+        &mut places,
+    );
+    held_tested(table, page, tested, &ranges, &places, k)
 }
 
 // The same for two keys: the test, the dear part, is made once.
 pub fn read_page_for_two(
-    page: &[u64],
+    table: &[u64],
+    pages: u32,
+    page: u32,
     level: u64,
     low: u16,
     high: u16,
@@ -118,15 +151,25 @@ pub fn read_page_for_two(
     lower_key: u16,
     upper_key: u16,
 ) -> HeldTwo
-    requires { ⌜ length (now page) ≡ pageWords ⌝ }
+    requires { ⌜ pages * pageWords ≤ length (now table) ⌝ }
     requires { ⌜ low < high ⌝ }
-    ensures { λ r. ⌜ r .lower ≡ heldIn t «lower_key» level low high (now (page .entry)) ⌝ }
-    ensures { λ r. ⌜ r .upper ≡ heldIn t «upper_key» level low high (now (page .entry)) ⌝ }
+    ensures { λ r. ⌜ r .lower ≡ opened (pagesIn (now (table .entry)) pages) t «lower_key» level low high page ⌝ }
+    ensures { λ r. ⌜ r .upper ≡ opened (pagesIn (now (table .entry)) pages) t «upper_key» level low high page ⌝ }
 {
     let mut ranges = [0u32; Page::ROWS];
     let mut places = [0u8; Page::ROWS];
-    let tested = list_tested(page, level, low, high, t, &mut ranges, &mut places);
-    let lower = held_tested(page, tested, &ranges, &places, lower_key);
-    let upper = held_tested(page, tested, &ranges, &places, upper_key);
+    let tested = open_page(
+        table,
+        pages,
+        page,
+        level,
+        low,
+        high,
+        t,
+        &mut ranges,
+        &mut places,
+    );
+    let lower = held_tested(table, page, tested, &ranges, &places, lower_key);
+    let upper = held_tested(table, page, tested, &ranges, &places, upper_key);
     HeldTwo { lower, upper }
 }

@@ -1,19 +1,21 @@
 // What entering a point has to know of a page's rows before any row is changed.
 use crate::live::list_live;
 use crate::test::Tested;
-use crate::test::list_tested;
+use crate::test::open_page;
 use page::Page;
+use page::page_at;
 use ranges::Place;
 use ranges::find_place;
 ghost use mathlib.Core.Path.{_≡_};
 ghost use mathlib.Core.Bool.{cond};
-ghost use Prim.Native.Nat.{_≤_, _<_};
+ghost use Prim.Native.Nat.{_*_, _≤_, _<_};
 ghost use lib.ListN.{length};
 ghost use Rattle.live.specs.declared.survey.Surveyed.the-variants.{Spoiled, Sound};
 ghost use Rattle.tree.specs.Row.{word, pageWords, rowLimit};
-ghost use Rattle.tree.specs.PageTest.{soundAt};
+ghost use Rattle.tree.specs.Tree.{pageAt, metAt};
 ghost use Rattle.live.specs.LiveHeld.{surveyAmong};
 ghost use Rattle.live.specs.Survey.{surveyOf};
+ghost use Rattle.live.specs.Tested.{pagesIn};
 
 // How many rows a page has, how many of them are live, the row around a key, and the first row that starts at the key or above.
 pub struct Survey {
@@ -59,20 +61,38 @@ pub fn survey_page(page: &[u64], t: u32, k: u16) -> Survey
     survey_live(&ranges[..count], &places[..count], rows, k)
 }
 
-// The survey of a page of the expected level and key range. The page is tested in the same pass.
-pub fn survey_sound(page: &[u64], level: u64, low: u16, high: u16, t: u32, k: u16) -> Surveyed
-    requires { ⌜ length (now page) ≡ pageWords ⌝ }
+// The survey of a page of the table that is one of the expected level and key range.
+pub fn survey_sound(
+    table: &[u64],
+    pages: u32,
+    page: u32,
+    level: u64,
+    low: u16,
+    high: u16,
+    t: u32,
+    k: u16,
+) -> Surveyed
+    requires { ⌜ pages * pageWords ≤ length (now table) ⌝ }
     requires { ⌜ low < high ⌝ }
-    ensures { λ r. ⌜ r ≡ cond (soundAt t level low high (now (page .entry))) (Sound (surveyOf t k (now (page .entry)))) Spoiled ⌝ }
+    ensures { λ r. ⌜ r ≡ cond (metAt (pagesIn (now (table .entry)) pages) t level low high page) (Sound (surveyOf t k (pageAt (now (table .entry)) page))) Spoiled ⌝ }
 {
     let mut ranges = [0u32; Page::ROWS];
     let mut places = [0u8; Page::ROWS];
-    let tested = list_tested(page, level, low, high, t, &mut ranges, &mut places);
-    match tested {
-        Tested::Spoiled => Surveyed::Spoiled,
-        Tested::Sound(count) => {
-            let rows = page[1] as usize;
-            Surveyed::Sound(survey_live(&ranges[..count], &places[..count], rows, k))
-        }
-    }
+    let tested = open_page(
+        table,
+        pages,
+        page,
+        level,
+        low,
+        high,
+        t,
+        &mut ranges,
+        &mut places,
+    );
+    let Tested::Sound(count) = tested else {
+        return Surveyed::Spoiled;
+    };
+    let words = page_at(table, page);
+    let rows = words[1] as usize;
+    Surveyed::Sound(survey_live(&ranges[..count], &places[..count], rows, k))
 }

@@ -1,13 +1,15 @@
-// Refusal 26, as far as one page's own words go.
+// Refusal 26: the test of a page, on its own words and in the table.
 use crate::live::list_live;
 use page::Page;
+use page::page_at;
 use ranges::tiles;
 ghost use mathlib.Core.Path.{_≡_};
-ghost use Prim.Native.Nat.{_<_};
+ghost use Prim.Native.Nat.{_*_, _≤_, _<_};
 ghost use lib.ListN.{length};
 ghost use Rattle.tree.specs.Row.{pageWords, rowLimit};
-ghost use Rattle.tree.specs.PageTest.{headerFits};
-ghost use Rattle.live.specs.Tested.{TestedAs};
+ghost use Rattle.tree.specs.PageTest.{headerFits, soundAt};
+ghost use Rattle.tree.specs.Tree.{pageAt, metAt};
+ghost use Rattle.live.specs.Tested.{TestedAs, pagesIn};
 
 // What the test of a page finds: a spoiled page, or a sound one with so many live rows.
 pub enum Tested {
@@ -34,7 +36,7 @@ fn header_fits(page: &[u64], level: u64, low: u16, high: u16) -> bool
 
 // Tests the page for 26 at t, its header and that its live rows hold each key of its range once, none of them empty.
 // Leaves the live rows of a sound page at the front of `ranges` and `places`.
-pub fn list_tested(
+fn list_tested(
     page: &[u64],
     level: u64,
     low: u16,
@@ -47,7 +49,7 @@ pub fn list_tested(
     requires { ⌜ low < high ⌝ }
     requires { ⌜ length (now ranges) ≡ rowLimit ⌝ }
     requires { ⌜ length (now places) ≡ rowLimit ⌝ }
-    ensures { λ r. ⌜ TestedAs t level low high (now (page .entry)) (now (ranges .exit)) (now (places .exit)) r ⌝ }
+    ensures { λ r. ⌜ TestedAs (soundAt t level low high (now (page .entry))) t (now (page .entry)) (now (ranges .exit)) (now (places .exit)) r ⌝ }
 {
     if header_fits(page, level, low, high) {
         let rows = page[1] as usize;
@@ -55,6 +57,31 @@ pub fn list_tested(
         if tiles(&ranges[..count], low, high) {
             return Tested::Sound(count);
         }
+    }
+    Tested::Spoiled
+}
+
+// Opens a page of the table: its number must be below the pages used, and its words those of a page of this level and key range. Every page that
+// a lookup or a plan meets is opened here. Leaves the live rows of a sound page at the front of `ranges` and `places`.
+pub fn open_page(
+    table: &[u64],
+    pages: u32,
+    page: u32,
+    level: u64,
+    low: u16,
+    high: u16,
+    t: u32,
+    ranges: &mut [u32],
+    places: &mut [u8],
+) -> Tested
+    requires { ⌜ pages * pageWords ≤ length (now table) ⌝ }
+    requires { ⌜ low < high ⌝ }
+    requires { ⌜ length (now ranges) ≡ rowLimit ⌝ }
+    requires { ⌜ length (now places) ≡ rowLimit ⌝ }
+    ensures { λ r. ⌜ TestedAs (metAt (pagesIn (now (table .entry)) pages) t level low high page) t (pageAt (now (table .entry)) page) (now (ranges .exit)) (now (places .exit)) r ⌝ }
+{
+    if page < pages {
+        return list_tested(page_at(table, page), level, low, high, t, ranges, places);
     }
     Tested::Spoiled
 }

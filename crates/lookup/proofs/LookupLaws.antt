@@ -1,15 +1,12 @@
 -- A lookup on its way down: the definition adds from the leaf upward, the code from the root downward.
 -- One law for each way through the loop's body, and for each exit in front of the loop.
-use Prim.Native.Nat.{ℕ, zero, suc, _+_, _-_, _*_, _≤_, _<_}
+use Prim.Native.Nat.{ℕ, zero, suc, _+_, _-_}
 use native.Mathlib.Numerals.{sub-one}
 use native.Mathlib.Omega.{arith}
-use mathlib.Core.Path.{_≡_, refl, ap, sym, subst, _∙_}
-use mathlib.Core.Bool.{Bool, true, false, cond, and-eq-true-iff}
+use mathlib.Core.Path.{_≡_, refl, ap, sym, _∙_}
+use mathlib.Core.Bool.{Bool, true, false, cond, _&&_}
 use mathlib.Core.List.{List, []}
-use lib.ListN.{take, drop}
-use lib.Seq.{getD-take, getD-drop}
-use lib.Dec.{leb, ltb}
-use borrow.Author.Tests.{le-ltb, lt-ltb, le-leb, lt-leb, leb-true}
+use lib.Dec.{ltb}
 use Rattle.words.specs.Words.{keyLimit}
 use Rattle.words.specs.declared.value.Value.{Value}
 use Rattle.words.specs.Value.{plus}
@@ -18,40 +15,29 @@ use Rattle.words.proofs.ValueLaws.{plus-assoc, plus-zero, plus-stored, zero-plu
 use Rattle.tree.specs.declared.types.Row.{Row}
 use Rattle.tree.specs.declared.types.Held.{Held}
 use Rattle.tree.specs.declared.types.Held.the-variants as held
-use Rattle.tree.specs.Row.{word, pageWords}
-use Rattle.tree.specs.TrueValue.{heldIn}
+use Rattle.tree.specs.PageTest.{soundAt}
 use Rattle.tree.specs.declared.types.TreeUse.{TreeUse}
 use Rattle.tree.specs.declared.types.Root.{Root}
 use Rattle.tree.specs.declared.types.Root.the-variants.{At, Missing}
 use Rattle.tree.specs.declared.types.Lookup.{Lookup}
 use Rattle.tree.specs.declared.types.Lookup.the-variants.{Spoiled, Found}
-use Rattle.tree.specs.Tree.{Tree, pageAt, levelOf, topLevel, rootAt, rootInUse}
+use Rattle.tree.specs.Tree.{Tree, pageAt, levelOf, rootAt, rootInUse}
 use Rattle.tree.specs.Lookup.{plusPage, withBelow, lookupPage, lookupFrom, lookupRoot, lookup}
-use Rattle.tree.proofs.TableLaws.{level-in-table}
-use Rattle.lookup.specs.declared.descent.Top.{Top}
-use Rattle.lookup.specs.declared.descent.Top.the-variants as top
-use Rattle.lookup.specs.Descent.{onward, opened, below, lookupHeld, topOf, lookupTop, TopFits}
+use Rattle.live.specs.Tested.{opened}
+use Rattle.roots.specs.declared.top.Top.{Top}
+use Rattle.roots.specs.declared.top.Top.the-variants as top
+use Rattle.roots.specs.TopPage.{topOf}
+use Rattle.lookup.specs.Descent.{onward, below, lookupHeld, lookupTop}
 
 -- The same answer where total and pages are the same
 pub same-found : {v w : Value} {m n : ℕ} → v ≡ w → m ≡ n → Found v m ≡ Found w n
 same-found p q = λ i. Found (p i) (q i)
 
-test-inside : (under : Row → Lookup) (b : Bool) (h : Held) → cond b (withBelow under h) Spoiled ≡ withBelow under (cond b h held.Spoiled)
-test-inside under true h = refl
-test-inside under false h = refl
-
--- A page in use, lent from the table by where its words begin and end; and one that is not in use
-module _ (tree : Tree) (t level low high page : ℕ) where
-  pub opens : page < tree .used .pages → (k : ℕ) {h : Held}
-      → h ≡ heldIn t k level low high (take ((page * pageWords + pageWords) - page * pageWords) (drop (page * pageWords) (tree .table)))
-      → h ≡ opened tree t k level low high page
-  opens inside k is =
-      let long : (page * pageWords + pageWords) - page * pageWords ≡ pageWords = omega arith in
-      rw (lt-ltb page (tree .used .pages) inside)
-      (is ∙ ap (λ (n : ℕ). heldIn t k level low high (take n (drop (page * pageWords) (tree .table)))) long)
-
-  pub opens-not : tree .used .pages ≤ page → (k : ℕ) → held.Spoiled ≡ opened tree t k level low high page
-  opens-not outside k = rw (le-ltb page (tree .used .pages) outside)
+-- The tests of the page's number and of its words, outside what is then looked up or inside
+test-inside : (under : Row → Lookup) (a b : Bool) (h : Held)
+    → withBelow under (cond (a && b) h held.Spoiled) ≡ cond a (withBelow under (cond b h held.Spoiled)) Spoiled
+test-inside under true b h = refl
+test-inside under false b h = refl
 
 -- Where nothing is added yet and no page is opened
 plus-nothing : (v : Value) (rest : Lookup) → onward value.zero 0 (plusPage v rest) ≡ plusPage v rest
@@ -72,9 +58,9 @@ module _ (tree : Tree) (t k : ℕ) where
   from-opened : (level low high page : ℕ) → lookupHeld tree t k level (opened tree t k level low high page) ≡ lookupFrom tree t k level low high page
   unfolding lookupFrom
   from-opened zero low high page =
-      sym (test-inside (below tree t k zero) (ltb page (tree .used .pages)) (heldIn t k zero low high (pageAt (tree .table) page)))
+      test-inside (below tree t k zero) (ltb page (tree .used .pages)) (soundAt t zero low high (pageAt (tree .table) page)) _
   from-opened (suc l) low high page =
-      sym (test-inside (below tree t k (suc l)) (ltb page (tree .used .pages)) (heldIn t k (suc l) low high (pageAt (tree .table) page)))
+      test-inside (below tree t k (suc l)) (ltb page (tree .used .pages)) (soundAt t (suc l) low high (pageAt (tree .table) page)) _
 
   -- At the root
   pub way-start : (level low high page : ℕ) {h : Held} {v : Value} → v ≡ value.zero → h ≡ opened tree t k level low high page
@@ -142,20 +128,6 @@ unfolding lookup
 root-found table roots used t k root e =
     root-roots table used [] roots t k root ∙ ap (lookupRoot (record { table = table; roots = roots; used = used }) t k) e
 
--- Where a lookup starts, by the tests of the root's page
-module _ (tree : Tree) (page : ℕ) where
-  pub top-unused : tree .used .pages ≤ page → topOf tree (At page) ≡ top.Missing
-  top-unused h = rw (le-ltb page (tree .used .pages) h)
-
-  pub top-too-high : page < tree .used .pages → topLevel < word (tree .table) (page * pageWords) → topOf tree (At page) ≡ top.Missing
-  top-too-high h high =
-      rw (lt-ltb page (tree .used .pages) h, level-in-table (tree .table) page, lt-leb (word (tree .table) (page * pageWords)) topLevel high)
-
-  pub top-opens : page < tree .used .pages → word (tree .table) (page * pageWords) ≤ topLevel
-      → topOf tree (At page) ≡ top.At page (word (tree .table) (page * pageWords))
-  top-opens h fits =
-      rw (lt-ltb page (tree .used .pages) h, level-in-table (tree .table) page, le-leb (word (tree .table) (page * pageWords)) topLevel fits)
-
 module _ (tree : Tree) (root : Root) {start : Top} (is : start ≡ topOf tree root) where
   -- The lookup from the root is the one from there
   pub from-top : (t k : ℕ) → lookupRoot tree t k root ≡ lookupTop tree t k start
@@ -170,15 +142,3 @@ module _ (tree : Tree) (root : Root) {start : Top} (is : start ≡ topOf tree ro
       go : (r : Root) → lookupRoot tree t k r ≡ lookupTop tree t k (topOf tree r)
       go Missing = refl
       go (At page) = either page (rootInUse tree page)
-
-  -- and its level is one that a root may have
-  pub top-fits : TopFits start
-  top-fits = subst TopFits (sym is) (go root)
-    where
-      either : (page : ℕ) (b : Bool) → rootInUse tree page ≡ b → TopFits (cond b (top.At page (levelOf (tree .table) page)) top.Missing)
-      either page true e = leb-true (levelOf (tree .table) page) topLevel (and-eq-true-iff (ltb page (tree .used .pages)) (leb (levelOf (tree .table) page) topLevel) .0 e .1)
-      either page false e = tt
-
-      go : (r : Root) → TopFits (topOf tree r)
-      go Missing = tt
-      go (At page) = either page (rootInUse tree page) refl

@@ -1,7 +1,5 @@
 -- A lookup on its way down: what it has already, the page that it opened, and what this leads to.
-use Prim.Native.Nat.{ℕ, zero, suc, _+_, _≤_, _<_}
-use mathlib.Core.Bool.{cond}
-use lib.Dec.{ltb}
+use Prim.Native.Nat.{ℕ, zero, suc, _+_, _<_}
 use Rattle.words.specs.Words.{keyLimit}
 use Rattle.words.specs.declared.value.Value.{Value}
 use Rattle.words.specs.Value.{plus}
@@ -9,24 +7,17 @@ use Rattle.words.specs.Value as value
 use Rattle.tree.specs.declared.types.Row.{Row}
 use Rattle.tree.specs.declared.types.Held.{Held}
 use Rattle.tree.specs.declared.types.Held.the-variants as held
-use Rattle.tree.specs.declared.types.Root.{Root}
-use Rattle.tree.specs.declared.types.Root.the-variants as root
 use Rattle.tree.specs.declared.types.Lookup.{Lookup}
 use Rattle.tree.specs.declared.types.Lookup.the-variants.{Spoiled, Found}
-use Rattle.tree.specs.TrueValue.{heldIn}
-use Rattle.tree.specs.Tree.{Tree, pageAt, levelOf, topLevel, rootInUse}
+use Rattle.tree.specs.Tree.{Tree}
 use Rattle.tree.specs.Lookup.{withBelow, lookupFrom}
-use Rattle.lookup.specs.declared.descent.Top.{Top}
-use Rattle.lookup.specs.declared.descent.Top.the-variants as top
+use Rattle.roots.specs.declared.top.Top.{Top}
+use Rattle.roots.specs.declared.top.Top.the-variants as top
 
 -- What a lookup answers that has a total and a number of pages opened already, and the rest before it
 abbrev pub onward : Value → ℕ → Lookup → Lookup
 onward total pages Spoiled = Spoiled
 onward total pages (Found v n) = Found (plus total v) (pages + n)
-
--- What a page on the way has for (t, k)
-abbrev pub opened : Tree → ℕ → ℕ → ℕ → ℕ → ℕ → ℕ → Held
-opened tree t k level low high page = cond (ltb page (tree .used .pages)) (heldIn t k level low high (pageAt (tree .table) page)) held.Spoiled
 
 -- The key range of the row found has a key
 abbrev pub Wide : Held → Type 0
@@ -41,16 +32,7 @@ below tree t k (suc l) = λ (row : Row). lookupFrom tree t k l (row .low) (row .
 abbrev pub lookupHeld : Tree → ℕ → ℕ → ℕ → Held → Lookup
 lookupHeld tree t k level h = withBelow (below tree t k level) h
 
--- The page that a root names, with its level, if a lookup may start there
-abbrev pub topOf : Tree → Root → Top
-topOf tree root.Missing = top.Missing
-topOf tree (root.At page) = cond (rootInUse tree page) (top.At page (levelOf (tree .table) page)) top.Missing
-
--- The lookup from there
+-- The lookup from where it starts
 abbrev pub lookupTop : Tree → ℕ → ℕ → Top → Lookup
 lookupTop tree t k top.Missing = Spoiled
 lookupTop tree t k (top.At page level) = lookupFrom tree t k level 0 keyLimit page
-
-abbrev pub TopFits : Top → Type 0
-TopFits top.Missing = Unit {0}
-TopFits (top.At page level) = level ≤ topLevel

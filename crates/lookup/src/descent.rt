@@ -1,6 +1,8 @@
 // The lookup of one tree: from the root for the tick down to a leaf, the true values of the rows that hold (t, k) added on the way.
-use page::Page;
+use live::read_page;
+use roots::Top;
 use roots::find_root;
+use roots::find_top;
 use tree::Held;
 use tree::Lookup;
 use tree::Root;
@@ -8,42 +10,13 @@ use tree::TreeUse;
 use words::Value;
 ghost use mathlib.Core.Path.{_≡_};
 ghost use mathlib.Core.List.{[]};
-ghost use Prim.Native.Nat.{_+_, _*_, _≤_, _<_};
+ghost use Prim.Native.Nat.{_+_, _*_, _≤_};
 ghost use lib.ListN.{length};
 ghost use Rattle.words.specs.Words.{keyLimit};
 ghost use Rattle.tree.specs.Row.{pageWords};
 ghost use Rattle.tree.specs.Tree.{topLevel};
 ghost use Rattle.tree.specs.Lookup.{lookupFrom, lookupRoot, lookup};
-ghost use Rattle.lookup.specs.Descent.{onward, opened, Wide, lookupHeld, topOf};
-
-// Where a lookup starts: the page of a root and its level, or no page that can be one.
-pub enum Top {
-    At { page: u32, level: u64 },
-    Missing,
-}
-
-// Opens one page: what it has for (t, k), if its number is below the pages used and its words are those of a page of this level and range.
-fn open_page(
-    table: &[u64],
-    used: TreeUse,
-    page: u32,
-    level: u64,
-    low: u16,
-    high: u16,
-    t: u32,
-    k: u16,
-) -> Held
-    requires { ⌜ used .pages * pageWords ≤ length (now table) ⌝ }
-    requires { ⌜ low < high ⌝ }
-    ensures { λ r. ⌜ r ≡ opened (record { table = now (table .entry); roots = []; used = used }) t k level low high page ⌝ }
-{
-    if page < used.pages {
-        let from = page as usize * Page::WORDS;
-        let to = from + Page::WORDS;
-        return live::read_page(&table[from..to], level, low, high, t, k);
-    }
-    Held::Spoiled
-}
+ghost use Rattle.lookup.specs.Descent.{onward, Wide, lookupHeld};
 
 // From a page that is opened down to the leaf. The total and the pages opened grow on the way down, and each page is opened once.
 pub fn descend_from(
@@ -74,7 +47,7 @@ pub fn descend_from(
             };
         }
         level -= 1;
-        held = open_page(table, used, row.child, level, row.low, row.high, t, k);
+        held = read_page(table, used.pages, row.child, level, row.low, row.high, t, k);
     }
 }
 
@@ -84,26 +57,8 @@ fn descend(table: &[u64], used: TreeUse, root: u32, top: u64, t: u32, k: u16) ->
     requires { ⌜ top ≤ topLevel ⌝ }
     ensures { λ r. ⌜ r ≡ lookupFrom (record { table = now (table .entry); roots = []; used = used }) t k top 0 keyLimit root ⌝ }
 {
-    let held = open_page(table, used, root, top, 0, words::KEY_LIMIT, t, k);
+    let held = read_page(table, used.pages, root, top, 0, words::KEY_LIMIT, t, k);
     descend_from(table, used, held, top, Value::zero(), 0, t, k)
-}
-
-// The page of a root and its level, if the page is in use and its level is one that a root may have.
-pub fn find_top(table: &[u64], used: TreeUse, root: Root) -> Top
-    requires { ⌜ used .pages * pageWords ≤ length (now table) ⌝ }
-    ensures { λ r. ⌜ r ≡ topOf (record { table = now (table .entry); roots = []; used = used }) root ⌝ }
-{
-    let Root::At(page) = root else {
-        return Top::Missing;
-    };
-    if used.pages <= page {
-        return Top::Missing;
-    }
-    let level = table[page as usize * Page::WORDS];
-    if TreeUse::TOP_LEVEL < level {
-        return Top::Missing;
-    }
-    Top::At { page, level }
 }
 
 // The total of the points with tick at most t and key at most k, and the pages opened for it, where the root for t was found already: what

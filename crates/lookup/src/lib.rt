@@ -1,8 +1,6 @@
 // The lookup of one tree, in a lent page table and a lent root list.
 mod descent;
 
-pub use descent::Top;
 pub use descent::descend_from;
-pub use descent::find_top;
 pub use descent::lookup;
 pub use descent::lookup_at;

@@ -10,7 +10,8 @@ use Rattle.tree.specs.Tree.{Tree}
 use Rattle.tree.specs.Lookup.{lookupFrom}
 use Rattle.lookup_two.specs.declared.together.Fork.{Fork}
 use Rattle.lookup_two.specs.declared.together.Fork.the-variants.{Shared}
-use Rattle.lookup.specs.Descent.{onward, opened, Wide, lookupHeld}
+use Rattle.live.specs.Tested.{opened}
+use Rattle.lookup.specs.Descent.{onward, Wide, lookupHeld}
 use Rattle.lookup_two.specs.Together.{LeadsAs, ForkAs}
 use Rattle.lookup.proofs.HeldRanges.{opened-wide, row-wide}
 use Rattle.lookup.proofs.LookupLaws.{way-start, way-down}

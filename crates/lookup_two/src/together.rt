@@ -1,10 +1,10 @@
 // The lookups of two keys at one tick from one root. Both paths begin at the root page and often have the next ones in common: a page that
 // both have is tested once, as long as they stay together.
 use live::HeldTwo;
-use lookup::Top;
+use live::read_page_for_two;
 use lookup::descend_from;
-use lookup::find_top;
-use page::Page;
+use roots::Top;
+use roots::find_top;
 use tree::Held;
 use tree::Lookup;
 use tree::Root;
@@ -13,13 +13,12 @@ use tree::TreeUse;
 use words::Value;
 ghost use mathlib.Core.Path.{_≡_};
 ghost use mathlib.Core.List.{[]};
-ghost use Prim.Native.Nat.{_*_, _≤_, _<_};
+ghost use Prim.Native.Nat.{_*_, _≤_};
 ghost use lib.ListN.{length};
 ghost use Rattle.words.specs.Words.{keyLimit};
 ghost use Rattle.tree.specs.Row.{pageWords};
 ghost use Rattle.tree.specs.Tree.{topLevel};
 ghost use Rattle.tree.specs.Lookup.{lookupFrom, lookupRoot};
-ghost use Rattle.lookup.specs.Descent.{opened};
 ghost use Rattle.lookup_two.specs.Together.{ForkAs};
 
 // Two keys to look up at one tick.
@@ -42,41 +41,6 @@ enum Fork {
         upper: Value,
     },
     Apart,
-}
-
-// Opens one page for both keys.
-fn open_page_for_two(
-    table: &[u64],
-    used: TreeUse,
-    page: u32,
-    level: u64,
-    low: u16,
-    high: u16,
-    t: u32,
-    keys: Keys,
-) -> HeldTwo
-    requires { ⌜ used .pages * pageWords ≤ length (now table) ⌝ }
-    requires { ⌜ low < high ⌝ }
-    ensures { λ r. ⌜ r .lower ≡ opened (record { table = now (table .entry); roots = []; used = used }) t (keys .lower) level low high page ⌝ }
-    ensures { λ r. ⌜ r .upper ≡ opened (record { table = now (table .entry); roots = []; used = used }) t (keys .upper) level low high page ⌝ }
-{
-    if page < used.pages {
-        let from = page as usize * Page::WORDS;
-        let to = from + Page::WORDS;
-        return live::read_page_for_two(
-            &table[from..to],
-            level,
-            low,
-            high,
-            t,
-            keys.lower,
-            keys.upper,
-        );
-    }
-    HeldTwo {
-        lower: Held::Spoiled,
-        upper: Held::Spoiled,
-    }
 }
 
 // Whether a page above the leaves leads both keys to one child page, which then must have one key range for both.
@@ -128,7 +92,17 @@ fn descend_together(
     ensures { λ r. ⌜ r .lower ≡ lookupFrom (record { table = now (table .entry); roots = []; used = used }) t (keys .lower) top 0 keyLimit root ⌝ }
     ensures { λ r. ⌜ r .upper ≡ lookupFrom (record { table = now (table .entry); roots = []; used = used }) t (keys .upper) top 0 keyLimit root ⌝ }
 {
-    let mut held = open_page_for_two(table, used, root, top, 0, words::KEY_LIMIT, t, keys);
+    let mut held = read_page_for_two(
+        table,
+        used.pages,
+        root,
+        top,
+        0,
+        words::KEY_LIMIT,
+        t,
+        keys.lower,
+        keys.upper,
+    );
     let mut level = top;
     let mut lower_total = Value::zero();
     let mut upper_total = Value::zero();
@@ -147,7 +121,17 @@ fn descend_together(
         upper_total = upper_total.plus(upper);
         pages += 1;
         level -= 1;
-        held = open_page_for_two(table, used, row.child, level, row.low, row.high, t, keys);
+        held = read_page_for_two(
+            table,
+            used.pages,
+            row.child,
+            level,
+            row.low,
+            row.high,
+            t,
+            keys.lower,
+            keys.upper,
+        );
     }
 }
 

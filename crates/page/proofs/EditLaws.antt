@@ -13,7 +13,8 @@ use Rattle.words.proofs.ValueLaws.{value-same}
 use Rattle.words.proofs.OverwriteLaws.{overwrite-sets, overwrite-more, overwrite-one}
 use Rattle.tree.specs.declared.types.Row.{Row}
 use Rattle.tree.specs.Row.{word, rowAt, rowStart, rowWords, valueStart}
-use Rattle.tree.specs.Edit.{ended, putRow, endRow, putCount, appendRow}
+use Rattle.tree.specs.Edit.{ended, putCount}
+use Rattle.tree.specs.RowEdits.{putRow, endRow, appendRow}
 
 -- the two words of keys and life, then the value's
 pub put-words : (page : List ℕ) (place : ℕ) (r : Row) → rowStart place + rowWords ≤ length page →

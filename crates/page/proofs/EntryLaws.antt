@@ -5,7 +5,8 @@ use mathlib.Core.Path.{_≡_, refl, ap}
 use mathlib.Core.Bool.{Bool, true, false, cond}
 use mathlib.Core.List.{List, [], _∷_, map}
 use lib.Dec.{leb}
-use Rattle.tree.specs.Row.{rowAt, rowStart, rowWords, rowsFrom, live, mostRows}
+use Rattle.tree.specs.Row.{rowAt, rowStart, rowWords, rowsFrom, live}
+use Rattle.tree.specs.Limits.{mostRows}
 use Rattle.tree.specs.KeyOrder.{Placed, placedLow, keepIf, livePlaced, insertBy, sortBy}
 use Rattle.page.specs.Entries.{entryOf, entryLow, entryPlace, placedAt}
 use Rattle.tree.proofs.Lists.{All}

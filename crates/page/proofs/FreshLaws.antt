@@ -13,7 +13,7 @@ use Rattle.tree.specs.declared.types.Row.{Row}
 use Rattle.page.specs.declared.fresh.Page.{Page}
 use Rattle.tree.proofs.PageCodec.{encode-length}
 use Rattle.tree.specs.Row.{rowWords, rowLimit, rowStart, pageWords, encodeRow, encodeRows}
-use Rattle.tree.specs.Edit.{putRow}
+use Rattle.tree.specs.RowEdits.{putRow}
 use Rattle.tree.specs.Fresh.{zeros, freshPage}
 use Rattle.page.specs.PageValue.{pageRows, encodePage}
 

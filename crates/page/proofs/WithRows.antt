@@ -11,7 +11,8 @@ use Rattle.words.proofs.ValueLaws.{value-again}
 use Rattle.words.proofs.OverwriteLaws.{overwrite-length, word-inside, word-before, word-behind}
 use Rattle.tree.specs.declared.types.Row.{Row}
 use Rattle.tree.specs.Row.{word, rowAt, rowStart, rowWords, rowsOf, encodeRow, encodeRows, headerWords, valueStart}
-use Rattle.tree.specs.Edit.{withRows, putRow, appendRow}
+use Rattle.tree.specs.Edit.{withRows}
+use Rattle.tree.specs.RowEdits.{putRow, appendRow}
 use Rattle.tree.proofs.PageCodec.{encode-length, rows-length, row-at-place, put-length, put-before, with-length, with-level, with-count, with-range, with-birth, with-row-words, with-behind}
 
 -- A row read from words and written again is the same words

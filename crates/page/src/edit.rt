@@ -5,7 +5,7 @@ ghost use mathlib.Core.Path.{_≡_};
 ghost use Prim.Native.Nat.{_+_, _≤_};
 ghost use lib.ListN.{length};
 ghost use Rattle.tree.specs.Row.{rowStart, rowWords, word};
-ghost use Rattle.tree.specs.Edit.{putRow, endRow, appendRow};
+ghost use Rattle.tree.specs.RowEdits.{putRow, endRow, appendRow};
 
 // Writes a row over the one at a place.
 pub fn put_row(page: &mut [u64], place: usize, row: Row)

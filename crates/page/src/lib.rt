@@ -4,6 +4,7 @@ mod edit;
 mod fresh;
 mod order;
 mod row;
+mod table;
 
 pub use edit::append_row;
 pub use edit::end_row;
@@ -16,3 +17,4 @@ pub use row::gained_row;
 pub use row::new_row;
 pub use row::row_at;
 pub use row::row_start;
+pub use table::page_at;

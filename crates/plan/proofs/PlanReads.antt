@@ -1,15 +1,17 @@
 -- What the plan reads of a page: the rows it looks up lie in the page's words, and a survey says what step 1 meets.
-use Prim.Native.Nat.{ℕ, _+_, _≤_}
+use Prim.Native.Nat.{ℕ, _+_, _*_, _≤_}
 use native.Mathlib.Omega.{arith}
 use mathlib.Core.Path.{_≡_, refl, sym, ap, subst, _∙_}
-use mathlib.Core.Bool.{Bool, true, false, cond}
+use mathlib.Core.Bool.{Bool, true, false, cond, _&&_, and-eq-true-iff}
 use mathlib.Core.List.{List}
+use lib.Dec.{ltb}
 use lib.ListN.{length}
 use borrow.Author.Tests.{eq-eqb, ne-eqb}
 use Rattle.tree.specs.declared.types.Row.{Row}
 use Rattle.ranges.specs.declared.search.Place.{Place}
 use Rattle.ranges.specs.declared.search.Place.the-variants as place
 use Rattle.live.specs.declared.survey.Survey.{Survey}
+use Rattle.live.specs.declared.survey.Surveyed.{Surveyed}
 use Rattle.live.specs.declared.survey.Surveyed.the-variants as surveyed
 use Rattle.tree.specs.Row.{word, rowAt, rowStart, rowWords, rowsOf, rowLimit, pageWords}
 use Rattle.tree.specs.KeyOrder.{Placed, keyOrder}
@@ -17,9 +19,12 @@ use Rattle.tree.specs.TrueValue.{Search, none, one, first}
 use Rattle.tree.specs.PageTest.{soundAt}
 use Rattle.ranges.specs.Nearest.{placeFound}
 use Rattle.live.specs.Survey.{startsFrom, isAround, surveyOf}
-use Rattle.page.proofs.PageReadings.{sound-few}
+use Rattle.tree.specs.Tree.{pageAt, metAt}
+use Rattle.tree.proofs.TableLaws.{page-length}
+use Rattle.live.specs.Tested.{pagesIn}
+use Rattle.live.proofs.LiveReadings.{met-inside, met-few}
 use Rattle.plan.specs.declared.planning.Met.the-variants as met
-use Rattle.plan.specs.PlanSteps.{InWords, appended, countsOf, metAround, metSurvey, metWords}
+use Rattle.plan.specs.PlanSteps.{InWords, appended, metSurvey, metWords, metPage}
 use Rattle.plan.proofs.PlanLaws.{found-seated}
 
 module _ (t : ℕ) (words : List ℕ) where
@@ -46,48 +51,49 @@ module _ (t : ℕ) (words : List ℕ) where
       go none e = tt
       go (one x) e = omega (arith, found-seated t words test e .within)
 
-  module _ (k level low high : ℕ) where
-    -- The answer of a survey, taken apart
-    pub met-spoiled : cond (soundAt t level low high words) (surveyed.Sound (surveyOf t k words)) surveyed.Spoiled ≡ surveyed.Spoiled →
-        metWords t k level low high words ≡ met.Spoiled
-    unfolding metWords
-    met-spoiled e = go (soundAt t level low high words) e
-      where
-        go : (b : Bool) → cond b (surveyed.Sound (surveyOf t k words)) surveyed.Spoiled ≡ surveyed.Spoiled →
-            cond b (metSurvey t words (surveyOf t k words)) met.Spoiled ≡ met.Spoiled
-        go true f = let z : _≡_ {A = ℕ} 0 1 = cc in absurd (omega arith)
-        go false f = refl
+-- The answer of a survey in the table, taken apart
+module _ (table : List ℕ) (pages t k level low high page : ℕ) where
+  abbrev words : List ℕ
+  words = pageAt table page
 
-    sound-of : {s : Survey} → cond (soundAt t level low high words)
-        (surveyed.Sound (surveyOf t k words)) surveyed.Spoiled ≡ surveyed.Sound s →
-        (soundAt t level low high words ≡ true) × (surveyOf t k words ≡ s)
-    sound-of {s} e = go (soundAt t level low high words) refl e
+  abbrev met-by : Bool → Surveyed
+  met-by b = cond b (surveyed.Sound (surveyOf t k words)) surveyed.Spoiled
+
+  pub met-spoiled : met-by (metAt (pagesIn table pages) t level low high page) ≡ surveyed.Spoiled → metPage table pages t k level low high page ≡ met.Spoiled
+  unfolding metPage metWords
+  met-spoiled e = go (ltb page pages) (soundAt t level low high words) e
+    where
+      go : (a b : Bool) → met-by (a && b) ≡ surveyed.Spoiled → cond a (cond b (metSurvey t words (surveyOf t k words)) met.Spoiled) met.Spoiled ≡ met.Spoiled
+      go true true f = let z : _≡_ {A = ℕ} 0 1 = cc in absurd (omega arith)
+      go true false f = refl
+      go false b f = refl
+
+  module _ {s : Survey} (e : met-by (metAt (pagesIn table pages) t level low high page) ≡ surveyed.Sound s) where
+    sound-of : (metAt (pagesIn table pages) t level low high page ≡ true) × (surveyOf t k words ≡ s)
+    sound-of = go (metAt (pagesIn table pages) t level low high page) refl e
       where
-        go : (b : Bool) → soundAt t level low high words ≡ b → cond b
-            (surveyed.Sound (surveyOf t k words)) surveyed.Spoiled ≡ surveyed.Sound s →
-            (soundAt t level low high words ≡ true) × (surveyOf t k words ≡ s)
+        go : (b : Bool) → metAt (pagesIn table pages) t level low high page ≡ b → met-by b ≡ surveyed.Sound s
+            → (metAt (pagesIn table pages) t level low high page ≡ true) × (surveyOf t k words ≡ s)
         go true f g = (f, cc)
         go false f g = let z : _≡_ {A = ℕ} 0 1 = cc in absurd (omega arith)
 
-    module _ {s : Survey} (e : cond (soundAt t level low high words)
-        (surveyed.Sound (surveyOf t k words)) surveyed.Spoiled ≡ surveyed.Sound s) where
-      met-sound : metSurvey t words s ≡ metWords t k level low high words
-      unfolding metWords
-      met-sound = let f = sound-of e in ap (metSurvey t words) (sym (f .1)) ∙ rw (f .0)
+    pub met-sound : metSurvey t words s ≡ metPage table pages t k level low high page
+    unfolding metPage metWords
+    met-sound =
+        let f = sound-of in
+        let tests = and-eq-true-iff (ltb page pages) (soundAt t level low high words) .0 (f .0) in
+        ap (metSurvey t words) (sym (f .1)) ∙ rw (tests .0, tests .1)
 
-      pub met-lowest : s .inner ≡ place.Missing → met.Lowest (countsOf t words s) ≡ metWords t k level low high words
-      met-lowest h = sym (ap (metAround words (countsOf t words s)) h) ∙ met-sound
+    -- The page lies in the table, and the rows that were found lie in the page
+    module _ (in-table : pages * pageWords ≤ length table) where
+      pub sound-inside : page * pageWords + pageWords ≤ length table
+      sound-inside = met-inside table pages t level low high page in-table (sound-of .0)
 
-      pub met-around : {p : ℕ} → s .inner ≡ place.At p →
-          met.Around (countsOf t words s) (rowAt words (rowStart p)) ≡ metWords t k level low high words
-      met-around h = sym (ap (metAround words (countsOf t words s)) h) ∙ met-sound
+      found-inside : (test : Placed → Bool) → InWords words (placeFound (first test (keyOrder t (rowsOf words))))
+      found-inside = found-in t words (met-few table pages t level low high page in-table (sound-of .0)) (page-length table page sound-inside)
 
-      pub gain-in : length words ≡ pageWords → InWords words (s .gain)
-      gain-in long =
-          let f = sound-of e in
-          subst (λ (q : Survey). InWords words (q .gain)) (f .1) (found-in (sound-few t level low high words (f .0)) long (startsFrom k))
+      pub gain-in : InWords words (s .gain)
+      gain-in = subst (λ (q : Survey). InWords words (q .gain)) (sound-of .1) (found-inside (startsFrom k))
 
-      pub inner-in : length words ≡ pageWords → InWords words (s .inner)
-      inner-in long =
-          let f = sound-of e in
-          subst (λ (q : Survey). InWords words (q .inner)) (f .1) (found-in (sound-few t level low high words (f .0)) long (isAround k))
+      pub inner-in : InWords words (s .inner)
+      inner-in = subst (λ (q : Survey). InWords words (q .inner)) (sound-of .1) (found-inside (isAround k))

@@ -1,17 +1,16 @@
 -- The plan at the root: step 8 by counts, and one law for each way through the code's tests.
-use Prim.Native.Nat.{ℕ, _+_, _*_, _≤_, _<_}
+use Prim.Native.Nat.{ℕ, _+_, _≤_, _<_}
 use native.Mathlib.Omega.{arith}
 use native.Mathlib.Decide.{decLe}
 use mathlib.Core.Path.{_≡_, refl, sym, ap, _∙_}
-use mathlib.Core.Bool.{Bool, true, false, cond, _&&_, not, and-eq-true-iff}
+use mathlib.Core.Bool.{Bool, true, false, cond, _&&_, not}
 use mathlib.Core.List.{List}
 use lib.Dec.{eqb}
 use lib.ListN.{take}
-use borrow.Author.Tests.{le-ltb, lt-ltb, le-leb, lt-leb}
 use Rattle.words.specs.Words.{openEnd, keyLimit, rootBirth}
-use Rattle.tree.specs.Row.{word, pageWords}
 use Rattle.plan.specs.declared.planning.Planned.{Planned}
 use Rattle.plan.specs.declared.planning.Planned.the-variants as planned
+use Rattle.tree.specs.declared.types.Root.{Root}
 use Rattle.tree.specs.declared.types.Root.the-variants.{At, Missing}
 use Rattle.tree.specs.declared.types.Plan.{Plan}
 use Rattle.tree.specs.declared.types.Plan.the-variants.{Spoiled, Ready}
@@ -24,8 +23,10 @@ use Rattle.tree.specs.Overflow.{Written}
 use Rattle.tree.specs.Enter.{Entered, enteredAs, enterFrom, enterRoot}
 use Rattle.tree.specs.Plan.{isHalved, topMustSplit, descentSound, planRoot, plan}
 use Rattle.plan.specs.PlanSteps.{planTop, planFrom}
+use Rattle.roots.specs.declared.top.Top.the-variants as top
+use Rattle.roots.specs.TopPage.{topOf}
 use Rattle.roots.proofs.RootSearch.{root-none}
-use Rattle.tree.proofs.TableLaws.{level-in-table}
+use Rattle.roots.proofs.TopLaws.{Starts}
 use Rattle.plan.proofs.PlanLaws.{partsIn, outcome, join-tests, plan-from-is}
 
 -- What the root's own plan makes of the whole
@@ -75,42 +76,33 @@ some-root roots t used {page} e = go (decLe used 0)
     go (no h) = omega arith
 
 module _ (tree : Tree) (p : Point) where
-  pub no-root-plan : rootAt tree (p .tick) ≡ Missing → plan tree p ≡ Spoiled
+  pub no-top-plan : (root : Root) → root ≡ rootAt tree (p .tick) → topOf tree root ≡ top.Missing → plan tree p ≡ Spoiled
   unfolding plan
-  no-root-plan e = ap (planRoot tree p) e
+  no-top-plan root found e = ap (planRoot tree p) (sym found) ∙ go root e
+    where
+      either : (page : ℕ) (b rest : Bool) (whole : Plan) → cond b (top.At page (levelOf (tree .table) page)) top.Missing ≡ top.Missing → cond (b && rest) whole Spoiled ≡ Spoiled
+      either page true rest whole f = let z : _≡_ {A = ℕ} 0 1 = cc in absurd (omega arith)
+      either page false rest whole f = refl
 
-  module _ (page : ℕ) (found : rootAt tree (p .tick) ≡ At page) where
-    pub unused-plan : tree .used .pages ≤ page → plan tree p ≡ Spoiled
-    unfolding plan
-    unused-plan h = ap (planRoot tree p) found ∙ rw (le-ltb page (tree .used .pages) h)
+      go : (r : Root) → topOf tree r ≡ top.Missing → planRoot tree p r ≡ Spoiled
+      go Missing f = refl
+      go (At page) f = either page (rootInUse tree page) _ _ f
 
-    pub too-high-plan : page < tree .used .pages → topLevel < word (tree .table) (page * pageWords) → plan tree p ≡ Spoiled
-    unfolding plan
-    too-high-plan h high =
-        let above : topLevel < levelOf (tree .table) page = rw (level-in-table (tree .table) page) high in
-        ap (planRoot tree p) found ∙ rw (lt-ltb page (tree .used .pages) h, lt-leb (levelOf (tree .table) page) topLevel above)
+  module _ (root : Root) (found : root ≡ rootAt tree (p .tick)) (page level : ℕ) (start : Starts tree root page level) (small : p .tick < openEnd) where
+    abbrev fromLevel : ℕ → Plan
+    fromLevel l = planEnd l (lastRoot tree) (p .tick) (planFrom (tree .table) (tree .used .pages) (p .tick) (p .key) l 0 keyLimit page)
 
-    module _ (small : p .tick < openEnd) (h : page < tree .used .pages) (fits : word (tree .table) (page * pageWords) ≤ topLevel) where
-      in-use : rootInUse tree page ≡ true
-      in-use =
-          let low : levelOf (tree .table) page ≤ topLevel = rw (level-in-table (tree .table) page) fits in
-          and-eq-true-iff _ _ .1 (lt-ltb page (tree .used .pages) h, le-leb (levelOf (tree .table) page) topLevel low)
-
-      abbrev fromLevel : ℕ → Plan
-      fromLevel level =
-          planEnd level (lastRoot tree) (p .tick) (planFrom (tree .table) (tree .used .pages) (p .tick) (p .key) level 0 keyLimit page)
-
-      pub opened-plan : plan tree p ≡ fromLevel (word (tree .table) (page * pageWords))
-      unfolding plan enterRoot
-      opened-plan =
-          let level : ℕ = levelOf (tree .table) page in
-          let so : Written = enterFrom tree p level page in
-          let sound : Bool = descentSound tree p level 0 keyLimit page in
-          let whole : Plan = Ready (enterRoot tree p page .made) (enterRoot tree p page .root) in
-          ap (planRoot tree p) found
-          ∙ ap (λ (b : Bool). cond (b && (sound && not (topMustSplit tree p page))) whole Spoiled) in-use
-          ∙ sym (ap (planEnd level (lastRoot tree) (p .tick)) (plan-from-is tree p small level 0 keyLimit page)
-          ∙ end-test level (lastRoot tree) (p .tick) sound (outcome so)
-          ∙ ap (λ (x : Plan). cond sound x Spoiled) (top-is tree (p .tick) level so (so .became))
-          ∙ join-tests sound (not (topMustSplit tree p page)) whole Spoiled)
-          ∙ ap fromLevel (level-in-table (tree .table) page)
+    pub opened-plan : plan tree p ≡ fromLevel level
+    unfolding plan enterRoot
+    opened-plan =
+        let own : ℕ = levelOf (tree .table) page in
+        let so : Written = enterFrom tree p own page in
+        let sound : Bool = descentSound tree p own 0 keyLimit page in
+        let whole : Plan = Ready (enterRoot tree p page .made) (enterRoot tree p page .root) in
+        ap (planRoot tree p) (sym found ∙ start .root-is)
+        ∙ ap (λ (b : Bool). cond (b && (sound && not (topMustSplit tree p page))) whole Spoiled) (start .in-use)
+        ∙ sym (ap (planEnd own (lastRoot tree) (p .tick)) (plan-from-is tree p small own 0 keyLimit page)
+        ∙ end-test own (lastRoot tree) (p .tick) sound (outcome so)
+        ∙ ap (λ (x : Plan). cond sound x Spoiled) (top-is tree (p .tick) own so (so .became))
+        ∙ join-tests sound (not (topMustSplit tree p page)) whole Spoiled)
+        ∙ ap fromLevel (start .level-is)

@@ -1,11 +1,13 @@
 // The plan of an entry, made before anything is written: whether a spoiled page is met, how many pages the entry makes, and what it
 // does to the root list. Only counts of rows decide that, so the plan reads each page once and copies no row.
+use live::Survey;
 use live::Surveyed;
 use page::Page;
 use ranges::Place;
+use roots::Top;
 use roots::find_root;
+use roots::find_top;
 use tree::Plan;
-use tree::Root;
 use tree::RootChange;
 use tree::Row;
 use tree::TreeUse;
@@ -19,8 +21,9 @@ ghost use Rattle.words.specs.Words.{openEnd, rootBirth};
 ghost use Rattle.tree.specs.Row.{pageWords};
 ghost use Rattle.tree.specs.declared.types.RootChange.the-variants as change;
 ghost use Rattle.tree.specs.Tree.{topLevel};
-ghost use Rattle.tree.specs.Plan.{mostMade, plan};
-ghost use Rattle.plan.specs.PlanSteps.{InWords, appended, metWords, metPage, Few, FewParts};
+ghost use Rattle.tree.specs.Plan.{plan};
+ghost use Rattle.tree.specs.Limits.{mostMade};
+ghost use Rattle.plan.specs.PlanSteps.{InWords, appended, metSurvey, metPage, Few, FewParts};
 ghost use Rattle.plan.specs.PlanSteps.{partsOf, planPage, planAbove, planFrom, planTop};
 
 // The rows of a page before the entry: how many, how many live, and how many rows are appended where the row that gains the point,
@@ -61,16 +64,12 @@ fn appended_for(words: &[u64], place: Place, t: u32) -> usize
     1
 }
 
-// One page of the descent, as one of this level and key range.
-fn meet_words(words: &[u64], level: u64, low: u16, high: u16, t: u32, k: u16) -> Met
-    requires { ⌜ length (now words) ≡ pageWords ⌝ }
-    requires { ⌜ low < high ⌝ }
-    ensures { λ r. ⌜ r ≡ metWords t k level low high (now (words .entry)) ⌝ }
+// What step 1 meets in a page that is sound, of which the survey is known.
+fn meet_words(words: &[u64], survey: Survey, t: u32) -> Met
+    requires { ⌜ InWords (now words) (survey .gain) ⌝ }
+    requires { ⌜ InWords (now words) (survey .inner) ⌝ }
+    ensures { λ r. ⌜ r ≡ metSurvey t (now (words .entry)) survey ⌝ }
 {
-    let surveyed = live::survey_sound(words, level, low, high, t, k);
-    let Surveyed::Sound(survey) = surveyed else {
-        return Met::Spoiled;
-    };
     let gain = survey.gain;
     let inner = survey.inner;
     let counts = Counts {
@@ -88,7 +87,7 @@ fn meet_words(words: &[u64], level: u64, low: u16, high: u16, t: u32, k: u16) ->
     }
 }
 
-// The same in the table: a page number that is not in use is spoiled too.
+// One page of the descent, as one of this level and key range.
 fn meet_page(
     table: &[u64],
     pages: u32,
@@ -103,12 +102,11 @@ fn meet_page(
     requires { ⌜ low < high ⌝ }
     ensures { λ r. ⌜ r ≡ metPage (now (table .entry)) pages t k level low high page ⌝ }
 {
-    if page < pages {
-        let from = page as usize * Page::WORDS;
-        let to = from + Page::WORDS;
-        return meet_words(&table[from..to], level, low, high, t, k);
-    }
-    Met::Spoiled
+    let surveyed = live::survey_sound(table, pages, page, level, low, high, t, k);
+    let Surveyed::Sound(survey) = surveyed else {
+        return Met::Spoiled;
+    };
+    meet_words(page::page_at(table, page), survey, t)
 }
 
 // How many pages take the rows of a page that has so many rows, and so many live ones, after the steps.
@@ -225,21 +223,15 @@ pub fn plan(table: &[u64], roots: &[u64], used: TreeUse, t: u32, k: u16) -> Plan
     requires { ⌜ t < openEnd ⌝ }
     ensures { λ r. ⌜ ((v : Value) → r ≡ plan (record { table = now (table .entry); roots = now (roots .entry); used = used }) (record { tick = t; key = k; value = v })) ⌝ }
 {
-    let found = find_root(roots, used.roots as usize, t);
-    let Root::At(root) = found else {
+    let root = find_root(roots, used.roots as usize, t);
+    let top = find_top(table, used, root);
+    let Top::At { page, level } = top else {
         return Plan::Spoiled;
     };
-    if used.pages <= root {
-        return Plan::Spoiled;
-    }
-    let top = table[root as usize * Page::WORDS];
-    if TreeUse::TOP_LEVEL < top {
-        return Plan::Spoiled;
-    }
-    let planned = plan_from(table, used.pages, root, top, 0, words::KEY_LIMIT, t, k);
+    let planned = plan_from(table, used.pages, page, level, 0, words::KEY_LIMIT, t, k);
     let Planned::Made { made, parts } = planned else {
         return Plan::Spoiled;
     };
     let last = roots[used.roots as usize - 1];
-    plan_top(made, parts, top, last, t)
+    plan_top(made, parts, level, last, t)
 }

@@ -1,2 +1,3 @@
 -- Laws of the root search.
 pub mod RootSearch
+pub mod TopLaws

@@ -8,8 +8,10 @@ use lib.Dec.{eqb}
 use lib.ListN.{length}
 use Rattle.words.proofs.OverwriteLaws.{overwrite-length, word-inside}
 use Rattle.tree.specs.declared.types.Row.{Row}
-use Rattle.tree.specs.Row.{word, rowAt, rowStart, rowWords, rowIn, mostAppended}
-use Rattle.tree.specs.Edit.{putRow, endRow, appendRow, ended, bornAt}
+use Rattle.tree.specs.Row.{word, rowAt, rowStart, rowWords}
+use Rattle.tree.specs.Limits.{mostAppended}
+use Rattle.tree.specs.RowEdits.{rowIn, putRow, endRow, appendRow}
+use Rattle.tree.specs.Edit.{ended, bornAt}
 use Rattle.tree.proofs.PageCodec.{put-length, put-before}
 use Rattle.words.specs.declared.value.Value.{Value}
 use Rattle.words.specs.Value.{zero}

@@ -8,9 +8,10 @@ use lib.Dec.{eqb}
 use lib.ListN.{length, set, length-set, length-append}
 use Rattle.words.specs.Lists.{All}
 use Rattle.tree.specs.declared.types.Row.{Row}
-use Rattle.tree.specs.Row.{word, rowStart, rowsOf, headerWords, rowIn}
+use Rattle.tree.specs.Row.{word, rowStart, rowsOf, headerWords}
+use Rattle.tree.specs.RowEdits.{rowIn, putRow, endRow, appendRow}
 use Rattle.tree.specs.KeyOrder.{Placed}
-use Rattle.tree.specs.Edit.{ended, bornAt, putRow, endRow, appendRow, withRows}
+use Rattle.tree.specs.Edit.{ended, bornAt, withRows}
 use Rattle.tree.proofs.Lists.{all-set, all-append}
 use Rattle.tree.proofs.PageCodec.{Fits, row-fits, rows-fit, rows-length, with-length, with-count, with-rows}
 use Rattle.page.proofs.WithRows.{put-is-with, append-is-with, with-with}

@@ -8,8 +8,8 @@ use Rattle.words.specs.Value.{zero}
 use Rattle.tree.specs.declared.types.Row.{Row}
 use Rattle.ranges.specs.declared.search.Place.{Place}
 use Rattle.ranges.specs.declared.search.Place.the-variants.{At, Missing}
-use Rattle.tree.specs.Row.{rowIn}
-use Rattle.tree.specs.Edit.{putRow, endRow, appendRow, bornAt}
+use Rattle.tree.specs.RowEdits.{rowIn, putRow, endRow, appendRow}
+use Rattle.tree.specs.Edit.{bornAt}
 use Rattle.tree.specs.Fresh.{newRow}
 use Rattle.tree.specs.RowSteps.{gained, cutAt, linkedTo}
 use Rattle.tree.specs.declared.types.Child.{Child}

@@ -9,7 +9,8 @@ use words::Value;
 ghost use mathlib.Core.Path.{_≡_};
 ghost use Prim.Native.Nat.{_+_, _≤_, _<_};
 ghost use lib.ListN.{length};
-ghost use Rattle.tree.specs.Row.{rowStart, rowWords, word, mostAppended};
+ghost use Rattle.tree.specs.Row.{rowStart, rowWords, word};
+ghost use Rattle.tree.specs.Limits.{mostAppended};
 ghost use Rattle.tree.specs.RowSteps.{cutAt, linkedTo};
 ghost use Rattle.row_steps.specs.PageEdits.{replaceWords, gainWords, cutWords, leafWords, linkWords, changeWords, Within, ChangeWithin};
 

@@ -10,7 +10,9 @@ use Rattle.words.specs.Lists.{All}
 use Rattle.words.specs.Words.{lowKey, highKey}
 use Rattle.words.specs.Value as value
 use Rattle.tree.specs.declared.types.Row.{Row}
-use Rattle.tree.specs.Row.{word, rowStart, rowWords, rowsOf, copyLimit, rowIn, mostRows}
+use Rattle.tree.specs.Row.{word, rowStart, rowWords, rowsOf, copyLimit}
+use Rattle.tree.specs.Limits.{mostRows}
+use Rattle.tree.specs.RowEdits.{rowIn}
 use Rattle.tree.specs.KeyOrder.{Placed, keyOrder}
 use Rattle.tree.specs.Edit.{bornAt}
 use Rattle.tree.specs.Fresh.{freshPage}

@@ -9,7 +9,9 @@ use Rattle.words.specs.declared.value.Value.{Value}
 use Rattle.words.specs.Value.{plus}
 use Rattle.tree.specs.declared.types.Row.{Row}
 use Rattle.page.specs.declared.fresh.Page.{Page}
-use Rattle.tree.specs.Row.{word, headerWords, rowWords, rowsOf, rowIn, mostRows}
+use Rattle.tree.specs.Row.{word, headerWords, rowWords, rowsOf}
+use Rattle.tree.specs.Limits.{mostRows}
+use Rattle.tree.specs.RowEdits.{rowIn}
 use Rattle.tree.specs.Edit.{bornAt}
 use Rattle.tree.specs.Fresh.{freshPage}
 use Rattle.page.specs.PageValue.{withRow}

@@ -11,12 +11,12 @@ ghost use mathlib.Core.Path.{_≡_};
 ghost use Prim.Native.Nat.{_+_, _*_, _-_, _≤_, _<_};
 ghost use lib.ListN.{length, drop};
 ghost use Rattle.words.specs.Value as value;
-ghost use Rattle.tree.specs.Row.{word, headerWords, pageWords, rowLimit, copyLimit, mostRows};
+ghost use Rattle.tree.specs.Row.{word, headerWords, pageWords, rowLimit, copyLimit};
+ghost use Rattle.tree.specs.Limits.{mostRows, mostMade};
 ghost use Rattle.page.specs.PageValue.{encodePage, emptyPage};
 ghost use Rattle.page.specs.Entries.{InPage};
 ghost use Rattle.tree.specs.Tree.{putPage, pageLimit};
 ghost use Rattle.tree.specs.Overflow.{takenPage, lowerHalf};
-ghost use Rattle.tree.specs.Plan.{mostMade};
 ghost use Rattle.split.specs.SplitWords.{scratchWords, Sourced, between, fillPage, addRows, gainPage, copiedTable, middleKey, halvedTable, splitWords};
 
 // A new page of the old page's level, with the rows of the entries from one place of the order up to another, each born at t and open. The

@@ -12,7 +12,8 @@ use Rattle.words.proofs.Measure.{Measure, countOf, sumOf, count-measure, sum-me
 use Rattle.tree.specs.declared.types.Lookup.the-variants.{Found}
 use Rattle.tree.specs.Tree.{Tree}
 use Rattle.tree.specs.RowSteps.{Point}
-use Rattle.tree.specs.PointSums.{dominated, pointValue, sumOfPoints}
+use Rattle.tree.specs.PointSums.{dominated}
+use Rattle.tree.specs.PointTotals.{pointValue, sumOfPoints}
 use Rattle.tree.specs.Lookup.{lookup}
 use Rattle.tree.specs.Path.{path}
 use Rattle.tree.specs.Grown.{grow}

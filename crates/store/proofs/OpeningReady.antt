@@ -9,7 +9,8 @@ use lib.Dec.{ltb}
 use borrow.Author.Tests.{ltb-false}
 use Rattle.tree.specs.Row.{pageWords}
 use Rattle.tree.specs.Tree.{Tree}
-use Rattle.tree.specs.Grown.{openedTree, grow}
+use Rattle.tree.specs.Grown.{grow}
+use Rattle.tree.specs.Opened.{openedTree}
 use Rattle.store.specs.declared.types.TreeName.{TreeName}
 use Rattle.store.specs.Trees.{LentTree, Lent, lentTo, Store, treeIn}
 use Rattle.store.specs.Head.{openLimit, noPass}

@@ -11,7 +11,7 @@ use Rattle.tree.specs.declared.types.RootChange.the-variants.{Kept, Added, Repl
 use Rattle.tree.specs.Tree.{Tree, pagesLeft}
 use Rattle.tree.specs.RowSteps.{Point}
 use Rattle.tree.specs.Plan.{plan, enter}
-use Rattle.tree.specs.Grown.{openedTree}
+use Rattle.tree.specs.Opened.{openedTree}
 use Rattle.store.specs.declared.types.OpenPass.{OpenPass}
 use Rattle.store.specs.declared.types.FoundPass.{FoundPass}
 use Rattle.store.specs.declared.types.FoundPass.the-variants.{Missing, At}

@@ -25,8 +25,10 @@ use Rattle.tree.specs.declared.types.Became.{Became}
 use Rattle.tree.specs.declared.types.Became.the-variants.{Stays, Copied, Halved}
 use Rattle.tree.specs.Enter.{enterFrom, enterRoot}
 use Rattle.tree.specs.Plan.{isHalved, topMustSplit, descentSound, planRoot, plan, enteredRoot, enter}
-use Rattle.tree.specs.Grown.{firstPage, openedTree, grow, lastTick, InTime, Room, Admitted}
-use Rattle.tree.specs.PointSums.{dominated, pointValue, sumOfPoints, isTaken}
+use Rattle.tree.specs.Grown.{grow, lastTick, InTime, Room, Admitted}
+use Rattle.tree.specs.Opened.{firstPage, openedTree}
+use Rattle.tree.specs.PointSums.{dominated, isTaken}
+use Rattle.tree.specs.PointTotals.{pointValue, sumOfPoints}
 use Rattle.tree.proofs.ModelSteps as modelSteps
 use Rattle.tree.proofs.ModelPages.{Page, onlyIf}
 use Rattle.tree.proofs.ModelSteps.{State, Outcome, Parts, two, putAt, newPage, topRows, grown, entering, opened}

@@ -22,7 +22,8 @@ use Rattle.tree.specs.Plan.{plan, enter}
 use Rattle.tree.specs.Enter.{enterRoot}
 use Rattle.tree.proofs.PathLength.{path-length, pages-at-most}
 use Rattle.tree.specs.Grown.{grow, lastTick, InTime, InOrder, Admitted}
-use Rattle.tree.specs.PointSums.{sumOfPoints, differentKeys, SameShape}
+use Rattle.tree.specs.PointSums.{differentKeys}
+use Rattle.tree.specs.PointTotals.{sumOfPoints, SameShape}
 use Rattle.tree.specs.Alike.{LookAlike}
 use Rattle.tree.proofs.Growth.{kept, plan-ready, opened-lengths, next-lengths, counts}
 use Rattle.tree.proofs.Sums.{lookup-sum}

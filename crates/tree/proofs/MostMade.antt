@@ -24,7 +24,8 @@ use Rattle.tree.specs.declared.types.Became.{Became}
 use Rattle.tree.specs.declared.types.Became.the-variants.{Stays, Copied, Halved}
 use Rattle.tree.specs.Overflow.{Written, takenPage, copiedRows, finishPage}
 use Rattle.tree.specs.Enter.{unwritten, enterBelow, enterFrom, enteredAs, enterRoot}
-use Rattle.tree.specs.Plan.{mostMade, descentSound, isHalved, topMustSplit, planRoot, plan}
+use Rattle.tree.specs.Plan.{descentSound, isHalved, topMustSplit, planRoot, plan}
+use Rattle.tree.specs.Limits.{mostMade}
 use Rattle.tree.proofs.RootLaws.{root-made}
 use Rattle.tree.proofs.AsPlanned.{spoiled-not-ready}
 

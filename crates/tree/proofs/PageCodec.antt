@@ -14,7 +14,8 @@ use Rattle.words.proofs.ValueLaws.{value-back}
 use Rattle.words.proofs.OverwriteLaws.{overwrite-length, word-inside, word-before, word-behind}
 use Rattle.tree.specs.declared.types.Row.{Row}
 use Rattle.tree.specs.Row.{word, rowAt, rowStart, rowWords, rowsFrom, rowsOf, encodeRow, encodeRows, headerWords, rowLimit, pageWords, valueStart}
-use Rattle.tree.specs.Edit.{withRows, putRow}
+use Rattle.tree.specs.Edit.{withRows}
+use Rattle.tree.specs.RowEdits.{putRow}
 use Rattle.tree.specs.Fresh.{zeros, freshPage}
 
 -- A row whose keys and birth fit

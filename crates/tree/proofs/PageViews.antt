@@ -15,7 +15,8 @@ use Rattle.words.specs.declared.value.Value.{Value}
 use Rattle.words.specs.Value.{plus}
 use Rattle.words.proofs.Measure.{Measure}
 use Rattle.tree.specs.declared.types.Row.{Row}
-use Rattle.tree.specs.Row.{word, rowLimit, copyLimit, pageWords, mostRows}
+use Rattle.tree.specs.Row.{word, rowLimit, copyLimit, pageWords}
+use Rattle.tree.specs.Limits.{mostRows}
 use Rattle.tree.specs.KeyOrder.{Placed, keyOrder}
 use Rattle.tree.specs.Edit.{bornAt, withRows}
 use Rattle.tree.specs.Fresh.{freshPage}

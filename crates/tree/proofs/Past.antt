@@ -26,7 +26,8 @@ use Rattle.tree.specs.Enter.{enterFrom, enteredAs, enterRoot}
 use Rattle.tree.specs.Path.{path}
 use Rattle.tree.specs.Plan.{enter}
 use Rattle.tree.specs.Grown.{lastTick, InTime, Room}
-use Rattle.tree.specs.PointSums.{pointValue, dominated, sumOfPoints}
+use Rattle.tree.specs.PointSums.{dominated}
+use Rattle.tree.specs.PointTotals.{pointValue, sumOfPoints}
 use Rattle.tree.proofs.ModelSteps as modelSteps
 use Rattle.tree.proofs.ModelPages.{Page}
 use Rattle.tree.proofs.ModelTrees.{Alike}

@@ -14,7 +14,8 @@ use Rattle.words.specs.Words.{keyLimit, lowKey, highKey, rootBirth, openEnd}
 use Rattle.words.specs.declared.value.Value.{Value}
 use Rattle.words.proofs.Measure.{Measure}
 use Rattle.tree.specs.declared.types.Row.{Row}
-use Rattle.tree.specs.Row.{word, rowsOf, rowLimit, copyLimit, pageWords, mostRows, rowStart, headerWords}
+use Rattle.tree.specs.Row.{word, rowsOf, rowLimit, copyLimit, pageWords, rowStart, headerWords}
+use Rattle.tree.specs.Limits.{mostRows}
 use Rattle.tree.specs.KeyOrder.{Placed}
 use Rattle.tree.specs.TrueValue.{Search}
 use Rattle.tree.specs.Edit.{withRows}

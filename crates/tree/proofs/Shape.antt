@@ -11,7 +11,7 @@ use Rattle.tree.specs.Tree.{Tree, levelOf, rootAt}
 use Rattle.tree.specs.RowSteps.{Point}
 use Rattle.tree.specs.Path.{path}
 use Rattle.tree.specs.Grown.{grow, Admitted}
-use Rattle.tree.specs.PointSums.{SameShape}
+use Rattle.tree.specs.PointTotals.{SameShape}
 use Rattle.tree.proofs.ModelTrees.{Holds}
 use Rattle.tree.proofs.ModelSteps.{State, entering}
 use Rattle.tree.proofs.GrownStates.{Version}

@@ -14,7 +14,8 @@ use Rattle.tree.specs.Tree.{Tree, levelOf, rootAt, topLevel}
 use Rattle.tree.specs.RowSteps.{Point}
 use Rattle.tree.specs.Lookup.{lookupFrom, lookupRoot, lookup}
 use Rattle.tree.specs.Grown.{lastTick}
-use Rattle.tree.specs.PointSums.{pointValue, dominated, sumOfPoints}
+use Rattle.tree.specs.PointSums.{dominated}
+use Rattle.tree.specs.PointTotals.{pointValue, sumOfPoints}
 use Rattle.tree.proofs.ModelPages.{_≈_}
 use Rattle.tree.proofs.GrownStates.{Version, holds-used}
 use Rattle.tree.proofs.View.{viewTable}

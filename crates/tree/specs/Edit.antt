@@ -1,11 +1,11 @@
--- Rows altered, ended and added in the words of a page: document 01, "Entering a point", steps 2 to 4.
-use Prim.Native.Nat.{ℕ, _+_}
+-- Rows ended and born, and the rows of a page in its words: document 01, "Entering a point", steps 2 to 4.
+use Prim.Native.Nat.{ℕ}
 use mathlib.Core.List.{List, [], _∷_}
 use lib.ListN.{length}
 use Rattle.words.specs.Words.{openEnd}
 use Rattle.words.specs.Overwrite.{overwrite}
 use Rattle.tree.specs.declared.types.Row.{Row}
-use Rattle.tree.specs.Row.{word, rowStart, rowAt, headerWords, encodeRow, encodeRows}
+use Rattle.tree.specs.Row.{headerWords, encodeRows}
 
 -- "ends at t"
 abbrev pub ended : ℕ → Row → Row
@@ -15,21 +15,9 @@ ended t r = record { low = r .low; high = r .high; child = r .child; birth = r .
 abbrev pub bornAt : ℕ → Row → Row
 bornAt t r = record { low = r .low; high = r .high; child = r .child; birth = t; end = openEnd; value = r .value }
 
--- The page with the row at a place written over; no other word changes
-abbrev pub putRow : List ℕ → ℕ → Row → List ℕ
-putRow page place r = overwrite page (rowStart place) (encodeRow r)
-
--- The page with the row at a place ended at t
-abbrev pub endRow : List ℕ → ℕ → ℕ → List ℕ
-endRow page place t = putRow page place (ended t (rowAt page (rowStart place)))
-
 -- The page with another number of rows
 abbrev pub putCount : List ℕ → ℕ → List ℕ
 putCount page n = overwrite page 1 (n ∷ [])
-
--- The page with one row more, behind those that it has
-abbrev pub appendRow : List ℕ → Row → List ℕ
-appendRow page r = putCount (putRow page (word page 1) r) (word page 1 + 1)
 
 -- The page with these rows for its own: word 1 and the row words change, the words past the rows stay as found
 unfoldable pub withRows : List ℕ → List Row → List ℕ

@@ -3,29 +3,15 @@ use Prim.Native.Nat.{ℕ, _≤_, _<_}
 use mathlib.Core.Path.{_≡_}
 use mathlib.Core.List.{List, [], _∷_}
 use lib.ListN.{length}
-use Rattle.words.specs.Words.{keyLimit, openEnd, rootEntry}
-use Rattle.words.specs.Overwrite.{overwrite}
-use Rattle.words.specs.Value as value
+use Rattle.words.specs.Words.{keyLimit, openEnd}
 use Rattle.tree.specs.Row.{pageWords}
-use Rattle.tree.specs.Fresh.{freshPage, newRow}
 use Rattle.tree.specs.declared.types.RootChange.{RootChange}
 use Rattle.tree.specs.declared.types.RootChange.the-variants.{Added}
 use Rattle.tree.specs.declared.types.Plan.the-variants.{Ready}
-use Rattle.tree.specs.Tree.{Tree, putPage, pagesLeft}
+use Rattle.tree.specs.Tree.{Tree, pagesLeft}
 use Rattle.tree.specs.RowSteps.{Point}
 use Rattle.tree.specs.Plan.{plan, enter}
-
--- "page 0, a leaf with one row of value zero over keys 0 to 30,000, born at 0, and the first root entry; it alters no other word"
-abbrev pub firstPage : List ℕ
-firstPage = freshPage 0 0 keyLimit 0 (newRow 0 0 keyLimit 0 value.zero ∷ [])
-
-abbrev pub openedTree : List ℕ → List ℕ → Tree
-openedTree table roots =
-    record {
-      table = putPage table 0 firstPage;
-      roots = overwrite roots 0 (rootEntry 0 0 ∷ []);
-      used = record { pages = 1; roots = 1 };
-    }
+use Rattle.tree.specs.Opened.{openedTree}
 
 -- Of a page table and a root list, the tree that they hold after opening and after these points. The newest point comes first.
 unfoldable pub grow : List ℕ → List ℕ → List Point → Tree

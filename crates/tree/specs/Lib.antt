@@ -7,6 +7,7 @@ pub mod PageTest
 pub mod TrueValue
 pub mod Edit
 pub mod Fresh
+pub mod RowEdits
 -- A tree in its page table and its root list
 pub mod Tree
 pub mod Lookup
@@ -15,7 +16,10 @@ pub mod RowSteps
 pub mod Overflow
 pub mod Enter
 pub mod Plan
+pub mod Limits
+pub mod Opened
 -- A tree grown from opening, as the theorems speak of it
 pub mod PointSums
+pub mod PointTotals
 pub mod Grown
 pub mod Alike

@@ -18,11 +18,6 @@ use Rattle.tree.specs.declared.types.Became.{Became}
 use Rattle.tree.specs.declared.types.Became.the-variants.{Stays, Copied, Halved}
 use Rattle.tree.specs.Enter.{enterFrom, enterRoot}
 
--- The pages that one entry may make: two for each page below the top level, and one more, which is the copy of a root at the top level or the
--- new root over two halves
-abbrev pub mostMade : ℕ
-mostMade = 2 * topLevel + 1
-
 -- The pages met by the descent of step 1: each is tested, and none below the row that ends it
 abbrev pub soundBelow : (Row → Bool) → Search Placed → Bool
 soundBelow below none = true

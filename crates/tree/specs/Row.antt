@@ -32,14 +32,6 @@ copyLimit = 40
 abbrev pub pageWords : ℕ
 pageWords = headerWords + rowLimit * rowWords
 
--- The rows that one entry may append to a page: step 3's row, then step 7's lower and upper one
-abbrev pub mostAppended : ℕ
-mostAppended = 3
-
--- The rows that a page may so get; where it has more than 64 of them, it overflows
-abbrev pub mostRows : ℕ
-mostRows = rowLimit + mostAppended
-
 -- A word of a page; 0 past the page's end
 abbrev pub word : List ℕ → ℕ → ℕ
 word page i = getD page i 0
@@ -59,10 +51,6 @@ rowAt page at =
       end = endOf (word page (at + 1));
       value = valueAt page (at + valueStart);
     }
-
--- The row at a place
-abbrev pub rowIn : List ℕ → ℕ → Row
-rowIn page place = rowAt page (rowStart place)
 
 abbrev pub encodeRow : Row → List ℕ
 encodeRow r = rowKeys (r .low) (r .high) (r .child) ∷ (lifeWord (r .birth) (r .end) ∷ encodeValue (r .value))

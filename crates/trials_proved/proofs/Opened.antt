@@ -15,7 +15,7 @@ use Rattle.tree.specs.Tree.{Tree}
 use Rattle.tree.specs.Lookup.{lookup}
 use Rattle.store.specs.declared.types.Answer.{Answer}
 use Rattle.store.specs.declared.types.Answer.the-variants.{Refused, Opened, Started, Ended, Totals}
-use Rattle.tree.specs.Grown.{firstPage}
+use Rattle.tree.specs.Opened.{firstPage}
 use Rattle.store.specs.declared.types.TreeName.{TreeName}
 use Rattle.store.specs.Trees.{Lent, lentTo, Store, treeIn}
 use Rattle.store.specs.Head.{headFits, useFits}

@@ -3,7 +3,7 @@ use mathlib.Core.Path.{_≡_, refl}
 use Rattle.words.specs.Words.{keyLimit}
 use Rattle.words.specs.Value.{zero}
 use Rattle.tree.specs.Fresh.{newRow}
-use Rattle.tree.specs.Grown.{firstPage}
+use Rattle.tree.specs.Opened.{firstPage}
 use Rattle.page.specs.PageValue.{noRows, emptyPage, withRow, encodePage}
 
 pub first-page : encodePage (withRow (emptyPage 0 0 keyLimit 0) (newRow 0 0 keyLimit 0 zero)) ≡ firstPage

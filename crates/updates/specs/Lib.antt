@@ -1,2 +1,3 @@
 -- What the calls that write say of what they are lent and hand back.
 pub mod Replies
+pub mod RefusedReplies

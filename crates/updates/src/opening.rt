@@ -10,7 +10,7 @@ ghost use mathlib.Core.Path.{_≡_};
 ghost use Prim.Native.Nat.{_≤_};
 ghost use lib.ListN.{length};
 ghost use Rattle.tree.specs.Row.{pageWords};
-ghost use Rattle.tree.specs.Grown.{openedTree};
+ghost use Rattle.tree.specs.Opened.{openedTree};
 ghost use Rattle.store.specs.Trees.{Lent, lentOf, Store, storeOf};
 ghost use Rattle.store.specs.Calls.{opening};
 ghost use Rattle.store.specs.Performing.{perform};

@@ -3,7 +3,8 @@ use native.Mathlib.Omega.{arith}
 use mathlib.Core.Path.{_≡_, ap, sym, _∙_}
 use mathlib.Core.List.{List}
 use lib.ListN.{length}
-use Rattle.tree.specs.Row.{word, rowIn, rowLimit, pageWords}
+use Rattle.tree.specs.Row.{word, rowLimit, pageWords}
+use Rattle.tree.specs.RowEdits.{rowIn}
 use Rattle.tree.specs.declared.types.Row.{Row}
 use Rattle.tree.specs.Tree.{Tree, pageAt}
 use Rattle.tree.specs.RowSteps.{Point}

@@ -5,7 +5,8 @@ use mathlib.Core.Path.{_≡_, refl, ap, _∙_}
 use mathlib.Core.Bool.{cond}
 use mathlib.Core.List.{map}
 use lib.ListN.{length, length-set}
-use Rattle.tree.specs.Row.{rowLimit, rowAt, rowIn, live}
+use Rattle.tree.specs.Row.{rowLimit, rowAt, live}
+use Rattle.tree.specs.RowEdits.{rowIn}
 use Rattle.ranges.specs.KeyRanges.{rangeOf, placeIn}
 use Rattle.live.specs.LiveRows.{liveRows}
 use Rattle.live.proofs.LiveLaws.{Listing, listing-starts, listing-on, listing-done, listed}

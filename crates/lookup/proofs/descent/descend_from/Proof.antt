@@ -41,8 +41,8 @@ add-pages c = search needs
 sub-level : tie.Need-sub-level Inv-loop μ-loop
 sub-level c = search needs
 
-open-page-requires : tie.Need-open-page-requires Inv-loop μ-loop
-open-page-requires c κs = (search needs, row-wide (c .before .before .before .held .given .1) (c .before .before .before .before .before .loop .inv .1))
+read-page-requires : tie.Need-read-page-requires Inv-loop μ-loop
+read-page-requires c κs = (search needs, row-wide (c .before .before .before .held .given .1) (c .before .before .before .before .before .loop .inv .1))
 
 loop-less : tie.Need-loop-less Inv-loop μ-loop
 loop-less c = search needs
@@ -54,9 +54,9 @@ loop-again c =
     let l = c .before .before .before .before .before .before .loop in
     let row = c .before .before .before .before .held .given .0 .0 in (
       omega arith,
-      opened-wide tree (a .t) (a .k) (l .level - 1) (row .low) (row .high) (row .child) (c .open-page .ensures),
+      opened-wide tree (a .t) (a .k) (l .level - 1) (row .low) (row .high) (row .child) (c .read-page .ensures),
       rw (c .before .before .plus .ensures)
-          (sym (way-down tree (a .t) (a .k) (l .total) (l .pages) (l .level) (c .before .if1 .left) (c .before .before .before .before .held .given .1) (c .open-page .ensures)) ∙ l .inv .2),
+          (sym (way-down tree (a .t) (a .k) (l .total) (l .pages) (l .level) (c .before .if1 .left) (c .before .before .before .before .held .given .1) (c .read-page .ensures)) ∙ l .inv .2),
     )
 
 returns : tie.Need-returns Inv-loop μ-loop
@@ -87,7 +87,7 @@ descend-from-spec =
     plus-requires
     add-pages
     sub-level
-    open-page-requires
+    read-page-requires
     loop-less
     loop-again
     returns

@@ -1,7 +1,8 @@
 use mathlib.Core.Path.{sym, _∙_}
 use mathlib.Core.List.{[]}
 use Rattle.tree.specs.Tree.{Tree}
-use Rattle.lookup.proofs.LookupLaws.{from-top, top-fits}
+use Rattle.roots.proofs.TopLaws.{top-fits}
+use Rattle.lookup.proofs.LookupLaws.{from-top}
 use borrow.Author.Needs.{needs}
 use Rattle.lookup.proofs.descent.lookup_at.Statement.{statement}
 use Rattle.lookup.proofs.descent.lookup_at.Tie as tie

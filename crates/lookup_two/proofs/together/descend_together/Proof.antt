@@ -18,8 +18,8 @@ Inv-loop table used root top t keys held₀ level₀ lower-total₀ upper-total�
 abbrev μ-loop : tie.MeasureT-loop
 μ-loop table used root top t keys held₀ level₀ lower-total₀ upper-total₀ pages₀ held level lower-total upper-total pages = level
 
-open-page-for-two-requires : tie.Need-open-page-for-two-requires Inv-loop μ-loop
-open-page-for-two-requires c κs = search needs
+read-page-for-two-requires : tie.Need-read-page-for-two-requires Inv-loop μ-loop
+read-page-for-two-requires c κs = search needs
 
 zero-requires : tie.Need-zero-requires Inv-loop μ-loop
 zero-requires c κs = search needs
@@ -32,8 +32,8 @@ loop-holds c =
     let a = c .before .before .before .before .args in
     let tree : Tree = record { table = a .table .now; roots = []; used = a .used } in (
       search needs,
-      on-start tree (a .t) (a .keys .lower) (a .top) (a .root) (c .before .zero .ensures) (c .before .before .open-page-for-two .ensures .0),
-      on-start tree (a .t) (a .keys .upper) (a .top) (a .root) (c .zero2 .ensures) (c .before .before .open-page-for-two .ensures .1),
+      on-start tree (a .t) (a .keys .lower) (a .top) (a .root) (c .before .zero .ensures) (c .before .before .read-page-for-two .ensures .0),
+      on-start tree (a .t) (a .keys .upper) (a .top) (a .root) (c .zero2 .ensures) (c .before .before .read-page-for-two .ensures .1),
     )
 
 fork-of-requires : tie.Need-fork-of-requires Inv-loop μ-loop
@@ -66,8 +66,8 @@ sub-level c =
     let fork = fork-shared (l .level) (l .held .lower) (l .held .upper) (c .before .before .before .fork .given .1) (c .before .before .before .before .before .fork-of .ensures) in
     omega (arith, fork .0)
 
-open-page-for-two-requires-2 : tie.Need-open-page-for-two-requires-2 Inv-loop μ-loop
-open-page-for-two-requires-2 c κs =
+read-page-for-two-requires-2 : tie.Need-read-page-for-two-requires-2 Inv-loop μ-loop
+read-page-for-two-requires-2 c κs =
     let l = c .before .before .before .before .before .before .loop in
     let fork = fork-shared (l .level) (l .held .lower) (l .held .upper) (c .before .before .before .fork .given .1) (c .before .before .before .before .before .fork-of .ensures) in
     (c .before .before .before .before .before .before .before .before .before .before .before .pre .0, leads-wide (c .before .before .before .fork .given .0 .0) (fork .1) (l .inv .1 .0))
@@ -86,8 +86,8 @@ loop-again c =
     let row = c .before .before .before .before .fork .given .0 .0 in
     let fork = fork-shared (l .level) (l .held .lower) (l .held .upper) (c .before .before .before .before .fork .given .1) (c .before .before .before .before .before .before .fork-of .ensures) in (
       omega arith,
-      on-shared tree (a .t) (a .keys .lower) (a .top) (a .root) (l .level) row (l .held .lower) (l .lower-total) (l .pages) (l .inv .1) (fork .0) (fork .1) (c .before .before .plus .ensures) (c .open-page-for-two2 .ensures .0),
-      on-shared tree (a .t) (a .keys .upper) (a .top) (a .root) (l .level) row (l .held .upper) (l .upper-total) (l .pages) (l .inv .2) (fork .0) (fork .2) (c .before .plus2 .ensures) (c .open-page-for-two2 .ensures .1),
+      on-shared tree (a .t) (a .keys .lower) (a .top) (a .root) (l .level) row (l .held .lower) (l .lower-total) (l .pages) (l .inv .1) (fork .0) (fork .1) (c .before .before .plus .ensures) (c .read-page-for-two2 .ensures .0),
+      on-shared tree (a .t) (a .keys .upper) (a .top) (a .root) (l .level) row (l .held .upper) (l .upper-total) (l .pages) (l .inv .2) (fork .0) (fork .2) (c .before .plus2 .ensures) (c .read-page-for-two2 .ensures .1),
     )
 
 returns : tie.Need-returns Inv-loop μ-loop
@@ -101,7 +101,7 @@ descend-together-spec =
     (tie.spec
     Inv-loop
     μ-loop
-    open-page-for-two-requires
+    read-page-for-two-requires
     zero-requires
     zero-requires-2
     loop-holds
@@ -114,7 +114,7 @@ descend-together-spec =
     plus-requires-2
     add-pages
     sub-level
-    open-page-for-two-requires-2
+    read-page-for-two-requires-2
     loop-less
     loop-again
     returns)

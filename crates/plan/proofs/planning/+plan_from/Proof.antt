@@ -15,7 +15,7 @@ use Rattle.plan.proofs.planning.plan_above.Reads as plan-above-reads
 use Rattle.plan.proofs.planning.plan_page.Reads as plan-page-reads
 use Rattle.plan.proofs.planning.+plan_from.{statement}
 use Rattle.plan.proofs.planning.+plan_from.Tie.{close}
-use Rattle.tree.specs.Plan.{mostMade}
+use Rattle.tree.specs.Limits.{mostMade}
 
 abbrev μ-plan-from : Measures 1 plan-from-kinds.ps ℕ
 μ-plan-from κs a = a .1 .1 .1 .0

@@ -7,7 +7,7 @@ use Rattle.plan.proofs.PlanBounds.{few-made}
 use borrow.Author.Needs.{needs}
 use Rattle.plan.proofs.planning.plan_above.Statement.{statement}
 use Rattle.plan.proofs.planning.plan_above.Tie as tie
-use Rattle.tree.specs.Plan.{mostMade}
+use Rattle.tree.specs.Limits.{mostMade}
 
 enum-known-below : tie.Need-enum-known-below
 enum-known-below c = search needs

@@ -1,5 +1,5 @@
 use mathlib.Core.Path.{ap, ap₂, _∙_}
-use Rattle.tree.specs.Edit.{appendRow}
+use Rattle.tree.specs.RowEdits.{appendRow}
 use Rattle.tree.specs.Fresh.{newRow}
 use Rattle.row_steps.specs.PageEdits.{replaceWords}
 use native.Mathlib.Omega.{arith}

@@ -1,7 +1,7 @@
 use borrow.Author.Tests.{eq-eqb, ne-eqb}
 use native.Mathlib.Omega.{arith}
 use mathlib.Core.Path.{ap₂, _∙_}
-use Rattle.tree.specs.Edit.{appendRow}
+use Rattle.tree.specs.RowEdits.{appendRow}
 use Rattle.row_steps.proofs.EditSizes.{end-room}
 use borrow.Author.Needs.{needs}
 use Rattle.row_steps.proofs.steps.replace_row.Statement.{statement}

@@ -7,7 +7,8 @@ use Rattle.words.specs.declared.value.Value.{Value}
 use Rattle.words.specs.Value as value
 use Rattle.page.specs.declared.fresh.Page.{Page}
 use Rattle.page.specs.PageValue.{emptyPage, encodePage}
-use Rattle.tree.specs.Row.{word, copyLimit, mostRows}
+use Rattle.tree.specs.Row.{word, copyLimit}
+use Rattle.tree.specs.Limits.{mostRows}
 use Rattle.tree.specs.Tree.{putPage}
 use Rattle.split.specs.SplitWords.{between, fillPage, gainPage}
 use Rattle.split.proofs.SplitRows.{start-in, in-words, copy-table}

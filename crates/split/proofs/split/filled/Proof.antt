@@ -3,7 +3,9 @@ use native.Mathlib.Omega.{arith}
 use mathlib.Core.Path.{_≡_, ap, sym, _∙_}
 use lib.ListN.{length, drop, getD}
 use Rattle.tree.specs.declared.types.Row.{Row}
-use Rattle.tree.specs.Row.{word, rowStart, rowWords, rowLimit, rowIn, mostRows}
+use Rattle.tree.specs.Row.{word, rowStart, rowWords, rowLimit}
+use Rattle.tree.specs.Limits.{mostRows}
+use Rattle.tree.specs.RowEdits.{rowIn}
 use Rattle.tree.specs.Edit.{bornAt}
 use Rattle.page.specs.declared.fresh.Page.{Page}
 use Rattle.page.specs.PageValue.{withRow, emptyPage}

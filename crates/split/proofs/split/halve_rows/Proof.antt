@@ -8,7 +8,9 @@ use Rattle.words.specs.declared.value.Value.{Value}
 use Rattle.words.specs.Value as value
 use Rattle.tree.specs.declared.types.Row.{Row}
 use Rattle.page.specs.declared.fresh.Page.{Page}
-use Rattle.tree.specs.Row.{word, rowStart, rowWords, copyLimit, rowIn, mostRows}
+use Rattle.tree.specs.Row.{word, rowStart, rowWords, copyLimit}
+use Rattle.tree.specs.Limits.{mostRows}
+use Rattle.tree.specs.RowEdits.{rowIn}
 use Rattle.page.specs.PageValue.{emptyPage, encodePage}
 use Rattle.page.specs.Entries.{entryPlace}
 use Rattle.words.proofs.LoopLaws.{all-here}

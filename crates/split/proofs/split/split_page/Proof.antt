@@ -2,7 +2,8 @@ use Prim.Native.Nat.{ℕ, _+_, _*_, _≤_, _<_}
 use native.Mathlib.Omega.{arith}
 use mathlib.Core.Path.{_≡_, refl, ap, ap₂, sym, subst, _∙_}
 use lib.ListN.{length}
-use Rattle.tree.specs.Row.{pageWords, copyLimit, mostRows}
+use Rattle.tree.specs.Row.{pageWords, copyLimit}
+use Rattle.tree.specs.Limits.{mostRows}
 use Rattle.tree.specs.declared.types.Became.the-variants.{Copied, Halved}
 use Rattle.tree.specs.Overflow.{Written, takenPage}
 use Rattle.split.specs.SplitWords.{liveCopies, splitWords, copiedTable, halvedTable}

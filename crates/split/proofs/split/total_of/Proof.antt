@@ -6,7 +6,8 @@ use mathlib.Core.Path.{_≡_, ap, sym, _∙_}
 use lib.ListN.{length, drop, getD}
 use Rattle.words.specs.declared.value.Value.{Value}
 use Rattle.words.specs.Value.{zero, plus}
-use Rattle.tree.specs.Row.{rowStart, rowWords, rowIn}
+use Rattle.tree.specs.Row.{rowStart, rowWords}
+use Rattle.tree.specs.RowEdits.{rowIn}
 use Rattle.page.specs.Entries.{entryPlace, InPage}
 use Rattle.words.proofs.LoopLaws.{all-here}
 use Rattle.split.specs.SplitWords.{between, addRows}

@@ -1,7 +1,7 @@
 use native.Mathlib.Omega.{arith}
 use mathlib.Core.Path.{_≡_, ap, _∙_}
 use Rattle.words.proofs.OverwriteLaws.{overwrite-one}
-use Rattle.tree.specs.Grown.{firstPage}
+use Rattle.tree.specs.Opened.{firstPage}
 use Rattle.page.specs.PageValue.{encodePage}
 use Rattle.tree.specs.Tree.{putPage}
 use Rattle.updates.proofs.OpeningReplies.{first-page}

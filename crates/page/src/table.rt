@@ -1,0 +1,17 @@
+// The words of one page in a page table.
+use crate::fresh::Page;
+ghost use mathlib.Core.Path.{_≡_};
+ghost use Prim.Native.Nat.{_+_, _*_, _≤_};
+ghost use lib.ListN.{length};
+ghost use Rattle.tree.specs.Row.{pageWords};
+ghost use Rattle.tree.specs.Tree.{pageAt};
+
+// The words of a page that lies in the table: every page that is read is cut out here.
+pub fn page_at(table: &[u64], page: u32) -> &[u64]
+    requires { ⌜ page * pageWords + pageWords ≤ length (now table) ⌝ }
+    ensures { λ r. ⌜ now r ≡ pageAt (now (table .entry)) page ⌝ }
+{
+    let from = page as usize * Page::WORDS;
+    let to = from + Page::WORDS;
+    &table[from..to]
+}

@@ -1,0 +1,2 @@
+-- Where a descent starts, as the code finds it.
+pub mod TopPage
