@@ -4,7 +4,9 @@ use mathlib.Core.Path.{_≡_}
 use mathlib.Core.List.{List, [], _∷_}
 use Rattle.store.specs.declared.types.Answer.{Answer}
 use Rattle.store.specs.Trees.{Lent, Store}
+use Rattle.store.specs.Calls.{Call}
 use Rattle.store.specs.Answers.{refusalOf, valuesOf, Answered}
+use Rattle.store.specs.Performing.{perform}
 use Rattle.firmware.specs.Heads.{Fields, headOf, fieldsOf, numbersOf}
 
 -- The head's numbers, its open passes as numbers, and the lent slices
@@ -50,3 +52,8 @@ pub record Tells (a : Answer) (r : ℕ) (before after : Told) : Type 0 where
   pub refusal : r ≡ refusalOf a
   pub totals : after ≡ totalsTold before (valuesOf a)
   pub kept : (r ≡ 0 → ⊥) → after ≡ before
+
+-- Exported calls one after the other: each is handed what the one before left
+unfoldable pub exportAll : Handed → List Call → List Answer
+exportAll h [] = []
+exportAll h (c ∷ cs) = perform (storeIn h) c .answer ∷ exportAll (handedBack (perform (storeIn h) c .store)) cs
