@@ -1,4 +1,7 @@
 // The store for firmware in C: calls on head fields as numbers and on lent slices.
-mod heads;
-mod reading;
+mod head_read;
+mod head_written;
+mod lookups;
+mod question;
+mod totals;
 mod writing;

@@ -1,7 +1,7 @@
 // The calls that write, for C: opening, start and end. The head's fields are lent numbers; where a call is refused, they and every lent word
 // stay as they are.
-use crate::heads::head_of;
-use crate::heads::put_head;
+use crate::head_read::head_of;
+use crate::head_written::put_head;
 use store::Answer;
 use store::Head;
 ghost use mathlib.Core.Path.{_≡_};

@@ -5,8 +5,8 @@ use Rattle.store.specs.Calls.{question}
 use Rattle.store.specs.Performing.{perform}
 use Rattle.firmware.proofs.ExportedLaws.{told}
 use borrow.Author.Needs.{needs}
-use Rattle.firmware.proofs.reading.nimbleshale_question.Statement.{statement}
-use Rattle.firmware.proofs.reading.nimbleshale_question.Tie as tie
+use Rattle.firmware.proofs.question.nimbleshale_question.Statement.{statement}
+use Rattle.firmware.proofs.question.nimbleshale_question.Tie as tie
 
 head-of-requires : tie.Need-head-of-requires
 head-of-requires c κs = search needs

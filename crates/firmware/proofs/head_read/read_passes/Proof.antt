@@ -8,8 +8,8 @@ use Rattle.store.specs.Head.{openLimit}
 use Rattle.firmware.specs.Heads.{passesFrom}
 use Rattle.firmware.proofs.HeadNumbers.{read-more}
 use borrow.Author.Needs.{needs}
-use Rattle.firmware.proofs.heads.read_passes.Statement.{statement}
-use Rattle.firmware.proofs.heads.read_passes.Tie as tie
+use Rattle.firmware.proofs.head_read.read_passes.Statement.{statement}
+use Rattle.firmware.proofs.head_read.read_passes.Tie as tie
 
 abbrev Inv-loop : tie.InvT-loop
 Inv-loop numbers passes₀ place₀ passes place =

@@ -6,8 +6,8 @@ use Rattle.store.specs.Calls.{lookupIn}
 use Rattle.store.specs.Performing.{perform}
 use Rattle.firmware.proofs.ExportedLaws.{told}
 use borrow.Author.Needs.{needs}
-use Rattle.firmware.proofs.reading.nimbleshale_lookup_ends.Statement.{statement}
-use Rattle.firmware.proofs.reading.nimbleshale_lookup_ends.Tie as tie
+use Rattle.firmware.proofs.lookups.nimbleshale_lookup_ends.Statement.{statement}
+use Rattle.firmware.proofs.lookups.nimbleshale_lookup_ends.Tie as tie
 
 head-of-requires : tie.Need-head-of-requires
 head-of-requires c κs = search needs

@@ -2,8 +2,8 @@ use native.Mathlib.Omega.{arith}
 use lib.ListN.{length-set}
 use Rattle.firmware.proofs.HeadNumbers.{four-set}
 use borrow.Author.Needs.{needs}
-use Rattle.firmware.proofs.heads.write_pass.Statement.{statement}
-use Rattle.firmware.proofs.heads.write_pass.Tie as tie
+use Rattle.firmware.proofs.head_written.write_pass.Statement.{statement}
+use Rattle.firmware.proofs.head_written.write_pass.Tie as tie
 
 mul-numbers : tie.Need-mul-numbers
 mul-numbers c = search needs
