@@ -14,9 +14,10 @@ use Rattle.store.specs.Performing.{refusal, served, perform}
 use Rattle.store.proofs.Outcomes.{served-answers}
 use Rattle.updates.specs.declared.types.Reply.{Reply}
 use Rattle.updates.specs.Replies.{RepliedAs}
-use Rattle.firmware.specs.Heads.{Fields, passNumbers, headOf, fieldsOf, numbersOf}
-use Rattle.firmware.specs.Exported.{Handed, storeIn, handedBack, numberSaid, Told, totalsTold, Tells, Leaves}
-use Rattle.firmware.proofs.HeadNumbers.{numbers-back}
+use Rattle.c_numbers.specs.Heads.{Fields, passNumbers, headOf, fieldsOf, numbersOf}
+use Rattle.c_numbers.specs.Said.{numberSaid, Told, Tells}
+use Rattle.firmware.specs.Exported.{Handed, storeIn, handedBack, Leaves}
+use Rattle.c_numbers.proofs.HeadNumbers.{numbers-back}
 
 -- A reading call of the head that the numbers make
 pub told : {a b : Answer} {r : ℕ} {before after : Told} → a ≡ b → Tells a r before after → Tells b r before after

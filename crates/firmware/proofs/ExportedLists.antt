@@ -18,9 +18,9 @@ use Rattle.store.specs.Performing.{refusal, served, perform, performAll}
 use Rattle.store.proofs.HeadLists.{closed-length}
 use Rattle.refusals.proofs.RefusalParts.{none-of}
 use Rattle.refusals.proofs.FoundPasses.{found-facts}
-use Rattle.firmware.specs.Heads.{numbersOfPass, passNumbers, passAt, passesFrom, passNumbersOf, numbersOf}
+use Rattle.c_numbers.specs.Heads.{numbersOfPass, passNumbers, passAt, passesFrom, passNumbersOf, numbersOf}
 use Rattle.firmware.specs.Exported.{Handed, storeIn, handedBack, exportAll}
-use Rattle.firmware.proofs.HeadNumbers.{passes-length, numbers-length}
+use Rattle.c_numbers.proofs.HeadNumbers.{passes-length, numbers-length}
 
 -- Passes that are written as numbers and read again are as before
 module _ (front : List ℕ) (p : OpenPass) (rest : List ℕ) where

@@ -1,4 +1,3 @@
--- Laws of the head as numbers.
-pub mod HeadNumbers
+-- Laws of the exported calls.
 pub mod ExportedLaws
 pub mod ExportedLists

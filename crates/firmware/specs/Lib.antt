@@ -1,3 +1,2 @@
 -- The store as firmware in C calls it.
-pub mod Heads
 pub mod Exported

@@ -1,14 +1,15 @@
 // The lookup of each tree, for C.
-use crate::head_read::head_of;
-use crate::totals::tell;
+use c_numbers::head_of;
+use c_numbers::tell;
 use store::Head;
 ghost use Rattle.tree.specs.declared.types.TreeUse.{TreeUse};
 ghost use Rattle.store.specs.declared.types.TreeName.the-variants.{Starts, Ends};
 ghost use Rattle.store.specs.Trees.{Lent, lentOf};
 ghost use Rattle.store.specs.Calls.{lookupIn};
 ghost use Rattle.store.specs.Performing.{perform};
-ghost use Rattle.firmware.specs.Heads.{Fields};
-ghost use Rattle.firmware.specs.Exported.{Handed, storeIn, Told, Tells};
+ghost use Rattle.c_numbers.specs.Heads.{Fields};
+ghost use Rattle.c_numbers.specs.Said.{Told, Tells};
+ghost use Rattle.firmware.specs.Exported.{Handed, storeIn};
 
 // The lookup of the tree of starts at (t, k).
 #[no_mangle]

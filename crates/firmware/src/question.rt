@@ -1,13 +1,14 @@
 // The question, for C.
-use crate::head_read::head_of;
-use crate::totals::tell;
+use c_numbers::head_of;
+use c_numbers::tell;
 use store::Head;
 ghost use Rattle.tree.specs.declared.types.TreeUse.{TreeUse};
 ghost use Rattle.store.specs.Trees.{Lent, lentOf};
 ghost use Rattle.store.specs.Calls.{question};
 ghost use Rattle.store.specs.Performing.{perform};
-ghost use Rattle.firmware.specs.Heads.{Fields};
-ghost use Rattle.firmware.specs.Exported.{Handed, storeIn, Told, Tells};
+ghost use Rattle.c_numbers.specs.Heads.{Fields};
+ghost use Rattle.c_numbers.specs.Said.{Told, Tells};
+ghost use Rattle.firmware.specs.Exported.{Handed, storeIn};
 
 // "A question": passes with a key from k1 up to but not k2 that live at a tick from t1 up to but not t2.
 #[no_mangle]

@@ -1,51 +1,19 @@
 // The calls that write, for C: opening, start and end. The head's fields are lent numbers; where a call is refused, they and every lent word
 // stay as they are.
-use crate::head_read::head_of;
-use crate::head_written::put_head;
-use store::Answer;
+use c_numbers::head_of;
+use c_numbers::number_of;
+use c_numbers::put_head;
+use c_numbers::refusal_of;
 use store::Head;
 ghost use mathlib.Core.Path.{_≡_};
 ghost use Rattle.tree.specs.declared.types.TreeUse.{TreeUse};
 ghost use Rattle.store.specs.Trees.{Lent, lentOf};
 ghost use Rattle.store.specs.Calls.{opening, start, end};
-ghost use Rattle.store.specs.Answers.{refusalOf, valuesOf};
+ghost use Rattle.store.specs.Answers.{valuesOf};
 ghost use Rattle.store.specs.Performing.{perform};
-ghost use Rattle.firmware.specs.Heads.{Fields};
-ghost use Rattle.firmware.specs.Exported.{Handed, storeIn, numberSaid, Leaves};
-
-// An answer's refusal, 0 for none.
-fn refusal_of(answer: Answer) -> u8
-    ensures { λ r. ⌜ r ≡ refusalOf answer ⌝ }
-{
-    match answer {
-        Answer::Refused(number) => number,
-        Answer::Opened => 0,
-        Answer::Started(_) => 0,
-        Answer::Ended => 0,
-        Answer::Totals {
-            count: _,
-            sum: _,
-            pages: _,
-        } => 0,
-    }
-}
-
-// The pass number that an answer says, or the old one where it says none.
-fn number_of(answer: Answer, old: u32) -> u32
-    ensures { λ r. ⌜ r ≡ numberSaid old (valuesOf answer) ⌝ }
-{
-    match answer {
-        Answer::Refused(_) => old,
-        Answer::Opened => old,
-        Answer::Started(number) => number,
-        Answer::Ended => old,
-        Answer::Totals {
-            count: _,
-            sum: _,
-            pages: _,
-        } => old,
-    }
-}
+ghost use Rattle.c_numbers.specs.Heads.{Fields};
+ghost use Rattle.c_numbers.specs.Said.{numberSaid};
+ghost use Rattle.firmware.specs.Exported.{Handed, storeIn, Leaves};
 
 // A pass starts; its number goes into a lent number.
 #[no_mangle]

@@ -2,7 +2,7 @@ use mathlib.Core.Path.{_≡_}
 use lib.ListN.{length}
 use Rattle.store.specs.Trees.{lentOf}
 use Rattle.store.specs.Calls.{opening}
-use Rattle.firmware.specs.Heads.{passNumbers}
+use Rattle.c_numbers.specs.Heads.{passNumbers}
 use Rattle.firmware.specs.Exported.{Handed}
 use Rattle.firmware.proofs.ExportedLaws.{leaves-refused, leaves-done}
 use borrow.Author.Needs.{needs}

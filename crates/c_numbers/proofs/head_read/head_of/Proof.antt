@@ -2,8 +2,8 @@ use mathlib.Core.Path.{ap}
 use mathlib.Core.List.{List}
 use Rattle.store.specs.declared.types.OpenPass.{OpenPass}
 use borrow.Author.Needs.{needs}
-use Rattle.firmware.proofs.head_read.head_of.Statement.{statement}
-use Rattle.firmware.proofs.head_read.head_of.Tie as tie
+use Rattle.c_numbers.proofs.head_read.head_of.Statement.{statement}
+use Rattle.c_numbers.proofs.head_read.head_of.Tie as tie
 
 read-passes-requires : tie.Need-read-passes-requires
 read-passes-requires c κs = search needs

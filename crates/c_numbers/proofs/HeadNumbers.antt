@@ -9,7 +9,7 @@ use Rattle.words.specs.Overwrite.{overwrite}
 use Rattle.words.proofs.OverwriteLaws.{overwrite-none, overwrite-sets, overwrite-more, overwrite-all}
 use Rattle.store.specs.declared.types.OpenPass.{OpenPass}
 use Rattle.store.specs.Head.{openLimit}
-use Rattle.firmware.specs.Heads.{numbersOfPass, passNumbers, passAt, passesFrom, passNumbersOf, numbersOf}
+use Rattle.c_numbers.specs.Heads.{numbersOfPass, passNumbers, passAt, passesFrom, passNumbersOf, numbersOf}
 
 -- Reading
 pub passes-length : (ns : List ℕ) (at n : ℕ) → length (passesFrom ns at n) ≡ n

@@ -6,11 +6,11 @@ use lib.ListN.{length, take}
 use Rattle.words.specs.Overwrite.{overwrite}
 use Rattle.tree.proofs.Lists.{length-mapped}
 use Rattle.store.specs.Head.{openLimit}
-use Rattle.firmware.specs.Heads.{passNumbers, numbersOf}
-use Rattle.firmware.proofs.HeadNumbers.{write-none, write-more, write-all}
+use Rattle.c_numbers.specs.Heads.{passNumbers, numbersOf}
+use Rattle.c_numbers.proofs.HeadNumbers.{write-none, write-more, write-all}
 use borrow.Author.Needs.{needs}
-use Rattle.firmware.proofs.head_written.write_passes.Statement.{statement}
-use Rattle.firmware.proofs.head_written.write_passes.Tie as tie
+use Rattle.c_numbers.proofs.head_written.write_passes.Statement.{statement}
+use Rattle.c_numbers.proofs.head_written.write_passes.Tie as tie
 
 abbrev Inv-loop : tie.InvT-loop
 Inv-loop numbers₀ passes place₀ numbers place =

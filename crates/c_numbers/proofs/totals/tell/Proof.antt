@@ -1,7 +1,7 @@
 use mathlib.Core.Path.{refl}
 use borrow.Author.Needs.{needs}
-use Rattle.firmware.proofs.totals.tell.Statement.{statement}
-use Rattle.firmware.proofs.totals.tell.Tie as tie
+use Rattle.c_numbers.proofs.totals.tell.Statement.{statement}
+use Rattle.c_numbers.proofs.totals.tell.Tie as tie
 
 enum-known-answer : tie.Need-enum-known-answer
 enum-known-answer c = search needs

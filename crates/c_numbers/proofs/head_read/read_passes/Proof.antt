@@ -5,11 +5,11 @@ use lib.ListN.{length, take, set}
 use lib.Seq.{take-all}
 use Rattle.store.specs.declared.types.OpenPass.{OpenPass}
 use Rattle.store.specs.Head.{openLimit}
-use Rattle.firmware.specs.Heads.{passesFrom}
-use Rattle.firmware.proofs.HeadNumbers.{read-more}
+use Rattle.c_numbers.specs.Heads.{passesFrom}
+use Rattle.c_numbers.proofs.HeadNumbers.{read-more}
 use borrow.Author.Needs.{needs}
-use Rattle.firmware.proofs.head_read.read_passes.Statement.{statement}
-use Rattle.firmware.proofs.head_read.read_passes.Tie as tie
+use Rattle.c_numbers.proofs.head_read.read_passes.Statement.{statement}
+use Rattle.c_numbers.proofs.head_read.read_passes.Tie as tie
 
 abbrev Inv-loop : tie.InvT-loop
 Inv-loop numbers passes₀ place₀ passes place =

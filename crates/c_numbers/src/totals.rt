@@ -1,6 +1,6 @@
 // The totals of a reading call, for C: they go into lent numbers, which stay as they are where the call is refused.
 use store::Answer;
-ghost use Rattle.firmware.specs.Exported.{Told, Tells};
+ghost use Rattle.c_numbers.specs.Said.{Told, Tells};
 
 // Writes an answer's totals, and returns its refusal, 0 for none.
 pub fn tell(answer: Answer, count: &mut u64, sum: &mut u64, pages: &mut u32) -> u8

@@ -7,7 +7,7 @@ ghost use Prim.Native.Nat.{_+_, _≤_};
 ghost use lib.ListN.{length};
 ghost use Rattle.tree.specs.declared.types.TreeUse.{TreeUse};
 ghost use Rattle.store.specs.Head.{openLimit};
-ghost use Rattle.firmware.specs.Heads.{numbersOfPass, passNumbers, passAt, passesFrom, Fields, headOf};
+ghost use Rattle.c_numbers.specs.Heads.{numbersOfPass, passNumbers, passAt, passesFrom, Fields, headOf};
 
 // The pass in the four numbers from a place on.
 fn read_pass(numbers: &[u32], at: usize) -> OpenPass

@@ -7,7 +7,7 @@ ghost use Prim.Native.Nat.{_+_, _≤_};
 ghost use lib.ListN.{length};
 ghost use Rattle.words.specs.Overwrite.{overwrite};
 ghost use Rattle.tree.specs.declared.types.TreeUse.{TreeUse};
-ghost use Rattle.firmware.specs.Heads.{numbersOfPass, passNumbers, passNumbersOf, numbersOf, Fields, fieldsOf};
+ghost use Rattle.c_numbers.specs.Heads.{numbersOfPass, passNumbers, passNumbersOf, numbersOf, Fields, fieldsOf};
 
 // Writes a pass over the four numbers from a place on.
 fn write_pass(numbers: &mut [u32], at: usize, pass: OpenPass)

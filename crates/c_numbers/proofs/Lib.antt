@@ -1,0 +1,2 @@
+-- Laws of the head as numbers.
+pub mod HeadNumbers

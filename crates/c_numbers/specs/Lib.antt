@@ -1,0 +1,3 @@
+-- The head and the answers as numbers for C.
+pub mod Heads
+pub mod Said
