@@ -6,7 +6,7 @@ use mathlib.Core.Bool.{Bool, true, false, cond, _&&_}
 use mathlib.Core.List.{List, [], _∷_}
 use lib.Dec.{eqb, ltb}
 use borrow.Author.Tests.{leb-true, eqb-true, eqb-false, eq-eqb, ne-eqb}
-use Rattle.words.specs.Lists.{sumBy}
+use Rattle.words.specs.Sums.{sumBy}
 use Rattle.ranges.specs.KeyRanges.{rangeLow, rangeHigh, count}
 use Rattle.ranges.specs.TileTest.{larger, isEmpty, holdsKey, clipped, spanned, stopsWell, every, tiles}
 use Rattle.ranges.proofs.LesserLaws.{lesser-still, larger-least}

@@ -2,7 +2,7 @@
 use Prim.Native.Nat.{ℕ, _/_, _%_}
 use mathlib.Core.List.{List}
 use mathlib.Core.Bool.{Bool, cond}
-use Rattle.words.specs.Lists.{sumBy}
+use Rattle.words.specs.Sums.{sumBy}
 use Rattle.words.specs.Words.{keyRange}
 use Rattle.tree.specs.KeyOrder.{Placed}
 

@@ -5,7 +5,8 @@ use mathlib.Core.List.{List, [], _∷_}
 use mathlib.Core.Bool.{Bool, true, cond, _&&_, _||_}
 use lib.Dec.{leb, ltb, eqb}
 use lib.ListN.{drop}
-use Rattle.words.specs.Lists.{All, sumBy}
+use Rattle.words.specs.Lists.{All}
+use Rattle.words.specs.Sums.{sumBy}
 use Rattle.ranges.specs.KeyRanges.{rangeLow, rangeHigh, count}
 
 abbrev pub lesser : ℕ → ℕ → ℕ

@@ -5,7 +5,8 @@ use mathlib.Core.Path.{_≡_, refl, ap, ap₂, sym, _∙_}
 use mathlib.Core.Bool.{Bool, true, cond}
 use mathlib.Core.List.{List, [], _∷_, _++_, map}
 use lib.ListN.{length, getD, set, take, drop, length-map}
-pub use Rattle.words.specs.Lists.{All, sumBy}
+pub use Rattle.words.specs.Lists.{All}
+pub use Rattle.words.specs.Sums.{sumBy}
 
 module _ {A : Type 0} where
   pub all-map : (P Q : A → Type 0) → ((x : A) → P x → Q x) → (xs : List A) → All P xs → All Q xs
