@@ -44,7 +44,7 @@ abbrev pub madeSo : List ℕ → ℕ → Written
 madeSo table made = record { table = table; made = made; became = Stays }
 
 -- The edited copy goes back into the page's own words, or its live rows into new pages
-unfoldable pub settled : TreeUse → ℕ → Written → ℕ → List ℕ → Written
+unfoldable pub settled : TreeUse → (t : ℕ) → Written → (page : ℕ) → (words : List ℕ) → Written
 settled used t so page words =
     cond (leb (word words 1) rowLimit)
     (record { table = putPage (so .table) page (take pageWords words); made = so .made; became = Stays })
@@ -77,16 +77,16 @@ abbrev pub pointAt : ℕ → ℕ → Value → Point
 pointAt t k v = record { tick = t; key = k; value = v }
 
 -- The copy of a page after a change, and the three changes that a survey of the page leads to
-abbrev pub changed : ℕ → Value → List ℕ → ℕ → Change → List ℕ
+abbrev pub changed : (t : ℕ) → Value → (table : List ℕ) → (page : ℕ) → Change → List ℕ
 changed t v table page change = changeWords t v (loaded table page) change
 
-abbrev pub leafEdited : ℕ → ℕ → Value → List ℕ → ℕ → List ℕ
+abbrev pub leafEdited : (t k : ℕ) → Value → (table : List ℕ) → (page : ℕ) → List ℕ
 leafEdited t k v table page =
     let s = surveyOf t k (pageAt table page) in
     changed t v table page (Leaf (s .inner) (s .gain) k)
 
-abbrev pub gainEdited : ℕ → Value → List ℕ → ℕ → Place → List ℕ
+abbrev pub gainEdited : (t : ℕ) → Value → (table : List ℕ) → (page : ℕ) → Place → List ℕ
 gainEdited t v table page gain = changed t v table page (Lowest gain)
 
-abbrev pub linkEdited : ℕ → Value → List ℕ → ℕ → Place → ℕ → Became → List ℕ
+abbrev pub linkEdited : (t : ℕ) → Value → (table : List ℕ) → (page : ℕ) → Place → (place : ℕ) → Became → List ℕ
 linkEdited t v table page gain place became = changed t v table page (Above place gain became)

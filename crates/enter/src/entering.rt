@@ -1,5 +1,6 @@
 // Entering a point: the descent calls itself on the child page, and each page is edited on the way back up.
 use page::Page;
+use page::page_at;
 use ranges::Place;
 use row_steps::Change;
 use row_steps::change_words;
@@ -39,14 +40,12 @@ fn copy_words(to: &mut [u64], from: &[u64])
 }
 
 // Makes the lent words a copy of a page, with zeros in the room for the rows that an entry may append.
-fn load_page(copy: &mut [u64], table: &[u64], page: usize)
+fn load_page(copy: &mut [u64], table: &[u64], page: u32)
     requires { ⌜ length (now copy) ≡ scratchWords ⌝ }
     requires { ⌜ page * pageWords + pageWords ≤ length (now table) ⌝ }
     ensures { λ _. ⌜ now (copy .exit) ≡ loaded (now (table .entry)) page ⌝ }
 {
-    let from = page * Page::WORDS;
-    let to = from + Page::WORDS;
-    copy_words(copy, &table[from..to]);
+    copy_words(copy, page_at(table, page));
     let first = Page::WORDS;
     let last = Page::SCRATCH_WORDS;
     let zeros = [0u64; APPENDED_WORDS];
@@ -54,12 +53,12 @@ fn load_page(copy: &mut [u64], table: &[u64], page: usize)
 }
 
 // Writes the copy back into the page's own words.
-fn store_page(table: &mut [u64], page: usize, words: &[u64])
+fn store_page(table: &mut [u64], page: u32, words: &[u64])
     requires { ⌜ length (now words) ≡ scratchWords ⌝ }
     requires { ⌜ page * pageWords + pageWords ≤ length (now table) ⌝ }
     ensures { λ _. ⌜ now (table .exit) ≡ putPage (now (table .entry)) page (take pageWords (now (words .entry))) ⌝ }
 {
-    let from = page * Page::WORDS;
+    let from = page as usize * Page::WORDS;
     let to = from + Page::WORDS;
     let first: usize = 0;
     let last = Page::WORDS;
@@ -71,7 +70,7 @@ fn settle_page(
     table: &mut [u64],
     used: TreeUse,
     made: u32,
-    page: usize,
+    page: u32,
     words: &[u64],
     t: u32,
 ) -> Done
@@ -94,7 +93,7 @@ fn change_page(
     scratch: &mut [u64],
     used: TreeUse,
     made: u32,
-    page: usize,
+    page: u32,
     change: Change,
     value: Value,
     t: u32,
@@ -105,7 +104,7 @@ fn change_page(
     requires { ⌜ CanSettle used t (madeSo (now table) made) page (changed t value (now table) page change) ⌝ }
     ensures { λ r. ⌜ DoneAs (settled used t (madeSo (now (table .entry)) made) page (changed t value (now (table .entry)) page change)) (now (table .exit)) r ⌝ }
 {
-    let from = page * Page::WORDS;
+    let from = page as usize * Page::WORDS;
     let to = from + Page::WORDS;
     if table[from + 1] as usize <= ROOMY_ROWS {
         change_words(&mut table[from..to], change, value, t);
@@ -124,7 +123,7 @@ fn enter_leaf(
     table: &mut [u64],
     scratch: &mut [u64],
     used: TreeUse,
-    page: usize,
+    page: u32,
     k: u16,
     value: Value,
     t: u32,
@@ -134,9 +133,7 @@ fn enter_leaf(
     requires { ⌜ CanSettle used t (madeSo (now table) 0) page (leafEdited t k value (now table) page) ⌝ }
     ensures { λ r. ⌜ DoneAs (settled used t (madeSo (now (table .entry)) 0) page (leafEdited t k value (now (table .entry)) page)) (now (table .exit)) r ⌝ }
 {
-    let from = page * Page::WORDS;
-    let to = from + Page::WORDS;
-    let survey = live::survey_page(&table[from..to], t, k);
+    let survey = live::survey_page(page_at(table, page), t, k);
     let inner = survey.inner;
     let gain = survey.gain;
     let leaf = Change::Leaf {
@@ -163,19 +160,25 @@ pub fn enter_from(
     requires { ⌜ CanEnter (useOf (now table) used) (pointAt t k value) level page ⌝ }
     ensures { λ r. ⌜ DoneAs (enterFrom (useOf (now (table .entry)) used) (pointAt t k value) level page) (now (table .exit)) r ⌝ }
 {
-    let at = page as usize;
     if level == 0 {
-        return enter_leaf(table, scratch, used, at, k, value, t);
+        return enter_leaf(table, scratch, used, page, k, value, t);
     }
-    let from = at * Page::WORDS;
-    let to = from + Page::WORDS;
-    let survey = live::survey_page(&table[from..to], t, k);
+    let survey = live::survey_page(page_at(table, page), t, k);
     let inner = survey.inner;
     let gain = survey.gain;
     let Place::At(place) = inner else {
-        return change_page(table, scratch, used, 0, at, Change::Lowest(gain), value, t);
+        return change_page(
+            table,
+            scratch,
+            used,
+            0,
+            page,
+            Change::Lowest(gain),
+            value,
+            t,
+        );
     };
-    let row = page::row_at(&table[from..to], place);
+    let row = page::row_at(page_at(table, page), place);
     let below = enter_from(table, scratch, used, level - 1, row.child, k, value, t);
     let became = below.became;
     let above = Change::Above {
@@ -183,5 +186,5 @@ pub fn enter_from(
         gain,
         became,
     };
-    change_page(table, scratch, used, below.made, at, above, value, t)
+    change_page(table, scratch, used, below.made, page, above, value, t)
 }

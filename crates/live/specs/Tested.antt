@@ -15,7 +15,7 @@ use Rattle.live.specs.LiveRows.{Listed, AllIn}
 use Rattle.live.specs.LiveHeld.{heldAmong}
 
 -- A page passed its test or not, and if so its live rows at t are listed
-abbrev pub TestedAs : Bool → ℕ → List ℕ → List ℕ → List ℕ → Tested → Type 0
+abbrev pub TestedAs : Bool → (t : ℕ) → (page ranges places : List ℕ) → Tested → Type 0
 TestedAs sound t page ranges places Spoiled = sound ≡ false
 TestedAs sound t page ranges places (Sound count) = (sound ≡ true) × Listed t page (word page 1) ranges places count
 
@@ -24,7 +24,7 @@ abbrev pub pagesIn : List ℕ → ℕ → Tree
 pagesIn table pages = record { table = table; roots = []; used = record { pages = pages; roots = 0 } }
 
 -- The page lies in the table, the arrays have its live rows listed, and these lie in the page
-abbrev pub ListsFit : List ℕ → ℕ → List ℕ → List ℕ → Tested → Type 0
+abbrev pub ListsFit : (table : List ℕ) → (page : ℕ) → (ranges places : List ℕ) → Tested → Type 0
 ListsFit table page ranges places Spoiled = Unit {0}
 ListsFit table page ranges places (Sound count) =
     (page * pageWords + pageWords ≤ length table)
@@ -34,7 +34,7 @@ ListsFit table page ranges places (Sound count) =
     × AllIn (pageAt table page) (take count places)
 
 -- What the rows listed have for k
-abbrev pub heldTested : List ℕ → ℕ → List ℕ → List ℕ → ℕ → Tested → Held
+abbrev pub heldTested : (table : List ℕ) → (page : ℕ) → (ranges places : List ℕ) → (k : ℕ) → Tested → Held
 heldTested table page ranges places k Spoiled = held.Spoiled
 heldTested table page ranges places k (Sound count) = heldAmong (pageAt table page) (take count ranges) (take count places) k
 

@@ -25,11 +25,11 @@ Wide held.Spoiled = Unit {0}
 Wide (held.Found row value) = row .low < row .high
 
 -- The lookup from a page of a level, by what it has
-abbrev pub below : Tree → ℕ → ℕ → ℕ → Row → Lookup
+abbrev pub below : Tree → (t k level : ℕ) → Row → Lookup
 below tree t k zero = λ (row : Row). Found value.zero 0
 below tree t k (suc l) = λ (row : Row). lookupFrom tree t k l (row .low) (row .high) (row .child)
 
-abbrev pub lookupHeld : Tree → ℕ → ℕ → ℕ → Held → Lookup
+abbrev pub lookupHeld : Tree → (t k level : ℕ) → Held → Lookup
 lookupHeld tree t k level h = withBelow (below tree t k level) h
 
 -- The lookup from where it starts

@@ -19,14 +19,14 @@ noRow = record { low = 0; high = 0; child = 0; birth = 0; end = 0; value = zero 
 unfoldable pub noRows : List Row
 noRows = replicate rowLimit noRow
 
-abbrev pub emptyPage : ℕ → ℕ → ℕ → ℕ → Page
+abbrev pub emptyPage : (level low high birth : ℕ) → Page
 emptyPage level low high birth = record { level = level; low = low; high = high; birth = birth; count = 0; rows = noRows }
 
 abbrev pub withRow : Page → Row → Page
 withRow p r =
     record { level = p .level; low = p .low; high = p .high; birth = p .birth; count = p .count + 1; rows = set (p .rows) (p .count) r }
 
-abbrev pub twoRowRoot : ℕ → ℕ → ℕ → ℕ → ℕ → Page
+abbrev pub twoRowRoot : (level birth middle lower upper : ℕ) → Page
 twoRowRoot level birth middle lower upper =
     withRow (withRow (emptyPage level 0 keyLimit birth) (newRow birth 0 middle lower zero)) (newRow birth middle keyLimit upper zero)
 

@@ -22,8 +22,8 @@ use Rattle.page.proofs.PageReadings.{sound-few}
 use Rattle.plan.specs.declared.planning.Counts.{Counts}
 use Rattle.plan.specs.declared.planning.Met.{Met}
 use Rattle.plan.specs.declared.planning.Met.the-variants as met
-use Rattle.plan.specs.declared.planning.Planned.{Planned}
-use Rattle.plan.specs.declared.planning.Planned.the-variants as planned
+use Rattle.plan.specs.declared.planning.PagePlan.{PagePlan}
+use Rattle.plan.specs.declared.planning.PagePlan.the-variants as planned
 use Rattle.tree.specs.Tree.{pageAt}
 use Rattle.plan.specs.PlanSteps.{appended, countsOf, metAround, metSurvey, metWords, metPage, Few, FewMet, FewParts}
 use Rattle.plan.specs.PlanSteps.{partsOf, planPage, planAbove, planCut, planMet, planFrom}
@@ -67,8 +67,8 @@ module _ (t : ℕ) (words : List ℕ) where
         go true e = place-few (countsOf t words (surveyOf t k words)) (surveyOf t k words .inner) (counts-few e)
         go false e = tt
 
-pub few-made : (limit : ℕ) {pl : Planned} {made parts : ℕ} → pl ≡ planned.Made made parts → FewParts limit pl → (made ≤ limit) × (parts ≤ 2)
-few-made limit e h = subst (λ (q : Planned). FewParts limit q) e h
+pub few-made : (limit : ℕ) {pl : PagePlan} {made parts : ℕ} → pl ≡ planned.Made made parts → FewParts limit pl → (made ≤ limit) × (parts ≤ 2)
+few-made limit e h = subst (λ (q : PagePlan). FewParts limit q) e h
 
 pub few-around : {m : Met} {counts : Counts} {row : Row} → m ≡ met.Around counts row → FewMet m → Few counts
 few-around e h = subst (λ (q : Met). FewMet q) e h
@@ -100,7 +100,7 @@ module _ (table : List ℕ) (pages t k : ℕ) where
       sum-few : (n : ℕ) → n ≤ 2 → made + n ≤ limit
       sum-few n p = omega arith
 
-  above-few : (counts : Counts) (limit : ℕ) (below : Planned) → FewParts limit below → FewParts (limit + 2) (planAbove counts below)
+  above-few : (counts : Counts) (limit : ℕ) (below : PagePlan) → FewParts limit below → FewParts (limit + 2) (planAbove counts below)
   unfolding planAbove
   above-few counts limit planned.Spoiled h = tt
   above-few counts limit (planned.Made made parts) h = go (eqb parts 0)
@@ -111,7 +111,7 @@ module _ (table : List ℕ) (pages t k : ℕ) where
       go true = page-few made _ _ (limit + 2) (omega arith)
       go false = page-few made _ _ (limit + 2) (omega arith)
 
-  met-plan-few : (limit : ℕ) (around : Counts → Row → Planned) → 2 ≤ limit → ((c : Counts) (r : Row) → FewParts limit (around c r)) →
+  met-plan-few : (limit : ℕ) (around : Counts → Row → PagePlan) → 2 ≤ limit → ((c : Counts) (r : Row) → FewParts limit (around c r)) →
       (m : Met) → FewParts limit (planMet around m)
   met-plan-few limit around h f met.Spoiled = tt
   met-plan-few limit around h f (met.Lowest counts) = page-few 0 _ _ limit (omega arith)
@@ -134,15 +134,15 @@ module _ (table : List ℕ) (pages t k : ℕ) where
       limit-next : (n : ℕ) → 2 * n + 2 + 2 ≡ 2 * suc n + 2
       limit-next n = omega arith
 
-  few-more : (a b : ℕ) (pl : Planned) → a ≤ b → FewParts a pl → FewParts b pl
+  few-more : (a b : ℕ) (pl : PagePlan) → a ≤ b → FewParts a pl → FewParts b pl
   few-more a b planned.Spoiled h f = tt
   few-more a b (planned.Made made parts) h f = (omega (arith, f .0), f .1)
 
-  pub plan-within : (limit level low high page : ℕ) → 2 * level + 2 ≤ limit → {r : Planned}
+  pub plan-within : (limit level low high page : ℕ) → 2 * level + 2 ≤ limit → {r : PagePlan}
       → r ≡ planFrom table pages t k level low high page →
       FewParts limit r
   plan-within limit level low high page h e =
-      subst (λ (q : Planned). FewParts limit q) (sym e)
+      subst (λ (q : PagePlan). FewParts limit q) (sym e)
       (few-more (2 * level + 2) limit (planFrom table pages t k level low high page) h (plan-few level low high page))
 
 -- The row that a plan goes on from has its key inside, so its key range has one

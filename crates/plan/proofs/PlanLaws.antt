@@ -20,8 +20,8 @@ use Rattle.tree.proofs.Searches.{first-has}
 use Rattle.plan.specs.declared.planning.Counts.{Counts}
 use Rattle.plan.specs.declared.planning.Met.{Met}
 use Rattle.plan.specs.declared.planning.Met.the-variants as met
-use Rattle.plan.specs.declared.planning.Planned.{Planned}
-use Rattle.plan.specs.declared.planning.Planned.the-variants.{Spoiled, Made}
+use Rattle.plan.specs.declared.planning.PagePlan.{PagePlan}
+use Rattle.plan.specs.declared.planning.PagePlan.the-variants.{Spoiled, Made}
 use Rattle.tree.specs.Tree.{Tree, pageAt, metAt}
 use Rattle.tree.specs.RowSteps.{Point, rowAround, gainRows, leafRows, relinkRow}
 use Rattle.tree.specs.declared.types.Became.{Became}
@@ -42,7 +42,7 @@ partsIn (Copied c) = 1
 partsIn (Halved c d) = 2
 
 -- What the plan says of what was written
-abbrev pub outcome : Written → Planned
+abbrev pub outcome : Written → PagePlan
 outcome so = Made (so .made) (partsIn (so .became))
 
 same-made : {a b c d : ℕ} → a ≡ b → c ≡ d → Made a c ≡ Made b d
@@ -66,7 +66,7 @@ finish-is tree t so page rows =
         rw (e, f, f′) refl
 
 -- The tests of a page, joined
-met-tests : (around : Counts → Row → Planned) (a b : Bool) (m : Met) →
+met-tests : (around : Counts → Row → PagePlan) (a b : Bool) (m : Met) →
     planMet around (cond a (cond b m met.Spoiled) met.Spoiled) ≡ cond (a && b) (planMet around m) Spoiled
 met-tests around true true m = refl
 met-tests around true false m = refl
@@ -77,7 +77,7 @@ pub join-tests : {X : Type 0} (a b : Bool) (x y : X) → cond a (cond b x y) y �
 join-tests true b x y = refl
 join-tests false b x y = refl
 
-above-test : (counts : Counts) (b : Bool) (x : Planned) → planAbove counts (cond b x Spoiled) ≡ cond b (planAbove counts x) Spoiled
+above-test : (counts : Counts) (b : Bool) (x : PagePlan) → planAbove counts (cond b x Spoiled) ≡ cond b (planAbove counts x) Spoiled
 unfolding planAbove
 above-test counts true x = refl
 above-test counts false x = refl
@@ -170,7 +170,7 @@ module _ (tree : Tree) (p : Point) (small : p .tick < openEnd) where
           ∙ sym (finish-is tree (p .tick) (unwritten tree) page (leafRows p (rowsOf (pageAt (tree .table) page))))
 
   -- What the plan says of the page below a row
-  abbrev below : ℕ → Row → Planned
+  abbrev below : ℕ → Row → PagePlan
   below l row = planFrom (tree .table) (tree .used .pages) (p .tick) (p .key) l (row .low) (row .high) (row .child)
 
   abbrev IsPlan : ℕ → Type 0
@@ -201,7 +201,7 @@ module _ (tree : Tree) (p : Point) (small : p .tick < openEnd) where
           ap (λ (row : Row). planAbove counts (below l row)) (sym (found-seated (p .tick) (pageAt (tree .table) page) _ e .same))
           ∙ ap (planAbove counts) (ih (x .row .low) (x .row .high) (x .row .child))
           ∙ above-test counts sound (outcome so)
-          ∙ ap (λ (y : Planned). cond sound y Spoiled)
+          ∙ ap (λ (y : PagePlan). cond sound y Spoiled)
           (relink-is p small (pageAt (tree .table) page) e (so .made) (so .became)
           ∙ sym (finish-is tree (p .tick) so page (relinkRow (p .tick) x (so .became) (gainRows p (rowsOf (pageAt (tree .table) page))))))
 
@@ -212,10 +212,10 @@ module _ (tree : Tree) (p : Point) (small : p .tick < openEnd) where
       met-tests (λ (counts : Counts) (row : Row). planCut counts) (ltb page (tree .used .pages))
       (soundAt (p .tick) 0 low high (pageAt (tree .table) page))
       (metSurvey (p .tick) (pageAt (tree .table) page) (surveyOf (p .tick) (p .key) (pageAt (tree .table) page)))
-      ∙ ap (λ (y : Planned). cond (metAt tree (p .tick) 0 low high page) y Spoiled) (leaf-is page)
+      ∙ ap (λ (y : PagePlan). cond (metAt tree (p .tick) 0 low high page) y Spoiled) (leaf-is page)
   plan-from-is (suc l) low high page =
       met-tests (λ (counts : Counts) (row : Row). planAbove counts (below l row)) (ltb page (tree .used .pages))
       (soundAt (p .tick) (suc l) low high (pageAt (tree .table) page))
       (metSurvey (p .tick) (pageAt (tree .table) page) (surveyOf (p .tick) (p .key) (pageAt (tree .table) page)))
-      ∙ ap (λ (y : Planned). cond (metAt tree (p .tick) (suc l) low high page) y Spoiled) (above-is l page (plan-from-is l))
+      ∙ ap (λ (y : PagePlan). cond (metAt tree (p .tick) (suc l) low high page) y Spoiled) (above-is l page (plan-from-is l))
       ∙ join-tests (metAt tree (p .tick) (suc l) low high page) _ _ Spoiled

@@ -8,8 +8,8 @@ use mathlib.Core.List.{List}
 use lib.Dec.{eqb}
 use lib.ListN.{take}
 use Rattle.words.specs.Words.{openEnd, keyLimit, rootBirth}
-use Rattle.plan.specs.declared.planning.Planned.{Planned}
-use Rattle.plan.specs.declared.planning.Planned.the-variants as planned
+use Rattle.plan.specs.declared.planning.PagePlan.{PagePlan}
+use Rattle.plan.specs.declared.planning.PagePlan.the-variants as planned
 use Rattle.tree.specs.declared.types.Root.{Root}
 use Rattle.tree.specs.declared.types.Root.the-variants.{At, Missing}
 use Rattle.tree.specs.declared.types.Plan.{Plan}
@@ -30,7 +30,7 @@ use Rattle.roots.proofs.TopLaws.{Starts}
 use Rattle.plan.proofs.PlanLaws.{partsIn, outcome, join-tests, plan-from-is}
 
 -- What the root's own plan makes of the whole
-abbrev pub planEnd : ℕ → ℕ → ℕ → Planned → Plan
+abbrev pub planEnd : ℕ → ℕ → ℕ → PagePlan → Plan
 planEnd top last t planned.Spoiled = Spoiled
 planEnd top last t (planned.Made made parts) = planTop made parts top last t
 
@@ -48,7 +48,7 @@ split-test : (e : Bool) (x : Plan) → cond e Spoiled x ≡ cond (not (e && true
 split-test true x = refl
 split-test false x = refl
 
-end-test : (top last t : ℕ) (b : Bool) (x : Planned) → planEnd top last t (cond b x planned.Spoiled) ≡ cond b (planEnd top last t x) Spoiled
+end-test : (top last t : ℕ) (b : Bool) (x : PagePlan) → planEnd top last t (cond b x planned.Spoiled) ≡ cond b (planEnd top last t x) Spoiled
 end-test top last t true x = refl
 end-test top last t false x = refl
 

@@ -7,12 +7,12 @@ use mathlib.Core.List.{List}
 use Rattle.tree.specs.declared.types.Row.{Row}
 use Rattle.plan.specs.declared.planning.Counts.{Counts}
 use Rattle.plan.specs.declared.planning.Met.the-variants as met
-use Rattle.plan.specs.declared.planning.Planned.{Planned}
-use Rattle.plan.specs.declared.planning.Planned.the-variants.{Spoiled}
+use Rattle.plan.specs.declared.planning.PagePlan.{PagePlan}
+use Rattle.plan.specs.declared.planning.PagePlan.the-variants.{Spoiled}
 use Rattle.plan.specs.PlanSteps.{metPage, planAbove, planLowest, planCut, planMet, planFrom}
 
 module _ (table : List ℕ) (pages t k low high page : ℕ) where
-  abbrev above : ℕ → Counts → Row → Planned
+  abbrev above : ℕ → Counts → Row → PagePlan
   above l counts row = planAbove counts (planFrom table pages t k l (row .low) (row .high) (row .child))
 
   pub way-spoiled : (level : ℕ) → metPage table pages t k level low high page ≡ met.Spoiled

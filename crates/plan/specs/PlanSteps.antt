@@ -16,8 +16,8 @@ use Rattle.live.specs.Survey.{surveyOf}
 use Rattle.plan.specs.declared.planning.Counts.{Counts}
 use Rattle.plan.specs.declared.planning.Met.{Met}
 use Rattle.plan.specs.declared.planning.Met.the-variants as met
-use Rattle.plan.specs.declared.planning.Planned.{Planned}
-use Rattle.plan.specs.declared.planning.Planned.the-variants as planned
+use Rattle.plan.specs.declared.planning.PagePlan.{PagePlan}
+use Rattle.plan.specs.declared.planning.PagePlan.the-variants as planned
 use Rattle.tree.specs.declared.types.Plan.{Plan}
 use Rattle.tree.specs.declared.types.Plan.the-variants.{Spoiled, Ready}
 use Rattle.tree.specs.declared.types.RootChange.the-variants.{Kept, Added, Replaced}
@@ -43,21 +43,21 @@ metAround words counts (place.At p) = met.Around counts (rowAt words (rowStart p
 abbrev pub metSurvey : ℕ → List ℕ → Survey → Met
 metSurvey t words s = metAround words (countsOf t words s) (s .inner)
 
-unfoldable pub metWords : ℕ → ℕ → ℕ → ℕ → ℕ → List ℕ → Met
+unfoldable pub metWords : (t k level low high : ℕ) → (words : List ℕ) → Met
 metWords t k level low high words = cond (soundAt t level low high words) (metSurvey t words (surveyOf t k words)) met.Spoiled
 
-unfoldable pub metPage : List ℕ → ℕ → ℕ → ℕ → ℕ → ℕ → ℕ → ℕ → Met
+unfoldable pub metPage : (table : List ℕ) → (pages t k level low high page : ℕ) → Met
 metPage table pages t k level low high page = cond (ltb page pages) (metWords t k level low high (pageAt table page)) met.Spoiled
 
 -- "Over 64 rows, the page overflows"; "Over 40 of them go to two pages"
 abbrev pub partsOf : ℕ → ℕ → ℕ
 partsOf rows live = cond (leb rows rowLimit) 0 (cond (leb live copyLimit) 1 2)
 
-unfoldable pub planPage : ℕ → ℕ → ℕ → Planned
+unfoldable pub planPage : ℕ → ℕ → ℕ → PagePlan
 planPage made rows live = planned.Made (made + partsOf rows live) (partsOf rows live)
 
 -- Steps 3 and 7: a page that takes the rows of the child beside the first gets a further row, which is live
-unfoldable pub planAbove : Counts → Planned → Planned
+unfoldable pub planAbove : Counts → PagePlan → PagePlan
 planAbove counts planned.Spoiled = planned.Spoiled
 planAbove counts (planned.Made made parts) =
     cond (eqb parts 0)
@@ -65,19 +65,19 @@ planAbove counts (planned.Made made parts) =
     (planPage made (counts .rows + counts .gain + counts .inner + (parts - 1)) (counts .live + (parts - 1)))
 
 -- Step 3 alone
-abbrev pub planLowest : Counts → Planned
+abbrev pub planLowest : Counts → PagePlan
 planLowest counts = planPage 0 (counts .rows + counts .gain) (counts .live)
 
 -- Step 2: the row around the key is replaced, and one row more follows it
-abbrev pub planCut : Counts → Planned
+abbrev pub planCut : Counts → PagePlan
 planCut counts = planPage 0 (counts .rows + counts .inner + 1) (counts .live + 1)
 
-abbrev pub planMet : (Counts → Row → Planned) → Met → Planned
+abbrev pub planMet : (Counts → Row → PagePlan) → Met → PagePlan
 planMet around met.Spoiled = planned.Spoiled
 planMet around (met.Lowest counts) = planLowest counts
 planMet around (met.Around counts row) = around counts row
 
-unfoldable pub planFrom : List ℕ → ℕ → ℕ → ℕ → ℕ → ℕ → ℕ → ℕ → Planned
+unfoldable pub planFrom : (table : List ℕ) → (pages t k level low high page : ℕ) → PagePlan
 planFrom table pages t k zero low high page = planMet (λ (counts : Counts) (row : Row). planCut counts)
     (metPage table pages t k 0 low high page)
 planFrom table pages t k (suc l) low high page =
@@ -85,7 +85,7 @@ planFrom table pages t k (suc l) low high page =
     (metPage table pages t k (suc l) low high page)
 
 -- Step 8, and "a level 3 root whose rows must go to two pages"
-unfoldable pub planTop : ℕ → ℕ → ℕ → ℕ → ℕ → Plan
+unfoldable pub planTop : (made parts top last t : ℕ) → Plan
 planTop made parts top last t =
     cond (eqb parts 0)
     (Ready made Kept)
@@ -105,6 +105,6 @@ FewMet met.Spoiled = Unit {0}
 FewMet (met.Lowest counts) = Few counts
 FewMet (met.Around counts row) = Few counts
 
-abbrev pub FewParts : ℕ → Planned → Type 0
+abbrev pub FewParts : ℕ → PagePlan → Type 0
 FewParts limit planned.Spoiled = Unit {0}
 FewParts limit (planned.Made made parts) = (made ≤ limit) × (parts ≤ 2)

@@ -44,7 +44,7 @@ pub enum Met {
 
 // What the entry does from a page down: it meets a spoiled page, or makes so many pages, of which the last `parts` take the rows of the page
 // itself: 0 where the page keeps its rows.
-pub enum Planned {
+pub enum PagePlan {
     Spoiled,
     Made { made: u32, parts: u32 },
 }
@@ -123,25 +123,25 @@ fn parts_of(rows: usize, live: usize) -> u32
 }
 
 // A page after its steps, with the pages made before it.
-fn plan_page(made: u32, rows: usize, live: usize) -> Planned
+fn plan_page(made: u32, rows: usize, live: usize) -> PagePlan
     requires { ⌜ made < mostMade ⌝ }
     ensures { λ r. ⌜ r ≡ planPage made rows live ⌝ }
 {
     let parts = parts_of(rows, live);
-    Planned::Made {
+    PagePlan::Made {
         made: made + parts,
         parts,
     }
 }
 
 // A page above the lowest, after its step 3 and, where its child's rows went to new pages, its step 7.
-fn plan_above(counts: Counts, below: Planned) -> Planned
+fn plan_above(counts: Counts, below: PagePlan) -> PagePlan
     requires { ⌜ Few counts ⌝ }
     requires { ⌜ FewParts (mostMade - 1) below ⌝ }
     ensures { λ r. ⌜ r ≡ planAbove counts below ⌝ }
 {
-    let Planned::Made { made, parts } = below else {
-        return Planned::Spoiled;
+    let PagePlan::Made { made, parts } = below else {
+        return PagePlan::Spoiled;
     };
     let rows = counts.rows + counts.gain;
     if parts == 0 {
@@ -161,7 +161,7 @@ fn plan_from(
     high: u16,
     t: u32,
     k: u16,
-) -> Planned
+) -> PagePlan
     requires { ⌜ pages * pageWords ≤ length (now table) ⌝ }
     requires { ⌜ level ≤ topLevel ⌝ }
     requires { ⌜ low < high ⌝ }
@@ -169,7 +169,7 @@ fn plan_from(
 {
     let met = meet_page(table, pages, page, level, low, high, t, k);
     match met {
-        Met::Spoiled => Planned::Spoiled,
+        Met::Spoiled => PagePlan::Spoiled,
         Met::Lowest(counts) => plan_page(0, counts.rows + counts.gain, counts.live),
         Met::Around { counts, row } => {
             if level == 0 {
@@ -229,7 +229,7 @@ pub fn plan(table: &[u64], roots: &[u64], used: TreeUse, t: u32, k: u16) -> Plan
         return Plan::Spoiled;
     };
     let planned = plan_from(table, used.pages, page, level, 0, words::KEY_LIMIT, t, k);
-    let Planned::Made { made, parts } = planned else {
+    let PagePlan::Made { made, parts } = planned else {
         return Plan::Spoiled;
     };
     let last = roots[used.roots as usize - 1];

@@ -6,7 +6,7 @@ use mathlib.Core.Bool.{Bool, true, false, cond}
 use mathlib.Core.List.{List}
 use lib.Dec.{eqb}
 use lib.ListN.{length, getD, drop}
-use Rattle.ranges.specs.KeyRanges.{sumBy}
+use Rattle.words.specs.Sums.{sumBy}
 use Rattle.words.proofs.LoopLaws.{drop-here, drop-none}
 
 module _ (f : ℕ → ℕ) (l : List ℕ) (at : ℕ) where

@@ -1,7 +1,8 @@
--- The key ranges of rows, one number each, as the code keeps them in arrays, and numbers added up over such a list.
-use Prim.Native.Nat.{ℕ, _+_, _/_, _%_}
-use mathlib.Core.List.{List, foldr}
+-- The key ranges of rows, one number each, as the code keeps them in arrays, and how many of them pass a test.
+use Prim.Native.Nat.{ℕ, _/_, _%_}
+use mathlib.Core.List.{List}
 use mathlib.Core.Bool.{Bool, cond}
+use Rattle.words.specs.Sums.{sumBy}
 use Rattle.words.specs.Words.{keyRange}
 use Rattle.tree.specs.KeyOrder.{Placed}
 
@@ -18,9 +19,6 @@ rangeHigh e = e / 65536
 abbrev pub placeIn : Placed → ℕ
 placeIn x = x .place
 
--- A number added up over a list, and how many of its items pass a test
-abbrev pub sumBy : (ℕ → ℕ) → List ℕ → ℕ
-sumBy f xs = foldr (λ (x n : ℕ). f x + n) 0 xs
-
+-- How many items of a list pass a test
 abbrev pub count : (ℕ → Bool) → List ℕ → ℕ
 count test xs = sumBy (λ (x : ℕ). cond (test x) 1 0) xs

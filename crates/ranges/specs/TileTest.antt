@@ -6,7 +6,8 @@ use mathlib.Core.Bool.{Bool, true, cond, _&&_, _||_}
 use lib.Dec.{leb, ltb, eqb}
 use lib.ListN.{drop}
 use Rattle.words.specs.Lists.{All}
-use Rattle.ranges.specs.KeyRanges.{rangeLow, rangeHigh, sumBy, count}
+use Rattle.words.specs.Sums.{sumBy}
+use Rattle.ranges.specs.KeyRanges.{rangeLow, rangeHigh, count}
 
 abbrev pub lesser : ℕ → ℕ → ℕ
 lesser a b = cond (ltb a b) a b
@@ -29,10 +30,10 @@ abbrev pub spanned : ℕ → ℕ → ℕ → ℕ
 spanned low high e = cond (isEmpty e) 65536 (clipped low high e)
 
 -- A key at which a range stops is held again, unless it lies outside the range low to high
-abbrev pub goesOn : ℕ → ℕ → List ℕ → ℕ → Bool
+abbrev pub goesOn : (low high : ℕ) → (ranges : List ℕ) → (q : ℕ) → Bool
 goesOn low high ranges q = leb q low || (leb high q || ltb 0 (count (holdsKey q) ranges))
 
-abbrev pub stopsWell : ℕ → ℕ → List ℕ → ℕ → Bool
+abbrev pub stopsWell : (low high : ℕ) → (ranges : List ℕ) → (e : ℕ) → Bool
 stopsWell low high ranges e = goesOn low high ranges (rangeHigh e)
 
 -- Every item passes a test
@@ -62,7 +63,7 @@ Noted high ranges noted = All (λ (q : ℕ). mayStop high ranges q ≡ true) not
 
 -- Stops that are noted may be passed over: whatever the page's range, if it has these notes, the ranges from one place on go on where those from
 -- a later place do
-abbrev pub Passed : List ℕ → List ℕ → ℕ → ℕ → Type 0
+abbrev pub Passed : (ranges noted : List ℕ) → (from to : ℕ) → Type 0
 Passed ranges noted from to =
     (low high : ℕ) → Noted high ranges noted
     → every (stopsWell low high ranges) (drop from ranges) ≡ every (stopsWell low high ranges) (drop to ranges)

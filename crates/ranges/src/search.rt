@@ -10,6 +10,9 @@ ghost use lib.ListN.{length};
 ghost use Rattle.tree.specs.Row.{rowLimit};
 ghost use Rattle.ranges.specs.Nearest.{fits, candidate, least, noRange, placeAt, holder, holderSum};
 
+// The number of no range: above those of all that fit.
+const NO_RANGE: u32 = 16777216;
+
 // Where a search ends: at the row of a place, or nowhere.
 pub enum Place {
     At(usize),
@@ -37,7 +40,7 @@ fn candidate(range: u32, at: usize, from: u32, below: u32, above: u32) -> u32
     if range_fits(range, from, below, above) {
         return 256 * range_low(range) + at as u32;
     }
-    16777216
+    NO_RANGE
 }
 
 // The least of these numbers.
@@ -45,7 +48,7 @@ fn least_candidate(ranges: &[u32], from: u32, below: u32, above: u32) -> u32
     requires { ⌜ length (now ranges) ≤ rowLimit ⌝ }
     ensures { λ r. ⌜ r ≡ least from below above 0 (now (ranges .entry)) ⌝ }
 {
-    let mut best: u32 = 16777216;
+    let mut best: u32 = NO_RANGE;
     let mut at: usize = 0;
     while at < ranges.len() {
         best = lesser(best, candidate(ranges[at], at, from, below, above));
@@ -61,7 +64,7 @@ pub fn find_place(ranges: &[u32], places: &[u8], from: u32, below: u32, above: u
     ensures { λ r. ⌜ r ≡ placeAt (now (places .entry)) (least from below above 0 (now (ranges .entry))) ⌝ }
 {
     let best = least_candidate(ranges, from, below, above);
-    if 16777216 <= best {
+    if NO_RANGE <= best {
         return Place::Missing;
     }
     Place::At(places[best as usize % 256] as usize)

@@ -24,7 +24,7 @@ Within n Missing = Unit {0}
 Within n (At place) = place < n
 
 -- Step 4: a row born at t is written over where it is; another one ends at t, and what it becomes is added
-abbrev pub replaceWords : ℕ → List ℕ → ℕ → Row → Row → List ℕ
+abbrev pub replaceWords : (t : ℕ) → (page : List ℕ) → (place : ℕ) → Row → Row → List ℕ
 replaceWords t page place old new =
     cond (eqb (old .birth) t) (putRow page place new) (appendRow (endRow page place t) (bornAt t new))
 
@@ -34,17 +34,17 @@ gainWords t v page Missing = page
 gainWords t v page (At place) = replaceWords t page place (rowIn page place) (gained v (rowIn page place))
 
 -- Step 2
-abbrev pub cutWords : ℕ → ℕ → Value → List ℕ → ℕ → List ℕ
+abbrev pub cutWords : (t k : ℕ) → Value → (page : List ℕ) → (place : ℕ) → List ℕ
 cutWords t k v page place =
     appendRow (replaceWords t page place (rowIn page place) (cutAt k (rowIn page place))) (newRow t k (rowIn page place .high) 0 v)
 
 -- A leaf: step 2 where a row has the key inside, else step 3
-abbrev pub leafWords : ℕ → ℕ → Value → List ℕ → Place → Place → List ℕ
+abbrev pub leafWords : (t k : ℕ) → Value → (page : List ℕ) → Place → Place → List ℕ
 leafWords t k v page Missing gain = gainWords t v page gain
 leafWords t k v page (At place) gain = cutWords t k v page place
 
 -- Step 7, for the row that stood at the place before step 3
-abbrev pub linkWords : ℕ → List ℕ → ℕ → Row → Became → List ℕ
+abbrev pub linkWords : (t : ℕ) → (page : List ℕ) → (place : ℕ) → Row → Became → List ℕ
 linkWords t page place old Stays = page
 linkWords t page place old (Copied c) = replaceWords t page place old (linkedTo c old)
 linkWords t page place old (Halved c d) =

@@ -37,7 +37,7 @@ abbrev pub copyOf : List ℕ → ℕ → ℕ → Row
 copyOf words t e = bornAt t (entryRow words e)
 
 -- The page with the copies of the entries' rows added
-unfoldable pub fillPage : List ℕ → ℕ → Page → List ℕ → Page
+unfoldable pub fillPage : (words : List ℕ) → (t : ℕ) → Page → List ℕ → Page
 fillPage words t page [] = page
 fillPage words t page (e ∷ es) = fillPage words t (withRow page (copyOf words t e)) es
 
@@ -62,14 +62,14 @@ pub record Sourced (t : ℕ) (words order : List ℕ) (start : ℕ) : Type 0 whe
 abbrev pub liveCopies : List ℕ → ℕ → List Row
 liveCopies words t = copiedRows t (rowsOf words)
 
-unfoldable pub copiedTable : List ℕ → ℕ → List ℕ → ℕ → List ℕ
+unfoldable pub copiedTable : (table : List ℕ) → (number : ℕ) → (words : List ℕ) → (t : ℕ) → List ℕ
 copiedTable table number words t =
     putPage table number (freshPage (word words 0) (lowKey (word words 2)) (highKey (word words 2)) t (liveCopies words t))
 
 unfoldable pub middleKey : List ℕ → ℕ → ℕ
 middleKey words t = lowestKey (highKey (word words 2)) (drop (lowerCount (liveCopies words t)) (liveCopies words t))
 
-unfoldable pub halvedTable : List ℕ → ℕ → ℕ → List ℕ → ℕ → List ℕ
+unfoldable pub halvedTable : (table : List ℕ) → (first second : ℕ) → (words : List ℕ) → (t : ℕ) → List ℕ
 halvedTable table first second words t =
     putPage
     (putPage table first
@@ -80,7 +80,7 @@ halvedTable table first second words t =
     (drop (lowerCount (liveCopies words t)) (liveCopies words t))))
 
 -- What an overflow writes and says, where the call has made so many pages
-abbrev pub splitWords : List ℕ → TreeUse → ℕ → List ℕ → ℕ → Written
+abbrev pub splitWords : (table : List ℕ) → TreeUse → (made : ℕ) → (words : List ℕ) → (t : ℕ) → Written
 splitWords table used made words t =
     splitPage (record { table = table; roots = []; used = used }) t (record { table = table; made = made; became = Stays }) words
     (copiedRows t (rowsOf words))

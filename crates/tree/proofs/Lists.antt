@@ -3,9 +3,10 @@ use Prim.Native.Nat.{ℕ, zero, suc, _+_, _≤_, _<_}
 use native.Mathlib.Omega.{arith}
 use mathlib.Core.Path.{_≡_, refl, ap, ap₂, sym, _∙_}
 use mathlib.Core.Bool.{Bool, true, cond}
-use mathlib.Core.List.{List, [], _∷_, _++_, map, foldr}
+use mathlib.Core.List.{List, [], _∷_, _++_, map}
 use lib.ListN.{length, getD, set, take, drop, length-map}
 pub use Rattle.words.specs.Lists.{All}
+pub use Rattle.words.specs.Sums.{sumBy}
 
 module _ {A : Type 0} where
   pub all-map : (P Q : A → Type 0) → ((x : A) → P x → Q x) → (xs : List A) → All P xs → All Q xs
@@ -38,10 +39,7 @@ module _ {A : Type 0} where
   all-drop P (suc i) [] h = tt
   all-drop P (suc i) (x ∷ xs) h = all-drop P i xs (h .1)
 
-  -- The sum of a number over the items
-  abbrev pub sumBy : (A → ℕ) → List A → ℕ
-  sumBy f xs = foldr (λ (x : A) (n : ℕ). f x + n) 0 xs
-
+  -- Numbers added up over the items
   pub sum-append : (f : A → ℕ) (xs ys : List A) → sumBy f (xs ++ ys) ≡ sumBy f xs + sumBy f ys
   sum-append f [] ys = omega arith
   sum-append f (x ∷ xs) ys = omega (arith, sum-append f xs ys)

@@ -44,7 +44,7 @@ pub record Entered : Type 0 where
   pub root : RootChange
 
 -- Step 8: "A root overflow adds a root entry, or replaces the last one if that was born at t."
-abbrev pub withRoot : Tree → ℕ → ℕ → List ℕ → ℕ → Entered
+abbrev pub withRoot : Tree → (t page : ℕ) → (table : List ℕ) → (made : ℕ) → Entered
 withRoot tree t page table made =
     cond (eqb (rootBirth (lastRoot tree)) t)
     (record {

@@ -12,14 +12,14 @@ unfoldable pub zeros : ℕ → List ℕ
 zeros n = replicate n 0
 
 -- The 260 words of a page with these rows
-unfoldable pub freshPage : ℕ → ℕ → ℕ → ℕ → List Row → List ℕ
+unfoldable pub freshPage : (level low high birth : ℕ) → List Row → List ℕ
 freshPage level low high birth rows =
     level ∷ (length rows ∷ (keyRange low high ∷ (birth ∷ (encodeRows rows ++ zeros (rowWords * (rowLimit - length rows))))))
 
 -- A row "born at t and open"
-abbrev pub newRow : ℕ → ℕ → ℕ → ℕ → Value → Row
+abbrev pub newRow : (t low high child : ℕ) → Value → Row
 newRow t low high child value = record { low = low; high = high; child = child; birth = t; end = openEnd; value = value }
 
 -- "a new root one level up, two rows of value zero": `middle` is the key where the lower half ends
-abbrev pub twoRows : ℕ → ℕ → ℕ → ℕ → List Row
+abbrev pub twoRows : (t middle lower upper : ℕ) → List Row
 twoRows t middle lower upper = newRow t 0 middle lower zero ∷ (newRow t middle keyLimit upper zero ∷ [])

@@ -26,12 +26,12 @@ withBelow below held.Spoiled = Spoiled
 withBelow below (held.Found row v) = plusPage v (below row)
 
 -- One page of the expected level and key range, and what its holding row leads to
-abbrev pub lookupPage : Tree → ℕ → ℕ → ℕ → ℕ → ℕ → ℕ → (Row → Lookup) → Lookup
+abbrev pub lookupPage : Tree → (t k level low high page : ℕ) → (Row → Lookup) → Lookup
 lookupPage tree t k level low high page below =
     cond (ltb page (tree .used .pages)) (withBelow below (heldIn t k level low high (pageAt (tree .table) page))) Spoiled
 
 -- "A lookup adds the true values of the rows that hold (t, k) from root to leaf." "each page's level is one less than its parent's"
-unfoldable pub lookupFrom : Tree → ℕ → ℕ → ℕ → ℕ → ℕ → ℕ → Lookup
+unfoldable pub lookupFrom : Tree → (t k level low high page : ℕ) → Lookup
 lookupFrom tree t k zero low high page = lookupPage tree t k 0 low high page (λ (row : Row). Found value.zero 0)
 lookupFrom tree t k (suc l) low high page =
     lookupPage tree t k (suc l) low high page (λ (row : Row). lookupFrom tree t k l (row .low) (row .high) (row .child))

@@ -29,14 +29,14 @@ module _ {A : Type 0} (lowOf highOf : A → ℕ) (low high : ℕ) where
   eachKeyOnce next (x ∷ xs) = fitsNext next x && eachKeyOnce (nextKey next x) xs
 
 -- "live rows that fail to hold each key of the page's range once, an empty live row": neither holds (Tiling has the declarative reading)
-abbrev pub rowsTile : ℕ → ℕ → ℕ → List Row → Bool
+abbrev pub rowsTile : (t low high : ℕ) → List Row → Bool
 rowsTile t low high rows = eachKeyOnce placedLow placedHigh low high low (keyOrder t rows)
 
 -- "wrong level, row count out of 1 to 64, .. a child or root of another key range than expected", each compared as a whole word
-abbrev pub headerFits : ℕ → ℕ → ℕ → List ℕ → Bool
+abbrev pub headerFits : (level low high : ℕ) → (page : List ℕ) → Bool
 headerFits level low high page =
     eqb (word page 0) level && (leb 1 (word page 1) && (leb (word page 1) rowLimit && eqb (word page 2) (keyRange low high)))
 
 -- A page of the expected level and key range that is no ground for 26 at t
-abbrev pub soundAt : ℕ → ℕ → ℕ → ℕ → List ℕ → Bool
+abbrev pub soundAt : (t level low high : ℕ) → (page : List ℕ) → Bool
 soundAt t level low high page = headerFits level low high page && rowsTile t low high (rowsOf page)

@@ -13,11 +13,11 @@ pathBelow below none = []
 pathBelow below (one x) = below (x .row .child)
 
 -- From a page of a level down to the leaf
-unfoldable pub pathFrom : List ℕ → ℕ → ℕ → ℕ → ℕ → List ℕ
+unfoldable pub pathFrom : (table : List ℕ) → (t k level page : ℕ) → List ℕ
 pathFrom table t k zero page = page ∷ []
 pathFrom table t k (suc l) page = page ∷ pathBelow (λ (child : ℕ). pathFrom table t k l child) (holdingRow t k (rowsOf (pageAt table page)))
 
-abbrev pub pathOfRoot : List ℕ → ℕ → ℕ → Root → List ℕ
+abbrev pub pathOfRoot : (table : List ℕ) → (t k : ℕ) → Root → List ℕ
 pathOfRoot table t k Missing = []
 pathOfRoot table t k (At page) = pathFrom table t k (levelOf table page) page
 

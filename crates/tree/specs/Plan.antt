@@ -23,7 +23,7 @@ abbrev pub soundBelow : (Row → Bool) → Search Placed → Bool
 soundBelow below none = true
 soundBelow below (one x) = below (x .row)
 
-unfoldable pub descentSound : Tree → Point → ℕ → ℕ → ℕ → ℕ → Bool
+unfoldable pub descentSound : Tree → Point → (level low high page : ℕ) → Bool
 descentSound tree p zero low high page = metAt tree (p .tick) 0 low high page
 descentSound tree p (suc l) low high page =
     metAt tree (p .tick) (suc l) low high page

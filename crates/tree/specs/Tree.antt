@@ -66,7 +66,7 @@ abbrev pub height : Tree → ℕ
 height tree = levelOf (tree .table) (rootPage (lastRoot tree)) + 1
 
 -- No ground for 26 in a page that is met at t as one of this level and key range: "page number not below pages used", and what its words say
-abbrev pub metAt : Tree → ℕ → ℕ → ℕ → ℕ → ℕ → Bool
+abbrev pub metAt : Tree → (t level low high page : ℕ) → Bool
 metAt tree t level low high page = ltb page (tree .used .pages) && soundAt t level low high (pageAt (tree .table) page)
 
 -- No ground for 26 in a root before its page is tested: its number is below pages used and its level at most 3

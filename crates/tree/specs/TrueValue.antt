@@ -44,5 +44,5 @@ abbrev pub heldAs : ℕ → List Row → Search Placed → Held
 heldAs t rows none = Spoiled
 heldAs t rows (one x) = Found (x .row) (trueValue t rows (x .row))
 
-abbrev pub heldIn : ℕ → ℕ → ℕ → ℕ → ℕ → List ℕ → Held
+abbrev pub heldIn : (t k level low high : ℕ) → (page : List ℕ) → Held
 heldIn t k level low high page = cond (soundAt t level low high page) (heldAs t (rowsOf page) (holdingRow t k (rowsOf page))) Spoiled

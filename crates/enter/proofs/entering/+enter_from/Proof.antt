@@ -14,7 +14,7 @@ use Rattle.ranges.specs.declared.search.Place.the-variants.{At}
 use Rattle.live.specs.Survey.{surveyOf}
 use Rattle.enter.specs.EnterWords.{useOf, pointAt, CanEnter, DoneAs, leafEdited, gainEdited, linkEdited}
 use Rattle.row_steps.specs.PageEdits.{Within}
-use Rattle.enter.proofs.CopyLaws.{part-is, part-length}
+use Rattle.tree.proofs.TableLaws.{page-length}
 use Rattle.enter.proofs.EnterLaws.{few-rows, inside}
 use Rattle.enter.proofs.EnterSteps.{Settles, gain-within, leaf-step, lowest-step, place-inside, child-step, above-step}
 use borrow.Author.Needs.{needs}
@@ -25,6 +25,7 @@ use Rattle.enter.proofs.entering.enter_from.Kinds as enter-from-kinds
 use Rattle.enter.proofs.entering.+enter_from.Lts-enter_from as enter-from-lts
 use Rattle.enter.proofs.entering.enter_leaf.Reads as enter-leaf-reads
 use Rattle.enter.proofs.entering.change_page.Reads as change-page-reads
+use Rattle.page.proofs.page_at.Reads as page-at-reads
 use Rattle.page.proofs.row_at.Reads as row-at-reads
 use Rattle.live.proofs.survey_page.Reads as survey-page-reads
 use Rattle.enter.proofs.entering.+enter_from.{statement}
@@ -47,6 +48,8 @@ abbrev calls : ℕ → enter-from-lts.Claims
 calls t = (
   enter-leaf-reads.Asked,
   enter-leaf-reads.Learnt,
+  page-at-reads.Asked,
+  page-at-reads.Learnt,
   survey-page-reads.Asked,
   survey-page-reads.Learnt,
   change-page-reads.Asked,
@@ -99,7 +102,7 @@ module _ (t : ℕ) (u : enter-from-lts.After-survey-page (calls t) (enter-from-a
   start = u .before .before .before .before .before .before
 
   survey-is : u .survey-page .result ≡ surveyOf (start .args .t) (start .args .k) (page t start)
-  survey-is = u .survey-page .ensures ∙ ap (surveyOf (start .args .t) (start .args .k)) (part-is (table t start) (start .args .page))
+  survey-is = u .survey-page .ensures ∙ ap (surveyOf (start .args .t) (start .args .k)) (u .before .page-at .ensures)
 
   gain-is : u .survey-page .result .gain ≡ surveyOf (start .args .t) (start .args .k) (page t start) .gain
   gain-is = ap (λ (s : Survey). s .gain) survey-is
@@ -139,7 +142,7 @@ module _ (t : ℕ) (r : enter-from-lts.After-row-at (calls t) (enter-from-at t) 
   child-is : r .row-at .result .child ≡ rowIn (page t (start-above t found)) (place t found) .child
   child-is =
       ap (λ (x : Row). x .child)
-      (r .row-at .ensures ∙ ap (λ (w : List ℕ). rowIn w (place t found)) (part-is (table t (start-above t found)) (start-above t found .args .page)))
+      (r .row-at .ensures ∙ ap (λ (w : List ℕ). rowIn w (place t found)) (r .before .page-at2 .ensures))
 
 -- When the call came back from its child
 module _ (t : ℕ) (e : enter-from-lts.After-enter-from (calls t) (enter-from-at t) enter-from.Post) where
@@ -174,28 +177,13 @@ enter-from-same-length-2 t c = search needs
 enter-from-returns : (t : ℕ) → enter-from-lts.Need-returns (calls t) (enter-from-at t) enter-from.Post
 enter-from-returns t c = rw (leaf t (c .before .before .before .before .before .before .before .before .before .before) (c .before .before .before .before .before .before .before .if1 .taken) .is) at (c .before .before .before .before .enter-leaf .ensures)
 
-enter-from-mul-from : (t : ℕ) → enter-from-lts.Need-mul-from (calls t) (enter-from-at t) enter-from.Post
-enter-from-mul-from t c = omega (arith, within t (c .before .before .before))
-
-enter-from-add-to : (t : ℕ) → enter-from-lts.Need-add-to (calls t) (enter-from-at t) enter-from.Post
-enter-from-add-to t c = omega (arith, within t (c .before .before .before))
-
-enter-from-mul-survey-page : (t : ℕ) → enter-from-lts.Need-mul-survey-page (calls t) (enter-from-at t) enter-from.Post
-enter-from-mul-survey-page t c = omega (arith, within t (c .before .before .before))
-
-enter-from-sub-survey-page : (t : ℕ) → enter-from-lts.Need-sub-survey-page (calls t) (enter-from-at t) enter-from.Post
-enter-from-sub-survey-page t c = search needs
-
-enter-from-part-survey-page-start : (t : ℕ) → enter-from-lts.Need-part-survey-page-start (calls t) (enter-from-at t) enter-from.Post
-enter-from-part-survey-page-start t c = search needs
-
-enter-from-part-survey-page-end : (t : ℕ) → enter-from-lts.Need-part-survey-page-end (calls t) (enter-from-at t) enter-from.Post
-enter-from-part-survey-page-end t c = omega (arith, within t (c .before .before .before .before))
+enter-from-page-at-requires : (t : ℕ) → enter-from-lts.Need-page-at-requires (calls t) (enter-from-at t) enter-from.Post
+enter-from-page-at-requires t c κs = within t (c .before .before .before .before)
 
 enter-from-survey-page-requires : (t : ℕ) → enter-from-lts.Need-survey-page-requires (calls t) (enter-from-at t) enter-from.Post
 enter-from-survey-page-requires t c κs =
     let s = c .before .before .before .before .before in
-    (part-length (table t s) (s .args .page) (within t s), rw (part-is (table t s) (s .args .page)) (few t s))
+    (ap length (c .page-at .ensures) ∙ page-length (table t s) (s .args .page) (within t s), rw (c .page-at .ensures) (few t s))
 
 enter-from-enum-known-inner : (t : ℕ) → enter-from-lts.Need-enum-known-inner (calls t) (enter-from-at t) enter-from.Post
 enter-from-enum-known-inner t c = search needs
@@ -218,22 +206,14 @@ enter-from-same-length-4 t c = search needs
 enter-from-returns-2 : (t : ℕ) → enter-from-lts.Need-returns-2 (calls t) (enter-from-at t) enter-from.Post
 enter-from-returns-2 t c = rw (gain-is t (c .before .before .before .before .before .before .before .before .before), lowest t (c .before .before .before .before .before .before .before) .is) at (c .before .before .before .before .change-page .ensures)
 
-enter-from-mul-row-at : (t : ℕ) → enter-from-lts.Need-mul-row-at (calls t) (enter-from-at t) enter-from.Post
-enter-from-mul-row-at t c = omega (arith, within t (c .before .before .before .before .before .before .before .before .before))
-
-enter-from-sub-row-at : (t : ℕ) → enter-from-lts.Need-sub-row-at (calls t) (enter-from-at t) enter-from.Post
-enter-from-sub-row-at t c = search needs
-
-enter-from-part-row-at-start : (t : ℕ) → enter-from-lts.Need-part-row-at-start (calls t) (enter-from-at t) enter-from.Post
-enter-from-part-row-at-start t c = search needs
-
-enter-from-part-row-at-end : (t : ℕ) → enter-from-lts.Need-part-row-at-end (calls t) (enter-from-at t) enter-from.Post
-enter-from-part-row-at-end t c = omega (arith, within t (c .before .before .before .before .before .before .before .before .before .before))
+enter-from-page-at-requires-2 : (t : ℕ) → enter-from-lts.Need-page-at-requires-2 (calls t) (enter-from-at t) enter-from.Post
+enter-from-page-at-requires-2 t c κs = within t (c .before .before .before .before .before .before .before .before .before .before)
 
 enter-from-row-at-requires : (t : ℕ) → enter-from-lts.Need-row-at-requires (calls t) (enter-from-at t) enter-from.Post
 enter-from-row-at-requires t c κs =
     let s = c .before .before .before .before .before .before .before .before .before .before .before in
-    omega (arith, place-low t (c .before .before), few t s, part-length (table t s) (s .args .page) (within t s))
+    let long = ap length (c .page-at2 .ensures) ∙ page-length (table t s) (s .args .page) (within t s) in
+    omega (arith, place-low t (c .before .before), few t s, long)
 
 enter-from-sub-enter-from : (t : ℕ) → enter-from-lts.Need-sub-enter-from (calls t) (enter-from-at t) enter-from.Post
 enter-from-sub-enter-from t c = search needs
@@ -269,12 +249,7 @@ pub +enter-from-spec : {M : Type 1} → statement M
     (enter-from-same-length t)
     (enter-from-same-length-2 t)
     (enter-from-returns t)
-    (enter-from-mul-from t)
-    (enter-from-add-to t)
-    (enter-from-mul-survey-page t)
-    (enter-from-sub-survey-page t)
-    (enter-from-part-survey-page-start t)
-    (enter-from-part-survey-page-end t)
+    (enter-from-page-at-requires t)
     (enter-from-survey-page-requires t)
     (enter-from-enum-known-inner t)
     (enter-from-enum-told t)
@@ -282,10 +257,7 @@ pub +enter-from-spec : {M : Type 1} → statement M
     (enter-from-same-length-3 t)
     (enter-from-same-length-4 t)
     (enter-from-returns-2 t)
-    (enter-from-mul-row-at t)
-    (enter-from-sub-row-at t)
-    (enter-from-part-row-at-start t)
-    (enter-from-part-row-at-end t)
+    (enter-from-page-at-requires-2 t)
     (enter-from-row-at-requires t)
     (enter-from-sub-enter-from t)
     (enter-from-enter-from-requires t)

@@ -4,7 +4,7 @@ use mathlib.Core.Path.{_≡_}
 use Prim.Native.Nat.{_+_, _*_, _-_, _≤_}
 use lib.ListN.{length, drop}
 use native.Mathlib.Omega.{arith}
-use Rattle.ranges.specs.KeyRanges.{sumBy}
+use Rattle.words.specs.Sums.{sumBy}
 use Rattle.ranges.specs.TileTest.{spanned}
 use Rattle.ranges.proofs.SumLaws.{sum-on, sum-done}
 use borrow.Author.Needs.{needs}
