@@ -85,7 +85,8 @@ fn held_row(page: &[u64], ranges: &[u32], places: &[u8], k: u16) -> Held
     }
 }
 
-// What the listed rows of a page that was opened have for k.
+// What the listed rows of a page that was opened have for k. A spoiled page is told from a sound one here and not by the callers, which are so
+// short that the compiler joins them to a descent.
 fn held_tested(
     table: &[u64],
     page: u32,

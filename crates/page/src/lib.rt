@@ -1,5 +1,5 @@
 // One page, on its own words: its rows, edits of rows, key order, fresh pages.
-// A function here is lent the words of one page and sees no other page.
+// A function here is lent the words of one page and sees no other page; only `page_at`, which cuts these words out of the table, is lent the table.
 mod edit;
 mod fresh;
 mod order;
