@@ -14,10 +14,11 @@ use std::collections::{BTreeMap, BTreeSet};
 use std::process::ExitCode;
 
 /// The public contracts: what each is, and where it stands.
-const ROOTS: [(&str, &str); 7] = [
+const ROOTS: [(&str, &str); 8] = [
     ("the calls that only read", "queries"),
     ("the calls that write", "updates"),
     ("the calls for C", "firmware"),
+    ("lists of calls for C", "firmware/proofs/ExportedLists.antt:exported-list"),
     ("one command on lent slices", "interpret"),
     ("the command program", "command/specs/Stream.antt:output"),
     ("demand 3", "store/proofs/Main.antt:demand-3"),
