@@ -13,25 +13,25 @@
 #define TRIES 3
 
 static uint64_t start_table[NIMBLESHALE_TABLE_WORDS(START_PAGES)];
-static uint64_t start_list[ROOTS];
+static uint64_t start_roots[ROOTS];
 static uint64_t end_table[NIMBLESHALE_TABLE_WORDS(END_PAGES)];
-static uint64_t end_list[ROOTS];
+static uint64_t end_roots[ROOTS];
 
 static struct nimbleshale_store store;
 
 /* What the firmware tells with its next status report. */
 static unsigned dropped, memory_faults, stores_opened;
 
-static void lend_memory(size_t start_roots)
+static void lend_memory(size_t start_roots_used)
 {
     store.start_table = start_table;
     store.start_table_length = sizeof start_table / sizeof *start_table;
-    store.start_list = start_list;
-    store.start_list_length = start_roots;
+    store.start_roots = start_roots;
+    store.start_roots_length = start_roots_used;
     store.end_table = end_table;
     store.end_table_length = sizeof end_table / sizeof *end_table;
-    store.end_list = end_list;
-    store.end_list_length = ROOTS;
+    store.end_roots = end_roots;
+    store.end_roots_length = ROOTS;
 }
 
 static void say(const char *what, uint8_t refusal)
@@ -43,7 +43,7 @@ static void say(const char *what, uint8_t refusal)
 static void on_question(uint32_t k1, uint32_t k2, uint32_t t1, uint32_t t2)
 {
     struct nimbleshale_totals totals;
-    uint8_t refusal = nimbleshale_ask(&store, k1, k2, t1, t2, &totals);
+    uint8_t refusal = nimbleshale_store_question(&store, k1, k2, t1, t2, &totals);
     if (refusal == NIMBLESHALE_ACCEPTED)
         printf("keys %lu to %lu, ticks %lu to %lu: %llu passes, weight %llu, %lu pages opened\n", (unsigned long)k1, (unsigned long)k2,
                (unsigned long)t1, (unsigned long)t2, (unsigned long long)totals.count, (unsigned long long)totals.sum,
@@ -57,7 +57,7 @@ static void on_question(uint32_t k1, uint32_t k2, uint32_t t1, uint32_t t2)
 /* Makes an empty store. Returns 0 where the memory lent is too small, which no later call can mend. */
 static int open_store(void)
 {
-    uint8_t refusal = nimbleshale_open_store(&store);
+    uint8_t refusal = nimbleshale_store_open(&store);
     if (refusal != NIMBLESHALE_ACCEPTED) {
         say("opening", refusal);
         return 0;
@@ -79,7 +79,7 @@ static int open_anew(void)
 /* What a refused start or end calls for. Returns 1 where the event can be tried again, perhaps at another tick. */
 static int mend(uint8_t refusal, uint32_t *tick)
 {
-    uint32_t oldest = store.passes[0].number;
+    uint32_t oldest = nimbleshale_store_pass(&store, 0).number;
     switch (refusal) {
     case NIMBLESHALE_REFUSED_EARLIER:
         /* The clock was set back. Ticks must not fall, so the event is taken to be at the last tick. */
@@ -91,7 +91,7 @@ static int mend(uint8_t refusal, uint32_t *tick)
         return 1;
     case NIMBLESHALE_REFUSED_ALL_OPEN:
         /* The oldest pass has lost its end, so it ends now. One that started at this very tick cannot. */
-        refusal = nimbleshale_record_end(&store, *tick, oldest);
+        refusal = nimbleshale_store_end(&store, *tick, oldest);
         if (refusal != NIMBLESHALE_ACCEPTED) {
             say("end of the oldest pass", refusal);
             return 0;
@@ -119,7 +119,7 @@ static int on_start(uint32_t tick, uint32_t key, uint32_t weight, uint32_t *numb
 {
     int tries;
     for (tries = 0; tries < TRIES; tries++) {
-        uint8_t refusal = nimbleshale_record_start(&store, tick, key, weight, number);
+        uint8_t refusal = nimbleshale_store_start(&store, tick, key, weight, number);
         if (refusal == NIMBLESHALE_ACCEPTED) {
             if (tries > 0)
                 printf("recorded at tick %lu as pass %lu\n", (unsigned long)tick, (unsigned long)*number);
@@ -138,7 +138,7 @@ static void on_end(uint32_t tick, uint32_t number)
 {
     int tries;
     for (tries = 0; tries < TRIES; tries++) {
-        uint8_t refusal = nimbleshale_record_end(&store, tick, number);
+        uint8_t refusal = nimbleshale_store_end(&store, tick, number);
         if (refusal == NIMBLESHALE_ACCEPTED) {
             if (tries > 0)
                 printf("pass %lu ended at tick %lu\n", (unsigned long)number, (unsigned long)tick);
@@ -168,7 +168,7 @@ static uint32_t starts_until(int (*come_about)(void), const char *what, uint32_t
 
 static int all_are_open(void)
 {
-    return store.open >= NIMBLESHALE_OPEN_PASSES;
+    return store.count_open >= NIMBLESHALE_OPEN_PASSES;
 }
 
 static int fourth_store_is_open(void)
@@ -227,7 +227,7 @@ static void damaged_memory(void)
     on_start(2000, 4500, 80, &number);
 
     printf("\nA damaged head\n");
-    store.open = 65;
+    store.count_open = 65;
     on_start(2100, 4500, 80, &number);
 
     printf("\nA million passes\n");
