@@ -21,7 +21,7 @@ static uint64_t stack_memory[131072 / 4];
 
 static struct nimbleshale_store store;
 static struct nimbleshale_totals totals;
-static uint32_t tick, key, number;
+static uint32_t tick, key, first_key, number;
 
 /* A function with a frame of its own. */
 #define FRAMED __attribute__((noinline))
@@ -53,7 +53,7 @@ static FRAMED uint8_t call_end(void)
 
 static FRAMED uint8_t call_question(void)
 {
-    return nimbleshale_store_question(&store, 1 + key / 2, key + 2, tick / 2, tick + 1, &totals);
+    return nimbleshale_store_question(&store, first_key, key + 2, tick / 2, tick + 1, &totals);
 }
 
 static FRAMED uint8_t call_lookup_starts(void)
@@ -115,6 +115,10 @@ static void *run(void *unused)
         tick += 5;
         measure(END);
         if (pass % 50 == 0 || pass == PASSES - 1) {
+            /* A question from key 0 on makes one lookup a tree, any other two at once: other functions, of other depth. */
+            first_key = 0;
+            measure(QUESTION);
+            first_key = 1 + key / 2;
             measure(QUESTION);
             measure(LOOKUP_STARTS);
             measure(LOOKUP_ENDS);
