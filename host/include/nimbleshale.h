@@ -18,7 +18,7 @@
  *   - Any content of the lent memory is allowed, spoiled content too: a call then ends with a refusal or serves the words as they are. What
  *     is said of passes below is said of a store grown from opening, whose memory nobody else wrote.
  *   - Every call gets all the slices, those that the calls before it got. Each slice and each lent number is memory of its own: no two of
- *     them may overlap. This is the one thing that the functions cannot test.
+ *     them may overlap. This the functions cannot test, nor that a pointer leads to as much memory as is said.
  *   - A slice is a pointer and a length in elements. Words of a table past its last whole page are neither read nor written.
  *   - Numbers are 32 bits wide. C cuts a wider one at the call without a word: a tick of 2^32 + 5 arrives as 5. nimbleshale_narrowed guards.
  *   - While a call that writes runs on a store, no other call runs on it. Questions and lookups change nothing and may run together. Calls
