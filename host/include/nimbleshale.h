@@ -29,10 +29,11 @@
  * name: nimbleshale_store_start(&store, ..) is nimbleshale_start on all that the store holds, and so for each of the six. Parameters of the
  * library's functions and fields of the store have the same names.
  *
- * Interrupt handlers. A handler may make any call on a store on which no call is under way below it. Above a question or a lookup it may ask
- * and look up on the same store; above an opening, a start or an end it may make no call on that store, and read none of its head or memory,
- * which may be half written. A handler that hears passes had better put them into a queue and let the main loop call. It needs the stack of
- * the call, and has to save the registers that calls use (docs/FIRMWARE.md).
+ * Interrupt handlers. Where a handler interrupts no call on a store, it may make any call on it. Where it interrupts a question or a lookup, it
+ * may ask and look up on that store. Where it interrupts an opening, a start or an end, it may make no call on that store and read nothing of
+ * its head and memory, which may be half written. The simplest way is to put what a handler hears into a queue, and to make the calls in the
+ * main loop. A handler that calls needs the stack of the call and saves the registers that calls use; and none, whether it calls or not, may
+ * write within the 128 bytes below the interrupted stack pointer (docs/FIRMWARE.md).
  *
  * Stack. What is said at each function are bytes below the caller, arguments included, at their deepest in trees four pages high, on x86-64
  * (host/bench/run measures them).
@@ -43,7 +44,7 @@
 #include <stddef.h>
 #include <stdint.h>
 
-/* The calls must not be made for nothing: a refusal that nobody looks at is a pass lost without a word. Compilers that can, warn. */
+/* An answer must be looked at: a refusal that nobody sees is a pass lost without a word. Compilers that can, warn. */
 #if defined(__cplusplus) && __cplusplus >= 201703L
 #define NIMBLESHALE_MUST_USE [[nodiscard]]
 #elif defined(__GNUC__)
