@@ -220,9 +220,9 @@ fn compare(shape: workload::Shape, name: &str, passes: u32, runs: u32, clock: f6
 
 /// The figures of one shape at one size, by the library, the port and the list.
 fn report(name: &str, passes: u32, head: &Head, [by_library, by_port, by_list]: [&Figures; 3], clock: f64) {
-    let pages = head.start_pages + head.end_pages;
-    let bytes = (2_080 * pages as u64 + 8 * (head.start_roots + head.end_roots) as u64) as f64 / passes as f64;
-    println!("\n{name}, {passes} passes: {bytes:.0} bytes a pass; {} pages and {} roots of starts", head.start_pages, head.start_roots);
+    let pages = head.start_pages_used + head.end_pages_used;
+    let bytes = (2_080 * pages as u64 + 8 * (head.start_roots_used + head.end_roots_used) as u64) as f64 / passes as f64;
+    println!("\n{name}, {passes} passes: {bytes:.0} bytes a pass; {} pages and {} roots of starts", head.start_pages_used, head.start_roots_used);
     println!(
         "{:16}{:>10}{:>10}{:>12}{:>10}{:>12}{:>10}{:>10}{:>10}{:>8}",
         "", "lib mean", "slowest", "port mean", "slowest", "list mean", "slowest", "lib/port", "list/lib", "pages"

@@ -16,12 +16,12 @@
 #define PATTERN 0xa5a5a5a5a5a5a5a5u
 
 static uint64_t start_table[NIMBLESHALE_TABLE_WORDS(PAGES)], end_table[NIMBLESHALE_TABLE_WORDS(PAGES)];
-static uint64_t start_list[PAGES], end_list[PAGES];
+static uint64_t start_roots[PAGES], end_roots[PAGES];
 static uint64_t stack_memory[131072 / 4];
 
 static struct nimbleshale_store store;
 static struct nimbleshale_totals totals;
-static uint32_t tick, key, number;
+static uint32_t tick, key, first_key, number;
 
 /* A function with a frame of its own. */
 #define FRAMED __attribute__((noinline))
@@ -38,32 +38,32 @@ static FRAMED uint8_t find_caller(void)
 
 static FRAMED uint8_t call_open(void)
 {
-    return nimbleshale_open_store(&store);
+    return nimbleshale_store_open(&store);
 }
 
 static FRAMED uint8_t call_start(void)
 {
-    return nimbleshale_record_start(&store, tick, key, 100, &number);
+    return nimbleshale_store_start(&store, tick, key, 100, &number);
 }
 
 static FRAMED uint8_t call_end(void)
 {
-    return nimbleshale_record_end(&store, tick, number);
+    return nimbleshale_store_end(&store, tick, number);
 }
 
 static FRAMED uint8_t call_question(void)
 {
-    return nimbleshale_ask(&store, 1 + key / 2, key + 2, tick / 2, tick + 1, &totals);
+    return nimbleshale_store_question(&store, first_key, key + 2, tick / 2, tick + 1, &totals);
 }
 
 static FRAMED uint8_t call_lookup_starts(void)
 {
-    return nimbleshale_look_up_starts(&store, tick, key, &totals);
+    return nimbleshale_store_lookup_starts(&store, tick, key, &totals);
 }
 
 static FRAMED uint8_t call_lookup_ends(void)
 {
-    return nimbleshale_look_up_ends(&store, tick, key, &totals);
+    return nimbleshale_store_lookup_ends(&store, tick, key, &totals);
 }
 
 enum { FIND_CALLER, OPEN, START, END, QUESTION, LOOKUP_STARTS, LOOKUP_ENDS, CALLS };
@@ -115,6 +115,10 @@ static void *run(void *unused)
         tick += 5;
         measure(END);
         if (pass % 50 == 0 || pass == PASSES - 1) {
+            /* A question from key 0 on makes one lookup a tree, any other two at once: other functions, of other depth. */
+            first_key = 0;
+            measure(QUESTION);
+            first_key = 1 + key / 2;
             measure(QUESTION);
             measure(LOOKUP_STARTS);
             measure(LOOKUP_ENDS);
@@ -131,16 +135,16 @@ int main(void)
     store.start_table = start_table;
     store.end_table = end_table;
     store.start_table_length = store.end_table_length = NIMBLESHALE_TABLE_WORDS(PAGES);
-    store.start_list = start_list;
-    store.end_list = end_list;
-    store.start_list_length = store.end_list_length = PAGES;
+    store.start_roots = start_roots;
+    store.end_roots = end_roots;
+    store.start_roots_length = store.end_roots_length = PAGES;
     if (pthread_attr_init(&attributes) != 0 || pthread_attr_setstack(&attributes, stack_memory, sizeof stack_memory) != 0 ||
         pthread_create(&thread, &attributes, run, NULL) != 0 || pthread_join(thread, NULL) != 0) {
         perror("thread");
         return 2;
     }
     printf("\nStack below the caller, arguments included; deepest of %u starts and ends, trees %u pages high:\n", 2 * PASSES,
-           (unsigned)start_table[NIMBLESHALE_PAGE_WORDS * (size_t)(start_list[store.start_roots - 1] >> 32)] + 1);
+           (unsigned)start_table[NIMBLESHALE_PAGE_WORDS * (size_t)(start_roots[store.start_roots_used - 1] >> 32)] + 1);
     for (call = OPEN; call < CALLS; call++)
         printf("%-28s%6lu bytes\n", calls[call].name, (unsigned long)deepest[call]);
     return refused != 0;

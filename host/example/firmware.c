@@ -1,9 +1,11 @@
 /*
- * An example of firmware around the pass index: it lends static memory, records what the ear hears, answers the radio, and shows what a
- * detector can do about each refusal. The memory is small, so that it runs full within the example; a detector lends thousands of pages.
+ * An example of firmware around the pass index: it lends static memory, records what the ear hears, answers the radio, keeps the store over a
+ * power cycle, and shows what a detector can do about each refusal. The memory is small, so that it runs full within the example; a detector
+ * lends thousands of pages.
  */
 #include <nimbleshale.h>
 #include <stdio.h>
+#include <string.h>
 
 #define START_PAGES 8
 #define END_PAGES 1
@@ -13,25 +15,25 @@
 #define TRIES 3
 
 static uint64_t start_table[NIMBLESHALE_TABLE_WORDS(START_PAGES)];
-static uint64_t start_list[ROOTS];
+static uint64_t start_roots[ROOTS];
 static uint64_t end_table[NIMBLESHALE_TABLE_WORDS(END_PAGES)];
-static uint64_t end_list[ROOTS];
+static uint64_t end_roots[ROOTS];
 
 static struct nimbleshale_store store;
 
 /* What the firmware tells with its next status report. */
 static unsigned dropped, memory_faults, stores_opened;
 
-static void lend_memory(size_t start_roots)
+static void lend_memory(size_t length_of_start_roots)
 {
     store.start_table = start_table;
     store.start_table_length = sizeof start_table / sizeof *start_table;
-    store.start_list = start_list;
-    store.start_list_length = start_roots;
+    store.start_roots = start_roots;
+    store.start_roots_length = length_of_start_roots;
     store.end_table = end_table;
     store.end_table_length = sizeof end_table / sizeof *end_table;
-    store.end_list = end_list;
-    store.end_list_length = ROOTS;
+    store.end_roots = end_roots;
+    store.end_roots_length = ROOTS;
 }
 
 static void say(const char *what, uint8_t refusal)
@@ -43,7 +45,7 @@ static void say(const char *what, uint8_t refusal)
 static void on_question(uint32_t k1, uint32_t k2, uint32_t t1, uint32_t t2)
 {
     struct nimbleshale_totals totals;
-    uint8_t refusal = nimbleshale_ask(&store, k1, k2, t1, t2, &totals);
+    uint8_t refusal = nimbleshale_store_question(&store, k1, k2, t1, t2, &totals);
     if (refusal == NIMBLESHALE_ACCEPTED)
         printf("keys %lu to %lu, ticks %lu to %lu: %llu passes, weight %llu, %lu pages opened\n", (unsigned long)k1, (unsigned long)k2,
                (unsigned long)t1, (unsigned long)t2, (unsigned long long)totals.count, (unsigned long long)totals.sum,
@@ -57,7 +59,7 @@ static void on_question(uint32_t k1, uint32_t k2, uint32_t t1, uint32_t t2)
 /* Makes an empty store. Returns 0 where the memory lent is too small, which no later call can mend. */
 static int open_store(void)
 {
-    uint8_t refusal = nimbleshale_open_store(&store);
+    uint8_t refusal = nimbleshale_store_open(&store);
     if (refusal != NIMBLESHALE_ACCEPTED) {
         say("opening", refusal);
         return 0;
@@ -79,7 +81,7 @@ static int open_anew(void)
 /* What a refused start or end calls for. Returns 1 where the event can be tried again, perhaps at another tick. */
 static int mend(uint8_t refusal, uint32_t *tick)
 {
-    uint32_t oldest = store.passes[0].number;
+    uint32_t oldest = nimbleshale_store_pass(&store, 0).number;
     switch (refusal) {
     case NIMBLESHALE_REFUSED_EARLIER:
         /* The clock was set back. Ticks must not fall, so the event is taken to be at the last tick. */
@@ -91,7 +93,7 @@ static int mend(uint8_t refusal, uint32_t *tick)
         return 1;
     case NIMBLESHALE_REFUSED_ALL_OPEN:
         /* The oldest pass has lost its end, so it ends now. One that started at this very tick cannot. */
-        refusal = nimbleshale_record_end(&store, *tick, oldest);
+        refusal = nimbleshale_store_end(&store, *tick, oldest);
         if (refusal != NIMBLESHALE_ACCEPTED) {
             say("end of the oldest pass", refusal);
             return 0;
@@ -119,7 +121,7 @@ static int on_start(uint32_t tick, uint32_t key, uint32_t weight, uint32_t *numb
 {
     int tries;
     for (tries = 0; tries < TRIES; tries++) {
-        uint8_t refusal = nimbleshale_record_start(&store, tick, key, weight, number);
+        uint8_t refusal = nimbleshale_store_start(&store, tick, key, weight, number);
         if (refusal == NIMBLESHALE_ACCEPTED) {
             if (tries > 0)
                 printf("recorded at tick %lu as pass %lu\n", (unsigned long)tick, (unsigned long)*number);
@@ -138,7 +140,7 @@ static void on_end(uint32_t tick, uint32_t number)
 {
     int tries;
     for (tries = 0; tries < TRIES; tries++) {
-        uint8_t refusal = nimbleshale_record_end(&store, tick, number);
+        uint8_t refusal = nimbleshale_store_end(&store, tick, number);
         if (refusal == NIMBLESHALE_ACCEPTED) {
             if (tries > 0)
                 printf("pass %lu ended at tick %lu\n", (unsigned long)number, (unsigned long)tick);
@@ -152,6 +154,109 @@ static void on_end(uint32_t tick, uint32_t number)
             break;
     }
     dropped++;
+}
+
+/*
+ * Over a power cycle. The library keeps nothing, so what the firmware keeps is the whole store: the head's seven numbers and its open passes,
+ * and the words of the four slices. Addresses are not kept; memory is lent anew, of the same lengths. (Of a table only the pages used matter,
+ * of a root list only the roots used: a detector with large tables keeps those alone.)
+ *
+ * A buffer stands for flash. Numbers go into it byte by byte, so that neither the order of bytes nor the layout of a struct matters. Behind them
+ * stands a sum of them all: the library refuses a head or a page that cannot be, but a weight that flash has spoilt looks like any other. A
+ * detector writes two such images in turn, so that one of them is whole whenever the power goes.
+ */
+#define HEAD_NUMBERS (7 + NIMBLESHALE_PASS_NUMBERS)
+#define SLICE_WORDS (NIMBLESHALE_TABLE_WORDS(START_PAGES) + ROOTS + NIMBLESHALE_TABLE_WORDS(END_PAGES) + ROOTS)
+#define IMAGE_BYTES (4 * HEAD_NUMBERS + 8 * SLICE_WORDS)
+
+static unsigned char flash[IMAGE_BYTES + 4];
+
+/* How far flash was written or read. */
+static size_t flash_at;
+
+static void write_number(uint64_t *number, int bytes)
+{
+    int at;
+    for (at = 0; at < bytes; at++)
+        flash[flash_at++] = (unsigned char)(*number >> 8 * at & 255);
+}
+
+static void read_number(uint64_t *number, int bytes)
+{
+    int at;
+    *number = 0;
+    for (at = 0; at < bytes; at++)
+        *number |= (uint64_t)flash[flash_at++] << 8 * at;
+}
+
+static void each_word(void (*take)(uint64_t *, int), uint64_t *slice, size_t length)
+{
+    size_t at;
+    for (at = 0; at < length; at++)
+        take(&slice[at], 8);
+}
+
+/* Writes or reads all that is kept, in one order for both. */
+static void each_number(void (*take)(uint64_t *, int))
+{
+    uint32_t *const numbers[7] = {&store.last, &store.started, &store.count_open, &store.start_pages_used, &store.start_roots_used,
+                                  &store.end_pages_used, &store.end_roots_used};
+    size_t at;
+    flash_at = 0;
+    for (at = 0; at < HEAD_NUMBERS; at++) {
+        uint32_t *number = at < 7 ? numbers[at] : &store.passes[at - 7];
+        uint64_t wide = *number;
+        take(&wide, 4);
+        *number = nimbleshale_narrowed(wide);
+    }
+    each_word(take, start_table, NIMBLESHALE_TABLE_WORDS(START_PAGES));
+    each_word(take, start_roots, ROOTS);
+    each_word(take, end_table, NIMBLESHALE_TABLE_WORDS(END_PAGES));
+    each_word(take, end_roots, ROOTS);
+}
+
+/* The sum of an image (32-bit FNV-1a). */
+static uint64_t sum_of_image(void)
+{
+    uint32_t sum = 2166136261u;
+    size_t at;
+    for (at = 0; at < IMAGE_BYTES; at++)
+        sum = (sum ^ flash[at]) * 16777619u;
+    return sum;
+}
+
+static void keep_store(void)
+{
+    uint64_t sum;
+    each_number(write_number);
+    sum = sum_of_image();
+    write_number(&sum, 4);
+}
+
+/* Without power, memory holds anything. */
+static void lose_power(void)
+{
+    memset(&store, 0x5a, sizeof store);
+    memset(start_table, 0x5a, sizeof start_table);
+    memset(start_roots, 0x5a, sizeof start_roots);
+    memset(end_table, 0x5a, sizeof end_table);
+    memset(end_roots, 0x5a, sizeof end_roots);
+}
+
+/* Memory is lent anew, and the store comes back from flash. Where flash does not hold one, a new store begins. */
+static int power_up(void)
+{
+    uint64_t sum;
+    lend_memory(ROOTS);
+    each_number(read_number);
+    read_number(&sum, 4);
+    if (sum == sum_of_image()) {
+        printf("store read back from flash\n");
+        return 1;
+    }
+    printf("flash holds no whole store\n");
+    memory_faults++;
+    return open_store();
 }
 
 /* A pass starts each tick, until something has come about. Firmware waits for nothing without end: 64 starts are enough for all that is waited
@@ -168,7 +273,7 @@ static uint32_t starts_until(int (*come_about)(void), const char *what, uint32_t
 
 static int all_are_open(void)
 {
-    return store.open >= NIMBLESHALE_OPEN_PASSES;
+    return store.count_open >= NIMBLESHALE_OPEN_PASSES;
 }
 
 static int fourth_store_is_open(void)
@@ -196,6 +301,24 @@ static void events(void)
     on_start(200, 30000, 70, &number);
     on_start(200, 4500, 0, &number);
     on_end(210, 77);
+
+    printf("\nA clock of 64 bits that has run past the last tick\n");
+    on_start(nimbleshale_narrowed(4294967301u), 4500, 80, &number);
+}
+
+/* Pass 1 is still open when the power goes. Its number is good afterwards. */
+static void power_cycle(void)
+{
+    printf("\nThe power goes and comes back\n");
+    on_question(0, NIMBLESHALE_KEYS, 100, 200);
+    keep_store();
+    lose_power();
+    if (!power_up())
+        return;
+    on_question(0, NIMBLESHALE_KEYS, 100, 200);
+    on_end(220, 1);
+    on_question(2000, 2500, 219, 220);
+    on_question(2000, 2500, 220, 221);
 }
 
 static void full_stores(void)
@@ -227,12 +350,19 @@ static void damaged_memory(void)
     on_start(2000, 4500, 80, &number);
 
     printf("\nA damaged head\n");
-    store.open = 65;
+    store.count_open = 65;
     on_start(2100, 4500, 80, &number);
 
     printf("\nA million passes\n");
     store.started = NIMBLESHALE_PASSES;
     on_start(2200, 4500, 80, &number);
+
+    printf("\nDamaged flash\n");
+    keep_store();
+    flash[100] ^= 1;
+    lose_power();
+    power_up();
+    on_start(2300, 4500, 80, &number);
 }
 
 int main(void)
@@ -241,6 +371,7 @@ int main(void)
     if (!open_store())
         return 1;
     events();
+    power_cycle();
     full_stores();
     damaged_memory();
     printf("\n%u stores opened, %u events dropped, %u memory faults\n", stores_opened, dropped, memory_faults);

@@ -18,17 +18,40 @@
  *   - Any content of the lent memory is allowed, spoiled content too: a call then ends with a refusal or serves the words as they are. What
  *     is said of passes below is said of a store grown from opening, whose memory nobody else wrote.
  *   - Every call gets all the slices, those that the calls before it got. Each slice and each lent number is memory of its own: no two of
- *     them may overlap. This is the one thing that the functions cannot test.
+ *     them may overlap. This the functions cannot test, nor that a pointer leads to as much memory as is said.
  *   - A slice is a pointer and a length in elements. Words of a table past its last whole page are neither read nor written.
- *   - Only one call runs at a time on a store. Questions and lookups change nothing and may run together.
+ *   - Numbers are 32 bits wide. C cuts a wider one at the call without a word: a tick of 2^32 + 5 arrives as 5. nimbleshale_narrowed guards.
+ *   - While a call that writes runs on a store, no other call runs on it. Questions and lookups change nothing and may run together. Calls
+ *     on different stores never meet: the functions have no memory of their own.
  *
- * Firmware normally keeps a `struct nimbleshale_store` and calls the short functions at the end of this file.
+ * Names. The library has six functions: open, start, end, question, lookup_starts and lookup_ends, each behind `nimbleshale_`. They take head
+ * and memory piece by piece. Firmware normally keeps a `struct nimbleshale_store` instead, and calls the same function with `store_` before its
+ * name: nimbleshale_store_start(&store, ..) is nimbleshale_start on all that the store holds, and so for each of the six. Parameters of the
+ * library's functions and fields of the store have the same names.
+ *
+ * Interrupt handlers. Where a handler interrupts no call on a store, it may make any call on it. Where it interrupts a question or a lookup, it
+ * may ask and look up on that store. Where it interrupts an opening, a start or an end, it may make no call on that store and read nothing of
+ * its head and memory, which may be half written. The simplest way is to put what a handler hears into a queue, and to make the calls in the
+ * main loop. A handler that calls needs the stack of the call and saves the registers that calls use; and none, whether it calls or not, may
+ * write within the 128 bytes below the interrupted stack pointer (docs/FIRMWARE.md).
+ *
+ * Stack. What is said at each function are bytes below the caller, arguments included, at their deepest in trees four pages high, on x86-64
+ * (host/bench/run measures them).
  */
 #ifndef NIMBLESHALE_H
 #define NIMBLESHALE_H
 
 #include <stddef.h>
 #include <stdint.h>
+
+/* An answer must be looked at: a refusal that nobody sees is a pass lost without a word. Compilers that can, warn. */
+#if defined(__cplusplus) && __cplusplus >= 201703L
+#define NIMBLESHALE_MUST_USE [[nodiscard]]
+#elif defined(__GNUC__)
+#define NIMBLESHALE_MUST_USE __attribute__((warn_unused_result))
+#else
+#define NIMBLESHALE_MUST_USE
+#endif
 
 /* Limits. */
 #define NIMBLESHALE_KEYS 30000u            /* keys are below this number; k2 of a question is at most this */
@@ -40,13 +63,14 @@
 #define NIMBLESHALE_PASSES 1000000u        /* passes that a store takes */
 #define NIMBLESHALE_PAGES 1000000u         /* pages that a tree uses at most; a table may be larger */
 #define NIMBLESHALE_PAGE_WORDS 260u        /* 64-bit words of a page in a page table */
-#define NIMBLESHALE_PASSES_LENGTH 256u     /* numbers in the slice of open passes: 64 places of number, key, weight, start */
+#define NIMBLESHALE_PASS_NUMBERS 256u      /* numbers of the open passes: 64 places of number, key, weight, start */
 #define NIMBLESHALE_LOOKUP_PAGES 4u        /* pages that a lookup opens at most */
 #define NIMBLESHALE_QUESTION_PAGES 16u     /* pages that a question opens at most */
 #define NIMBLESHALE_ENTRY_PAGES 7u         /* pages that one start or end takes at most */
 
-/* Words of a page table of so many pages. A root list as long as its table has pages never runs full. */
-#define NIMBLESHALE_TABLE_WORDS(pages) ((size_t)(pages) * NIMBLESHALE_PAGE_WORDS)
+/* Words of a page table of so many pages, as a size_t: sizeof(char) is 1, and makes it one without a cast, in C and in C++. A root list as
+ * long as its table has pages never runs full. */
+#define NIMBLESHALE_TABLE_WORDS(pages) (sizeof(char) * NIMBLESHALE_PAGE_WORDS * (pages))
 
 /* Refusals because of the input. */
 #define NIMBLESHALE_ACCEPTED 0             /* no refusal */
@@ -63,8 +87,7 @@
 #define NIMBLESHALE_REFUSED_HEAD 20        /* head that doesn't fit: over 64 open, an open key or weight beyond its range, open numbers that
                                               don't rise or reach the number started, an open start after the last tick, over 1,000,000
                                               started, no pages or roots used, over 1,000,000 pages used, more pages than the table holds,
-                                              more roots than pages used or than list words; or a slice of open passes of another length
-                                              than 256, which is refused before everything else */
+                                              more roots than pages used or than list words */
 #define NIMBLESHALE_REFUSED_EARLIER 21     /* tick of a start or an end before the last tick */
 #define NIMBLESHALE_REFUSED_NOT_OPEN 22    /* no open pass of that number */
 #define NIMBLESHALE_REFUSED_OWN_START 23   /* end at the pass's own start tick */
@@ -87,50 +110,60 @@ extern "C" {
  *
  *   last          the last tick: that of the latest accepted start or end, 0 at opening
  *   started       how many passes were started since opening
- *   open          how many of them are open
- *   start_pages, start_roots, end_pages, end_roots
+ *   count_open    how many of them are open
+ *   start_pages_used, start_roots_used, end_pages_used, end_roots_used
  *                 the pages and the root entries that each tree uses
- *   passes        the open passes in order of opening, 64 places of number, key, weight, start; unused places are zero
+ *   passes        the open passes in order of opening, 64 places of number, key, weight, start; unused places are zero. There is no length:
+ *                 it is always NIMBLESHALE_PASS_NUMBERS numbers, and fewer are a fault that the functions cannot see.
+ *
+ * Then come the page tables and the root lists: start_table, start_roots, end_table, end_roots, each with its length behind it.
  */
 
 /*
  * Opens a store: makes it empty, whatever the memory held and whether or not a store was opened in it before. The old head is not looked at.
  *
- * Refusals: 20 where passes_length is not 256, then 8.
- * Accepted: last, started and open become 0, the four numbers of the trees 1, all of passes 0. Of each table the first 260 words are
+ * Refusals: 8.
+ * Accepted: last, started and count_open become 0, the four numbers of the trees 1, all of passes 0. Of each table the first 260 words are
  * written, of each root list the first word; every other word stays as it was.
+ * Stack: 1,208 bytes.
  */
-uint8_t nimbleshale_open(uint32_t *last, uint32_t *started, uint32_t *open, uint32_t *start_pages, uint32_t *start_roots,
-                         uint32_t *end_pages, uint32_t *end_roots, uint32_t *passes, size_t passes_length, uint64_t *start_table,
-                         size_t start_table_length, uint64_t *start_list, size_t start_list_length, uint64_t *end_table,
-                         size_t end_table_length, uint64_t *end_list, size_t end_list_length);
+NIMBLESHALE_MUST_USE
+uint8_t nimbleshale_open(uint32_t *last, uint32_t *started, uint32_t *count_open, uint32_t *start_pages_used, uint32_t *start_roots_used,
+                         uint32_t *end_pages_used, uint32_t *end_roots_used, uint32_t passes[NIMBLESHALE_PASS_NUMBERS],
+                         uint64_t *start_table, size_t start_table_length, uint64_t *start_roots, size_t start_roots_length,
+                         uint64_t *end_table, size_t end_table_length, uint64_t *end_roots, size_t end_roots_length);
 
 /*
  * A pass starts at a tick, with a key and a weight.
  *
  * Refusals: 1, 3, 4, 20, 21, 24, 25, 26, 27, 28.
  * Accepted: *number becomes the pass's number, which is how many passes were started before it. The tick becomes the last tick, started and
- * open grow by one, and the pass stands in the next place of passes. The tree of starts takes the point: words of start_table and
- * start_list may change, and start_pages and start_roots may grow. The tree of ends is as it was.
+ * count_open grow by one, and the pass stands in the next place of passes. The tree of starts takes the point: words of start_table and
+ * start_roots may change, and start_pages_used and start_roots_used may grow. The tree of ends is as it was.
+ * Stack: 13,976 bytes.
  */
-uint8_t nimbleshale_start(uint32_t *last, uint32_t *started, uint32_t *open, uint32_t *start_pages, uint32_t *start_roots,
-                          uint32_t *end_pages, uint32_t *end_roots, uint32_t *passes, size_t passes_length, uint64_t *start_table,
-                          size_t start_table_length, uint64_t *start_list, size_t start_list_length, uint64_t *end_table,
-                          size_t end_table_length, uint64_t *end_list, size_t end_list_length, uint32_t tick, uint32_t key,
-                          uint32_t weight, uint32_t *number);
+NIMBLESHALE_MUST_USE
+uint8_t nimbleshale_start(uint32_t *last, uint32_t *started, uint32_t *count_open, uint32_t *start_pages_used, uint32_t *start_roots_used,
+                          uint32_t *end_pages_used, uint32_t *end_roots_used, uint32_t passes[NIMBLESHALE_PASS_NUMBERS],
+                          uint64_t *start_table, size_t start_table_length, uint64_t *start_roots, size_t start_roots_length,
+                          const uint64_t *end_table, size_t end_table_length, const uint64_t *end_roots, size_t end_roots_length,
+                          uint32_t tick, uint32_t key, uint32_t weight, uint32_t *number);
 
 /*
  * The open pass of a number ends at a tick; its last tick is the one before.
  *
  * Refusals: 4, 20, 21, 22, 23, 26, 27, 28.
- * Accepted: the tick becomes the last tick and open falls by one; the later open passes move down by one place, and the place set free is
- * zeroed. The tree of ends takes the point: words of end_table and end_list may change, and end_pages and end_roots may grow. The tree
- * of starts is as it was.
+ * Accepted: the tick becomes the last tick and count_open falls by one; the later open passes move down by one place, and the place set free
+ * is zeroed. The tree of ends takes the point: words of end_table and end_roots may change, and end_pages_used and end_roots_used may grow.
+ * The tree of starts is as it was.
+ * Stack: 13,976 bytes.
  */
-uint8_t nimbleshale_end(uint32_t *last, uint32_t *started, uint32_t *open, uint32_t *start_pages, uint32_t *start_roots,
-                        uint32_t *end_pages, uint32_t *end_roots, uint32_t *passes, size_t passes_length, uint64_t *start_table,
-                        size_t start_table_length, uint64_t *start_list, size_t start_list_length, uint64_t *end_table,
-                        size_t end_table_length, uint64_t *end_list, size_t end_list_length, uint32_t tick, uint32_t number);
+NIMBLESHALE_MUST_USE
+uint8_t nimbleshale_end(uint32_t *last, uint32_t *started, uint32_t *count_open, uint32_t *start_pages_used, uint32_t *start_roots_used,
+                        uint32_t *end_pages_used, uint32_t *end_roots_used, uint32_t passes[NIMBLESHALE_PASS_NUMBERS],
+                        const uint64_t *start_table, size_t start_table_length, const uint64_t *start_roots, size_t start_roots_length,
+                        uint64_t *end_table, size_t end_table_length, uint64_t *end_roots, size_t end_roots_length, uint32_t tick,
+                        uint32_t number);
 
 /*
  * A question: keys k1 up to but not k2 (k2 at most 30,000), ticks t1 up to but not t2 (t2 at most 4,294,967,295).
@@ -138,12 +171,14 @@ uint8_t nimbleshale_end(uint32_t *last, uint32_t *started, uint32_t *open, uint3
  * Refusals: 1, 2, 5, 20, 26.
  * Accepted: *count becomes the number of passes with k1 <= key < k2 that started before t2 and are open or ended after t1, *sum the sum of
  * their weights, *pages the pages opened, at most 16. Nothing else changes, accepted or not.
+ * Stack: 4,840 bytes.
  */
-uint8_t nimbleshale_question(uint32_t last, uint32_t started, uint32_t open, uint32_t start_pages, uint32_t start_roots,
-                             uint32_t end_pages, uint32_t end_roots, const uint32_t *passes, size_t passes_length,
-                             const uint64_t *start_table, size_t start_table_length, const uint64_t *start_list,
-                             size_t start_list_length, const uint64_t *end_table, size_t end_table_length, const uint64_t *end_list,
-                             size_t end_list_length, uint32_t k1, uint32_t k2, uint32_t t1, uint32_t t2, uint64_t *count, uint64_t *sum,
+NIMBLESHALE_MUST_USE
+uint8_t nimbleshale_question(uint32_t last, uint32_t started, uint32_t count_open, uint32_t start_pages_used, uint32_t start_roots_used,
+                             uint32_t end_pages_used, uint32_t end_roots_used, const uint32_t passes[NIMBLESHALE_PASS_NUMBERS],
+                             const uint64_t *start_table, size_t start_table_length, const uint64_t *start_roots,
+                             size_t start_roots_length, const uint64_t *end_table, size_t end_table_length, const uint64_t *end_roots,
+                             size_t end_roots_length, uint32_t k1, uint32_t k2, uint32_t t1, uint32_t t2, uint64_t *count, uint64_t *sum,
                              uint32_t *pages);
 
 /*
@@ -152,54 +187,47 @@ uint8_t nimbleshale_question(uint32_t last, uint32_t started, uint32_t open, uin
  * Refusals: 1, 4, 20, 26.
  * Accepted: *count becomes the number of passes with start <= t and key <= k, *sum the sum of their weights, *pages the pages opened, at
  * most 4. Nothing else changes, accepted or not.
+ * Stack: 3,960 bytes.
  */
-uint8_t nimbleshale_lookup_starts(uint32_t last, uint32_t started, uint32_t open, uint32_t start_pages, uint32_t start_roots,
-                                  uint32_t end_pages, uint32_t end_roots, const uint32_t *passes, size_t passes_length,
-                                  const uint64_t *start_table, size_t start_table_length, const uint64_t *start_list,
-                                  size_t start_list_length, const uint64_t *end_table, size_t end_table_length,
-                                  const uint64_t *end_list, size_t end_list_length, uint32_t t, uint32_t k, uint64_t *count,
-                                  uint64_t *sum, uint32_t *pages);
+NIMBLESHALE_MUST_USE
+uint8_t nimbleshale_lookup_starts(uint32_t last, uint32_t started, uint32_t count_open, uint32_t start_pages_used,
+                                  uint32_t start_roots_used, uint32_t end_pages_used, uint32_t end_roots_used,
+                                  const uint32_t passes[NIMBLESHALE_PASS_NUMBERS], const uint64_t *start_table,
+                                  size_t start_table_length, const uint64_t *start_roots, size_t start_roots_length,
+                                  const uint64_t *end_table, size_t end_table_length, const uint64_t *end_roots,
+                                  size_t end_roots_length, uint32_t t, uint32_t k, uint64_t *count, uint64_t *sum, uint32_t *pages);
 
 /* The same in the tree of ends: the passes that ended, with end <= t and key <= k. */
-uint8_t nimbleshale_lookup_ends(uint32_t last, uint32_t started, uint32_t open, uint32_t start_pages, uint32_t start_roots,
-                                uint32_t end_pages, uint32_t end_roots, const uint32_t *passes, size_t passes_length,
-                                const uint64_t *start_table, size_t start_table_length, const uint64_t *start_list,
-                                size_t start_list_length, const uint64_t *end_table, size_t end_table_length, const uint64_t *end_list,
-                                size_t end_list_length, uint32_t t, uint32_t k, uint64_t *count, uint64_t *sum, uint32_t *pages);
+NIMBLESHALE_MUST_USE
+uint8_t nimbleshale_lookup_ends(uint32_t last, uint32_t started, uint32_t count_open, uint32_t start_pages_used,
+                                uint32_t start_roots_used, uint32_t end_pages_used, uint32_t end_roots_used,
+                                const uint32_t passes[NIMBLESHALE_PASS_NUMBERS], const uint64_t *start_table,
+                                size_t start_table_length, const uint64_t *start_roots, size_t start_roots_length,
+                                const uint64_t *end_table, size_t end_table_length, const uint64_t *end_roots,
+                                size_t end_roots_length, uint32_t t, uint32_t k, uint64_t *count, uint64_t *sum, uint32_t *pages);
 
 #ifdef __cplusplus
 }
 #endif
 
-/* One open pass. */
-struct nimbleshale_pass {
-    uint32_t number;
-    uint32_t key;
-    uint32_t weight;
-    uint32_t start;
-};
-
-/* The functions take the open passes as 256 numbers, so a pass must be four numbers with nothing between them. */
-typedef char nimbleshale_pass_is_four_numbers[sizeof(struct nimbleshale_pass) == 4 * sizeof(uint32_t) ? 1 : -1];
-
 /* A store: its head, and the memory lent to it. Firmware may read the head's fields; only the functions write them. */
 struct nimbleshale_store {
     uint32_t last;
     uint32_t started;
-    uint32_t open;
-    uint32_t start_pages;
-    uint32_t start_roots;
-    uint32_t end_pages;
-    uint32_t end_roots;
-    struct nimbleshale_pass passes[64];
+    uint32_t count_open;
+    uint32_t start_pages_used;
+    uint32_t start_roots_used;
+    uint32_t end_pages_used;
+    uint32_t end_roots_used;
+    uint32_t passes[NIMBLESHALE_PASS_NUMBERS];
     uint64_t *start_table;
     size_t start_table_length;
-    uint64_t *start_list;
-    size_t start_list_length;
+    uint64_t *start_roots;
+    size_t start_roots_length;
     uint64_t *end_table;
     size_t end_table_length;
-    uint64_t *end_list;
-    size_t end_list_length;
+    uint64_t *end_roots;
+    size_t end_roots_length;
 };
 
 /* What a question or a lookup answers. */
@@ -209,65 +237,94 @@ struct nimbleshale_totals {
     uint32_t pages;
 };
 
+/* What of a store every function gets, said once for the calls that write and once for those that read. */
+#define NIMBLESHALE_LENT \
+    &store->last, &store->started, &store->count_open, &store->start_pages_used, &store->start_roots_used, &store->end_pages_used, \
+    &store->end_roots_used, store->passes, NIMBLESHALE_SLICES
+#define NIMBLESHALE_SHOWN \
+    store->last, store->started, store->count_open, store->start_pages_used, store->start_roots_used, store->end_pages_used, \
+    store->end_roots_used, store->passes, NIMBLESHALE_SLICES
+#define NIMBLESHALE_SLICES \
+    store->start_table, store->start_table_length, store->start_roots, store->start_roots_length, \
+    store->end_table, store->end_table_length, store->end_roots, store->end_roots_length
+
 /* nimbleshale_open on a store whose four slices are set. */
-static inline uint8_t nimbleshale_open_store(struct nimbleshale_store *store)
+NIMBLESHALE_MUST_USE
+static inline uint8_t nimbleshale_store_open(struct nimbleshale_store *store)
 {
-    return nimbleshale_open(&store->last, &store->started, &store->open, &store->start_pages, &store->start_roots, &store->end_pages,
-                            &store->end_roots, (uint32_t *)store->passes, NIMBLESHALE_PASSES_LENGTH, store->start_table,
-                            store->start_table_length, store->start_list, store->start_list_length, store->end_table,
-                            store->end_table_length, store->end_list, store->end_list_length);
+    return nimbleshale_open(NIMBLESHALE_LENT);
 }
 
-/* nimbleshale_start */
-static inline uint8_t nimbleshale_record_start(struct nimbleshale_store *store, uint32_t tick, uint32_t key, uint32_t weight,
-                                               uint32_t *number)
+/* nimbleshale_start on a store. */
+NIMBLESHALE_MUST_USE
+static inline uint8_t nimbleshale_store_start(struct nimbleshale_store *store, uint32_t tick, uint32_t key, uint32_t weight,
+                                              uint32_t *number)
 {
-    return nimbleshale_start(&store->last, &store->started, &store->open, &store->start_pages, &store->start_roots, &store->end_pages,
-                             &store->end_roots, (uint32_t *)store->passes, NIMBLESHALE_PASSES_LENGTH, store->start_table,
-                             store->start_table_length, store->start_list, store->start_list_length, store->end_table,
-                             store->end_table_length, store->end_list, store->end_list_length, tick, key, weight, number);
+    return nimbleshale_start(NIMBLESHALE_LENT, tick, key, weight, number);
 }
 
-/* nimbleshale_end */
-static inline uint8_t nimbleshale_record_end(struct nimbleshale_store *store, uint32_t tick, uint32_t number)
+/* nimbleshale_end on a store. */
+NIMBLESHALE_MUST_USE
+static inline uint8_t nimbleshale_store_end(struct nimbleshale_store *store, uint32_t tick, uint32_t number)
 {
-    return nimbleshale_end(&store->last, &store->started, &store->open, &store->start_pages, &store->start_roots, &store->end_pages,
-                           &store->end_roots, (uint32_t *)store->passes, NIMBLESHALE_PASSES_LENGTH, store->start_table,
-                           store->start_table_length, store->start_list, store->start_list_length, store->end_table,
-                           store->end_table_length, store->end_list, store->end_list_length, tick, number);
+    return nimbleshale_end(NIMBLESHALE_LENT, tick, number);
 }
 
-/* nimbleshale_question */
-static inline uint8_t nimbleshale_ask(const struct nimbleshale_store *store, uint32_t k1, uint32_t k2, uint32_t t1, uint32_t t2,
-                                      struct nimbleshale_totals *totals)
-{
-    return nimbleshale_question(store->last, store->started, store->open, store->start_pages, store->start_roots, store->end_pages,
-                                store->end_roots, (const uint32_t *)store->passes, NIMBLESHALE_PASSES_LENGTH, store->start_table,
-                                store->start_table_length, store->start_list, store->start_list_length, store->end_table,
-                                store->end_table_length, store->end_list, store->end_list_length, k1, k2, t1, t2, &totals->count,
-                                &totals->sum, &totals->pages);
-}
-
-/* nimbleshale_lookup_starts */
-static inline uint8_t nimbleshale_look_up_starts(const struct nimbleshale_store *store, uint32_t t, uint32_t k,
+/* nimbleshale_question on a store. */
+NIMBLESHALE_MUST_USE
+static inline uint8_t nimbleshale_store_question(const struct nimbleshale_store *store, uint32_t k1, uint32_t k2, uint32_t t1, uint32_t t2,
                                                  struct nimbleshale_totals *totals)
 {
-    return nimbleshale_lookup_starts(store->last, store->started, store->open, store->start_pages, store->start_roots, store->end_pages,
-                                     store->end_roots, (const uint32_t *)store->passes, NIMBLESHALE_PASSES_LENGTH, store->start_table,
-                                     store->start_table_length, store->start_list, store->start_list_length, store->end_table,
-                                     store->end_table_length, store->end_list, store->end_list_length, t, k, &totals->count,
-                                     &totals->sum, &totals->pages);
+    return nimbleshale_question(NIMBLESHALE_SHOWN, k1, k2, t1, t2, &totals->count, &totals->sum, &totals->pages);
 }
 
-/* nimbleshale_lookup_ends */
-static inline uint8_t nimbleshale_look_up_ends(const struct nimbleshale_store *store, uint32_t t, uint32_t k,
-                                               struct nimbleshale_totals *totals)
+/* nimbleshale_lookup_starts on a store. */
+NIMBLESHALE_MUST_USE
+static inline uint8_t nimbleshale_store_lookup_starts(const struct nimbleshale_store *store, uint32_t t, uint32_t k,
+                                                      struct nimbleshale_totals *totals)
 {
-    return nimbleshale_lookup_ends(store->last, store->started, store->open, store->start_pages, store->start_roots, store->end_pages,
-                                   store->end_roots, (const uint32_t *)store->passes, NIMBLESHALE_PASSES_LENGTH, store->start_table,
-                                   store->start_table_length, store->start_list, store->start_list_length, store->end_table,
-                                   store->end_table_length, store->end_list, store->end_list_length, t, k, &totals->count,
-                                   &totals->sum, &totals->pages);
+    return nimbleshale_lookup_starts(NIMBLESHALE_SHOWN, t, k, &totals->count, &totals->sum, &totals->pages);
+}
+
+/* nimbleshale_lookup_ends on a store. */
+NIMBLESHALE_MUST_USE
+static inline uint8_t nimbleshale_store_lookup_ends(const struct nimbleshale_store *store, uint32_t t, uint32_t k,
+                                                    struct nimbleshale_totals *totals)
+{
+    return nimbleshale_lookup_ends(NIMBLESHALE_SHOWN, t, k, &totals->count, &totals->sum, &totals->pages);
+}
+
+#undef NIMBLESHALE_LENT
+#undef NIMBLESHALE_SHOWN
+#undef NIMBLESHALE_SLICES
+
+/* One open pass. */
+struct nimbleshale_pass {
+    uint32_t number;
+    uint32_t key;
+    uint32_t weight;
+    uint32_t start;
+};
+
+/* The open pass in a place, 0 for the oldest. Places from count_open on are zero; the place is below NIMBLESHALE_OPEN_PASSES. */
+static inline struct nimbleshale_pass nimbleshale_store_pass(const struct nimbleshale_store *store, uint32_t place)
+{
+    const uint32_t *numbers = store->passes + 4 * place;
+    struct nimbleshale_pass pass;
+    pass.number = numbers[0];
+    pass.key = numbers[1];
+    pass.weight = numbers[2];
+    pass.start = numbers[3];
+    return pass;
+}
+
+/*
+ * A wide number for a call, such as the tick of a 64-bit clock. One that does not fit becomes 4,294,967,295, which every call refuses, as a
+ * tick, a key, a weight or the number of a pass. As t2 of a question it is accepted, and means what the wide number meant: to the last tick.
+ */
+static inline uint32_t nimbleshale_narrowed(uint64_t wide)
+{
+    return wide > 4294967295u ? 4294967295u : wide & 4294967295u;
 }
 
 /* A refusal in a few words, for a log. */

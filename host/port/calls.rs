@@ -1,7 +1,7 @@
 //! The six calls. Each returns 0 or the number of its refusal; refused, it leaves every number and word as it was.
 
 use crate::enter::{enter, Point};
-use crate::head::{find, fits, pass_at, put, take_out, whole_pages, Head, Lent, Seen, OPEN_LIMIT, PASS_LIMIT, PASS_NUMBERS, WEIGHT_LIMIT};
+use crate::head::{find, fits, pass_at, put, take_out, whole_pages, Head, Lent, Seen, OPEN_LIMIT, PASS_LIMIT, WEIGHT_LIMIT};
 use crate::lookup::{lookup, root_for, Found, Tree};
 use crate::plan::plan;
 use crate::words::{birth_of, key_range, pair, row_keys, Value, KEYS, OPEN, PAGE_WORDS};
@@ -16,16 +16,13 @@ pub struct Totals {
 
 /// Makes an empty store in what is lent. The old head is not looked at.
 pub fn open(head: &mut Head, lent: Lent) -> u8 {
-    if lent.passes.len() != PASS_NUMBERS {
-        return 20;
-    }
-    if lent.start_table.len() < PAGE_WORDS || lent.start_list.is_empty() || lent.end_table.len() < PAGE_WORDS || lent.end_list.is_empty() {
+    if lent.start_table.len() < PAGE_WORDS || lent.start_roots.is_empty() || lent.end_table.len() < PAGE_WORDS || lent.end_roots.is_empty() {
         return 8;
     }
-    open_tree(lent.start_table, lent.start_list);
-    open_tree(lent.end_table, lent.end_list);
+    open_tree(lent.start_table, lent.start_roots);
+    open_tree(lent.end_table, lent.end_roots);
     lent.passes.fill(0);
-    *head = Head { last: 0, started: 0, open: 0, start_pages: 1, start_roots: 1, end_pages: 1, end_roots: 1 };
+    *head = Head { last: 0, started: 0, count_open: 0, start_pages_used: 1, start_roots_used: 1, end_pages_used: 1, end_roots_used: 1 };
     0
 }
 
@@ -38,9 +35,6 @@ fn open_tree(table: &mut [u64], list: &mut [u64]) {
 
 /// A pass starts. `number` becomes its number.
 pub fn start(head: &mut Head, lent: Lent, tick: u32, key: u32, weight: u32, number: &mut u32) -> u8 {
-    if lent.passes.len() != PASS_NUMBERS {
-        return 20;
-    }
     if key >= KEYS {
         return 1;
     }
@@ -56,29 +50,26 @@ pub fn start(head: &mut Head, lent: Lent, tick: u32, key: u32, weight: u32, numb
     if tick < head.last {
         return 21;
     }
-    if head.open >= OPEN_LIMIT {
+    if head.count_open >= OPEN_LIMIT {
         return 24;
     }
     if head.started >= PASS_LIMIT {
         return 25;
     }
-    let refused = enter_point(lent.start_table, lent.start_list, &mut head.start_pages, &mut head.start_roots, tick, key, weight);
+    let refused = enter_point(lent.start_table, lent.start_roots, &mut head.start_pages_used, &mut head.start_roots_used, tick, key, weight);
     if refused != 0 {
         return refused;
     }
-    put(lent.passes, head.open, [head.started, key, weight, tick]);
+    put(lent.passes, head.count_open, [head.started, key, weight, tick]);
     *number = head.started;
     head.last = tick;
     head.started += 1;
-    head.open += 1;
+    head.count_open += 1;
     0
 }
 
 /// The open pass of a number ends.
 pub fn end(head: &mut Head, lent: Lent, tick: u32, number: u32) -> u8 {
-    if lent.passes.len() != PASS_NUMBERS {
-        return 20;
-    }
     if tick == OPEN {
         return 4;
     }
@@ -88,18 +79,18 @@ pub fn end(head: &mut Head, lent: Lent, tick: u32, number: u32) -> u8 {
     if tick < head.last {
         return 21;
     }
-    let Some(place) = find(lent.passes, head.open, number) else { return 22 };
+    let Some(place) = find(lent.passes, head.count_open, number) else { return 22 };
     let (key, weight, began) = pass_at(lent.passes, place);
     if tick == began {
         return 23;
     }
-    let refused = enter_point(lent.end_table, lent.end_list, &mut head.end_pages, &mut head.end_roots, tick, key, weight);
+    let refused = enter_point(lent.end_table, lent.end_roots, &mut head.end_pages_used, &mut head.end_roots_used, tick, key, weight);
     if refused != 0 {
         return refused;
     }
-    take_out(lent.passes, head.open, place);
+    take_out(lent.passes, head.count_open, place);
     head.last = tick;
-    head.open -= 1;
+    head.count_open -= 1;
     0
 }
 
@@ -119,9 +110,6 @@ fn enter_point(table: &mut [u64], list: &mut [u64], pages: &mut u32, roots: &mut
 
 /// Count and weight sum of the passes with k1 ≤ key < k2 that live at some tick of t1 to t2 - 1, and the pages opened.
 pub fn question(head: &Head, lent: Seen, k1: u32, k2: u32, t1: u32, t2: u32, totals: &mut Totals) -> u8 {
-    if lent.passes.len() != PASS_NUMBERS {
-        return 20;
-    }
     if k1 >= KEYS || k2 > KEYS {
         return 1;
     }
@@ -154,17 +142,11 @@ fn between(tree: Tree, t: u32, k1: u32, k2: u32) -> Option<Found> {
 
 /// The lookup of the tree of starts.
 pub fn lookup_starts(head: &Head, lent: Seen, t: u32, k: u32, totals: &mut Totals) -> u8 {
-    if lent.passes.len() != PASS_NUMBERS {
-        return 20;
-    }
     look_up(head, lent, starts_of, t, k, totals)
 }
 
 /// The lookup of the tree of ends.
 pub fn lookup_ends(head: &Head, lent: Seen, t: u32, k: u32, totals: &mut Totals) -> u8 {
-    if lent.passes.len() != PASS_NUMBERS {
-        return 20;
-    }
     look_up(head, lent, ends_of, t, k, totals)
 }
 
@@ -186,10 +168,10 @@ fn look_up<'a>(head: &Head, lent: Seen<'a>, tree_of: fn(&Head, Seen<'a>) -> Tree
 
 /// The tree of starts of a head that fits.
 fn starts_of<'a>(head: &Head, lent: Seen<'a>) -> Tree<'a> {
-    Tree { table: lent.start_table, roots: &lent.start_list[..head.start_roots as usize], pages: head.start_pages }
+    Tree { table: lent.start_table, roots: &lent.start_roots[..head.start_roots_used as usize], pages: head.start_pages_used }
 }
 
 /// The tree of ends of a head that fits.
 fn ends_of<'a>(head: &Head, lent: Seen<'a>) -> Tree<'a> {
-    Tree { table: lent.end_table, roots: &lent.end_list[..head.end_roots as usize], pages: head.end_pages }
+    Tree { table: lent.end_table, roots: &lent.end_roots[..head.end_roots_used as usize], pages: head.end_pages_used }
 }

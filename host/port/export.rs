@@ -1,7 +1,7 @@
 //! The port under the names of the library, as an archive for C: it stands in where the proved library is not at hand, and shows that the
 //! tests need no more than the six functions of the header. `host/include/nimbleshale.h` says what each does.
 
-use port::{Head, Lent, Seen, Totals};
+use port::{Head, Lent, Seen, Totals, PASS_NUMBERS};
 use std::slice::{from_raw_parts, from_raw_parts_mut};
 
 /// A lent slice. C may hand in any address with a length of zero.
@@ -26,29 +26,30 @@ macro_rules! writing {
         /// Every pointer is to memory of its length, and no two overlap.
         #[no_mangle]
         pub unsafe extern "C" fn $name(
-            last: &mut u32, started: &mut u32, open: &mut u32,
-            start_pages: &mut u32, start_roots: &mut u32, end_pages: &mut u32, end_roots: &mut u32,
-            passes: *mut u32, passes_length: usize,
-            start_table: *mut u64, start_table_length: usize, start_list: *mut u64, start_list_length: usize,
-            end_table: *mut u64, end_table_length: usize, end_list: *mut u64, end_list_length: usize,
+            last: &mut u32, started: &mut u32, count_open: &mut u32,
+            start_pages_used: &mut u32, start_roots_used: &mut u32, end_pages_used: &mut u32, end_roots_used: &mut u32,
+            passes: &mut [u32; PASS_NUMBERS],
+            start_table: *mut u64, start_table_length: usize, start_roots: *mut u64, start_roots_length: usize,
+            end_table: *mut u64, end_table_length: usize, end_roots: *mut u64, end_roots_length: usize,
             $($argument: $type),*
         ) -> u8 {
             let mut head = Head {
-                last: *last, started: *started, open: *open,
-                start_pages: *start_pages, start_roots: *start_roots, end_pages: *end_pages, end_roots: *end_roots,
+                last: *last, started: *started, count_open: *count_open,
+                start_pages_used: *start_pages_used, start_roots_used: *start_roots_used,
+                end_pages_used: *end_pages_used, end_roots_used: *end_roots_used,
             };
             let memory = Lent {
-                passes: lent(passes, passes_length),
+                passes,
                 start_table: lent(start_table, start_table_length),
-                start_list: lent(start_list, start_list_length),
+                start_roots: lent(start_roots, start_roots_length),
                 end_table: lent(end_table, end_table_length),
-                end_list: lent(end_list, end_list_length),
+                end_roots: lent(end_roots, end_roots_length),
             };
             let refused = $call(&mut head, memory $(, $passed)*);
             if refused == 0 {
-                (*last, *started, *open) = (head.last, head.started, head.open);
-                (*start_pages, *start_roots) = (head.start_pages, head.start_roots);
-                (*end_pages, *end_roots) = (head.end_pages, head.end_roots);
+                (*last, *started, *count_open) = (head.last, head.started, head.count_open);
+                (*start_pages_used, *start_roots_used) = (head.start_pages_used, head.start_roots_used);
+                (*end_pages_used, *end_roots_used) = (head.end_pages_used, head.end_roots_used);
             }
             refused
         }
@@ -66,19 +67,19 @@ macro_rules! reading {
         /// Every pointer is to memory of its length, and no two overlap.
         #[no_mangle]
         pub unsafe extern "C" fn $name(
-            last: u32, started: u32, open: u32, start_pages: u32, start_roots: u32, end_pages: u32, end_roots: u32,
-            passes: *const u32, passes_length: usize,
-            start_table: *const u64, start_table_length: usize, start_list: *const u64, start_list_length: usize,
-            end_table: *const u64, end_table_length: usize, end_list: *const u64, end_list_length: usize,
+            last: u32, started: u32, count_open: u32, start_pages_used: u32, start_roots_used: u32, end_pages_used: u32, end_roots_used: u32,
+            passes: &[u32; PASS_NUMBERS],
+            start_table: *const u64, start_table_length: usize, start_roots: *const u64, start_roots_length: usize,
+            end_table: *const u64, end_table_length: usize, end_roots: *const u64, end_roots_length: usize,
             $($argument: u32,)* count: &mut u64, sum: &mut u64, pages: &mut u32
         ) -> u8 {
-            let head = Head { last, started, open, start_pages, start_roots, end_pages, end_roots };
+            let head = Head { last, started, count_open, start_pages_used, start_roots_used, end_pages_used, end_roots_used };
             let memory = Seen {
-                passes: seen(passes, passes_length),
+                passes,
                 start_table: seen(start_table, start_table_length),
-                start_list: seen(start_list, start_list_length),
+                start_roots: seen(start_roots, start_roots_length),
                 end_table: seen(end_table, end_table_length),
-                end_list: seen(end_list, end_list_length),
+                end_roots: seen(end_roots, end_roots_length),
             };
             let mut totals = Totals::default();
             let refused = $call(&head, memory, $($argument,)* &mut totals);

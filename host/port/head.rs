@@ -14,30 +14,30 @@ pub const WEIGHT_LIMIT: u32 = 10_000;
 pub struct Head {
     pub last: u32,
     pub started: u32,
-    pub open: u32,
-    pub start_pages: u32,
-    pub start_roots: u32,
-    pub end_pages: u32,
-    pub end_roots: u32,
+    pub count_open: u32,
+    pub start_pages_used: u32,
+    pub start_roots_used: u32,
+    pub end_pages_used: u32,
+    pub end_roots_used: u32,
 }
 
 /// What is lent to a call that may write.
 pub struct Lent<'a> {
-    pub passes: &'a mut [u32],
+    pub passes: &'a mut [u32; PASS_NUMBERS],
     pub start_table: &'a mut [u64],
-    pub start_list: &'a mut [u64],
+    pub start_roots: &'a mut [u64],
     pub end_table: &'a mut [u64],
-    pub end_list: &'a mut [u64],
+    pub end_roots: &'a mut [u64],
 }
 
 /// What is lent to a call that only reads.
 #[derive(Clone, Copy)]
 pub struct Seen<'a> {
-    pub passes: &'a [u32],
+    pub passes: &'a [u32; PASS_NUMBERS],
     pub start_table: &'a [u64],
-    pub start_list: &'a [u64],
+    pub start_roots: &'a [u64],
     pub end_table: &'a [u64],
-    pub end_list: &'a [u64],
+    pub end_roots: &'a [u64],
 }
 
 impl Lent<'_> {
@@ -45,9 +45,9 @@ impl Lent<'_> {
         Seen {
             passes: self.passes,
             start_table: self.start_table,
-            start_list: self.start_list,
+            start_roots: self.start_roots,
             end_table: self.end_table,
-            end_list: self.end_list,
+            end_roots: self.end_roots,
         }
     }
 }
@@ -59,10 +59,10 @@ pub fn whole_pages(table: &[u64]) -> usize {
 
 /// No ground for 20.
 pub fn fits(head: &Head, lent: Seen) -> bool {
-    head.open <= OPEN_LIMIT
+    head.count_open <= OPEN_LIMIT
         && head.started <= PASS_LIMIT
-        && use_fits(head.start_pages, head.start_roots, lent.start_table, lent.start_list)
-        && use_fits(head.end_pages, head.end_roots, lent.end_table, lent.end_list)
+        && use_fits(head.start_pages_used, head.start_roots_used, lent.start_table, lent.start_roots)
+        && use_fits(head.end_pages_used, head.end_roots_used, lent.end_table, lent.end_roots)
         && passes_fit(head, lent.passes)
 }
 
@@ -74,7 +74,7 @@ fn use_fits(pages: u32, roots: u32, table: &[u64], list: &[u64]) -> bool {
 /// Only the places below the open count are judged.
 fn passes_fit(head: &Head, passes: &[u32]) -> bool {
     let mut least = 0;
-    for pass in passes[..PLACE_NUMBERS * head.open as usize].chunks_exact(PLACE_NUMBERS) {
+    for pass in passes[..PLACE_NUMBERS * head.count_open as usize].chunks_exact(PLACE_NUMBERS) {
         let (number, key, weight, start) = (pass[0], pass[1], pass[2], pass[3]);
         if number < least || head.started <= number || KEYS <= key || weight < 1 || WEIGHT_LIMIT < weight || head.last < start {
             return false;

@@ -12,4 +12,4 @@ mod plan;
 mod words;
 
 pub use calls::{end, lookup_ends, lookup_starts, open, question, start, Totals};
-pub use head::{Head, Lent, Seen};
+pub use head::{Head, Lent, Seen, PASS_NUMBERS};

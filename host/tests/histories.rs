@@ -25,11 +25,11 @@ struct Tree<'a> {
 
 impl Tree<'_> {
     fn starts(store: &Store) -> Tree<'_> {
-        Tree { table: &store.start_table, list: &store.start_list, pages: store.head.start_pages, roots: store.head.start_roots }
+        Tree { table: &store.start_table, list: &store.start_roots, pages: store.head.start_pages_used, roots: store.head.start_roots_used }
     }
 
     fn ends(store: &Store) -> Tree<'_> {
-        Tree { table: &store.end_table, list: &store.end_list, pages: store.head.end_pages, roots: store.head.end_roots }
+        Tree { table: &store.end_table, list: &store.end_roots, pages: store.head.end_pages_used, roots: store.head.end_roots_used }
     }
 
     fn left(&self) -> u32 {
@@ -89,8 +89,8 @@ fn lacks_room(store: &Store, call: Call, refusal: u8) -> bool {
         table.truncate(table.len() / PAGE_WORDS * PAGE_WORDS);
         table.resize(table.len() + 7 * PAGE_WORDS, 0);
     }
-    roomy.start_list.push(0);
-    roomy.end_list.push(0);
+    roomy.start_roots.push(0);
+    roomy.end_roots.push(0);
     if by_library(&mut roomy, call).refusal != 0 {
         return false;
     }
@@ -159,7 +159,7 @@ fn history(seed: u64, mut shape: Shape, mut store: Store, calls: u32, whole: boo
 /// The head has the book's last tick, number started and open passes.
 fn head_is_of(store: &Store, book: &Book) -> bool {
     let head = &store.head;
-    (head.last, head.started, head.open) == (book.last, book.passes.len() as u32, book.open.len() as u32)
+    (head.last, head.started, head.count_open) == (book.last, book.passes.len() as u32, book.open.len() as u32)
         && store.passes.chunks(4).take(book.open.len()).zip(&book.open).all(|(place, &number)| {
             let pass = &book.passes[number as usize];
             place == [number, pass.key, pass.weight, pass.start]

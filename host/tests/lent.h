@@ -49,25 +49,25 @@ static inline void give_back(void *slice, size_t bytes)
 }
 
 /* The four slices of a store, all zero. The store's head is for the caller to set. */
-static inline void lend_store(struct nimbleshale_store *store, size_t start_table, size_t start_list, size_t end_table, size_t end_list)
+static inline void lend_store(struct nimbleshale_store *store, size_t start_table, size_t start_roots, size_t end_table, size_t end_roots)
 {
     memset(store, 0, sizeof *store);
     store->start_table = lend(8 * start_table);
     store->start_table_length = start_table;
-    store->start_list = lend(8 * start_list);
-    store->start_list_length = start_list;
+    store->start_roots = lend(8 * start_roots);
+    store->start_roots_length = start_roots;
     store->end_table = lend(8 * end_table);
     store->end_table_length = end_table;
-    store->end_list = lend(8 * end_list);
-    store->end_list_length = end_list;
+    store->end_roots = lend(8 * end_roots);
+    store->end_roots_length = end_roots;
 }
 
 static inline void give_back_store(struct nimbleshale_store *store)
 {
     give_back(store->start_table, 8 * store->start_table_length);
-    give_back(store->start_list, 8 * store->start_list_length);
+    give_back(store->start_roots, 8 * store->start_roots_length);
     give_back(store->end_table, 8 * store->end_table_length);
-    give_back(store->end_list, 8 * store->end_list_length);
+    give_back(store->end_roots, 8 * store->end_roots_length);
 }
 
 /* One word more in the digest of the trace vectors. */
@@ -89,24 +89,20 @@ static inline uint64_t digest_slice(uint64_t x, const uint64_t *slice, size_t le
 static inline uint64_t digest_store(const struct nimbleshale_store *store)
 {
     uint64_t x = 0;
-    size_t place;
+    size_t at;
     x = digest_word(x, store->last);
     x = digest_word(x, store->started);
-    x = digest_word(x, store->open);
-    for (place = 0; place < NIMBLESHALE_OPEN_PASSES; place++) {
-        x = digest_word(x, store->passes[place].number);
-        x = digest_word(x, store->passes[place].key);
-        x = digest_word(x, store->passes[place].weight);
-        x = digest_word(x, store->passes[place].start);
-    }
-    x = digest_word(x, store->start_pages);
-    x = digest_word(x, store->start_roots);
-    x = digest_word(x, store->end_pages);
-    x = digest_word(x, store->end_roots);
+    x = digest_word(x, store->count_open);
+    for (at = 0; at < NIMBLESHALE_PASS_NUMBERS; at++)
+        x = digest_word(x, store->passes[at]);
+    x = digest_word(x, store->start_pages_used);
+    x = digest_word(x, store->start_roots_used);
+    x = digest_word(x, store->end_pages_used);
+    x = digest_word(x, store->end_roots_used);
     x = digest_slice(x, store->start_table, store->start_table_length);
-    x = digest_slice(x, store->start_list, store->start_list_length);
+    x = digest_slice(x, store->start_roots, store->start_roots_length);
     x = digest_slice(x, store->end_table, store->end_table_length);
-    return digest_slice(x, store->end_list, store->end_list_length);
+    return digest_slice(x, store->end_roots, store->end_roots_length);
 }
 
 #endif

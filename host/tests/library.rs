@@ -3,51 +3,51 @@
 
 #![allow(dead_code)]
 
-use port::{Head, Lent, Totals};
+use port::{Head, Lent, Totals, PASS_NUMBERS};
 
 extern "C" {
     fn nimbleshale_open(
-        last: &mut u32, started: &mut u32, open: &mut u32,
-        start_pages: &mut u32, start_roots: &mut u32, end_pages: &mut u32, end_roots: &mut u32,
-        passes: *mut u32, passes_length: usize,
-        start_table: *mut u64, start_table_length: usize, start_list: *mut u64, start_list_length: usize,
-        end_table: *mut u64, end_table_length: usize, end_list: *mut u64, end_list_length: usize,
+        last: &mut u32, started: &mut u32, count_open: &mut u32,
+        start_pages_used: &mut u32, start_roots_used: &mut u32, end_pages_used: &mut u32, end_roots_used: &mut u32,
+        passes: &mut [u32; PASS_NUMBERS],
+        start_table: *mut u64, start_table_length: usize, start_roots: *mut u64, start_roots_length: usize,
+        end_table: *mut u64, end_table_length: usize, end_roots: *mut u64, end_roots_length: usize,
     ) -> u8;
     fn nimbleshale_start(
-        last: &mut u32, started: &mut u32, open: &mut u32,
-        start_pages: &mut u32, start_roots: &mut u32, end_pages: &mut u32, end_roots: &mut u32,
-        passes: *mut u32, passes_length: usize,
-        start_table: *mut u64, start_table_length: usize, start_list: *mut u64, start_list_length: usize,
-        end_table: *mut u64, end_table_length: usize, end_list: *mut u64, end_list_length: usize,
+        last: &mut u32, started: &mut u32, count_open: &mut u32,
+        start_pages_used: &mut u32, start_roots_used: &mut u32, end_pages_used: &mut u32, end_roots_used: &mut u32,
+        passes: &mut [u32; PASS_NUMBERS],
+        start_table: *mut u64, start_table_length: usize, start_roots: *mut u64, start_roots_length: usize,
+        end_table: *mut u64, end_table_length: usize, end_roots: *mut u64, end_roots_length: usize,
         tick: u32, key: u32, weight: u32, number: &mut u32,
     ) -> u8;
     fn nimbleshale_end(
-        last: &mut u32, started: &mut u32, open: &mut u32,
-        start_pages: &mut u32, start_roots: &mut u32, end_pages: &mut u32, end_roots: &mut u32,
-        passes: *mut u32, passes_length: usize,
-        start_table: *mut u64, start_table_length: usize, start_list: *mut u64, start_list_length: usize,
-        end_table: *mut u64, end_table_length: usize, end_list: *mut u64, end_list_length: usize,
+        last: &mut u32, started: &mut u32, count_open: &mut u32,
+        start_pages_used: &mut u32, start_roots_used: &mut u32, end_pages_used: &mut u32, end_roots_used: &mut u32,
+        passes: &mut [u32; PASS_NUMBERS],
+        start_table: *mut u64, start_table_length: usize, start_roots: *mut u64, start_roots_length: usize,
+        end_table: *mut u64, end_table_length: usize, end_roots: *mut u64, end_roots_length: usize,
         tick: u32, number: u32,
     ) -> u8;
     fn nimbleshale_question(
-        last: u32, started: u32, open: u32, start_pages: u32, start_roots: u32, end_pages: u32, end_roots: u32,
-        passes: *const u32, passes_length: usize,
-        start_table: *const u64, start_table_length: usize, start_list: *const u64, start_list_length: usize,
-        end_table: *const u64, end_table_length: usize, end_list: *const u64, end_list_length: usize,
+        last: u32, started: u32, count_open: u32, start_pages_used: u32, start_roots_used: u32, end_pages_used: u32, end_roots_used: u32,
+        passes: &[u32; PASS_NUMBERS],
+        start_table: *const u64, start_table_length: usize, start_roots: *const u64, start_roots_length: usize,
+        end_table: *const u64, end_table_length: usize, end_roots: *const u64, end_roots_length: usize,
         k1: u32, k2: u32, t1: u32, t2: u32, count: &mut u64, sum: &mut u64, pages: &mut u32,
     ) -> u8;
     fn nimbleshale_lookup_starts(
-        last: u32, started: u32, open: u32, start_pages: u32, start_roots: u32, end_pages: u32, end_roots: u32,
-        passes: *const u32, passes_length: usize,
-        start_table: *const u64, start_table_length: usize, start_list: *const u64, start_list_length: usize,
-        end_table: *const u64, end_table_length: usize, end_list: *const u64, end_list_length: usize,
+        last: u32, started: u32, count_open: u32, start_pages_used: u32, start_roots_used: u32, end_pages_used: u32, end_roots_used: u32,
+        passes: &[u32; PASS_NUMBERS],
+        start_table: *const u64, start_table_length: usize, start_roots: *const u64, start_roots_length: usize,
+        end_table: *const u64, end_table_length: usize, end_roots: *const u64, end_roots_length: usize,
         t: u32, k: u32, count: &mut u64, sum: &mut u64, pages: &mut u32,
     ) -> u8;
     fn nimbleshale_lookup_ends(
-        last: u32, started: u32, open: u32, start_pages: u32, start_roots: u32, end_pages: u32, end_roots: u32,
-        passes: *const u32, passes_length: usize,
-        start_table: *const u64, start_table_length: usize, start_list: *const u64, start_list_length: usize,
-        end_table: *const u64, end_table_length: usize, end_list: *const u64, end_list_length: usize,
+        last: u32, started: u32, count_open: u32, start_pages_used: u32, start_roots_used: u32, end_pages_used: u32, end_roots_used: u32,
+        passes: &[u32; PASS_NUMBERS],
+        start_table: *const u64, start_table_length: usize, start_roots: *const u64, start_roots_length: usize,
+        end_table: *const u64, end_table_length: usize, end_roots: *const u64, end_roots_length: usize,
         t: u32, k: u32, count: &mut u64, sum: &mut u64, pages: &mut u32,
     ) -> u8;
 }
@@ -56,11 +56,11 @@ extern "C" {
 #[derive(Clone, PartialEq, Eq)]
 pub struct Store {
     pub head: Head,
-    pub passes: Vec<u32>,
+    pub passes: [u32; PASS_NUMBERS],
     pub start_table: Vec<u64>,
-    pub start_list: Vec<u64>,
+    pub start_roots: Vec<u64>,
     pub end_table: Vec<u64>,
-    pub end_list: Vec<u64>,
+    pub end_roots: Vec<u64>,
 }
 
 #[derive(Clone, Copy, Debug, PartialEq, Eq)]
@@ -89,17 +89,17 @@ impl Answer {
     }
 }
 
-/// The seven numbers and five slices of a store, lent.
+/// The seven numbers, the open passes and the four slices of a store, lent.
 macro_rules! lent {
     ($function:ident, $store:ident $(, $more:expr)*) => {{
-        let Store { head, passes, start_table, start_list, end_table, end_list } = $store;
+        let Store { head, passes, start_table, start_roots, end_table, end_roots } = $store;
         unsafe {
             $function(
-                &mut head.last, &mut head.started, &mut head.open,
-                &mut head.start_pages, &mut head.start_roots, &mut head.end_pages, &mut head.end_roots,
-                passes.as_mut_ptr(), passes.len(),
-                start_table.as_mut_ptr(), start_table.len(), start_list.as_mut_ptr(), start_list.len(),
-                end_table.as_mut_ptr(), end_table.len(), end_list.as_mut_ptr(), end_list.len()
+                &mut head.last, &mut head.started, &mut head.count_open,
+                &mut head.start_pages_used, &mut head.start_roots_used, &mut head.end_pages_used, &mut head.end_roots_used,
+                passes,
+                start_table.as_mut_ptr(), start_table.len(), start_roots.as_mut_ptr(), start_roots.len(),
+                end_table.as_mut_ptr(), end_table.len(), end_roots.as_mut_ptr(), end_roots.len()
                 $(, $more)*
             )
         }
@@ -109,13 +109,13 @@ macro_rules! lent {
 /// The same, only shown.
 macro_rules! shown {
     ($function:ident, $store:ident, $totals:ident $(, $more:expr)*) => {{
-        let Store { head, passes, start_table, start_list, end_table, end_list } = &*$store;
+        let Store { head, passes, start_table, start_roots, end_table, end_roots } = &*$store;
         unsafe {
             $function(
-                head.last, head.started, head.open, head.start_pages, head.start_roots, head.end_pages, head.end_roots,
-                passes.as_ptr(), passes.len(),
-                start_table.as_ptr(), start_table.len(), start_list.as_ptr(), start_list.len(),
-                end_table.as_ptr(), end_table.len(), end_list.as_ptr(), end_list.len()
+                head.last, head.started, head.count_open, head.start_pages_used, head.start_roots_used, head.end_pages_used, head.end_roots_used,
+                passes,
+                start_table.as_ptr(), start_table.len(), start_roots.as_ptr(), start_roots.len(),
+                end_table.as_ptr(), end_table.len(), end_roots.as_ptr(), end_roots.len()
                 $(, $more)*, &mut $totals.count, &mut $totals.sum, &mut $totals.pages
             )
         }
@@ -141,8 +141,8 @@ pub fn by_library(store: &mut Store, call: Call) -> Answer {
 #[inline]
 pub fn by_port(store: &mut Store, call: Call) -> Answer {
     let Answer { mut number, mut totals, .. } = Answer::unset(0);
-    let Store { head, passes, start_table, start_list, end_table, end_list } = store;
-    let lent = Lent { passes, start_table, start_list, end_table, end_list };
+    let Store { head, passes, start_table, start_roots, end_table, end_roots } = store;
+    let lent = Lent { passes, start_table, start_roots, end_table, end_roots };
     let refusal = match call {
         Call::Open => port::open(head, lent),
         Call::Start { tick, key, weight } => port::start(head, lent, tick, key, weight, &mut number),
@@ -162,11 +162,11 @@ impl Store {
     pub fn lent(pages: usize, roots: usize) -> Store {
         Store {
             head: Head::default(),
-            passes: vec![0; 256],
+            passes: [0; PASS_NUMBERS],
             start_table: vec![0; PAGE_WORDS * pages],
-            start_list: vec![0; roots],
+            start_roots: vec![0; roots],
             end_table: vec![0; PAGE_WORDS * pages],
-            end_list: vec![0; roots],
+            end_roots: vec![0; roots],
         }
     }
 }

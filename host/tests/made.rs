@@ -11,7 +11,7 @@ pub fn grown(random: &mut Random) -> Store {
     let mut shape = Shape::any(random);
     by_port(&mut store, Call::Open);
     for _ in 0..random.below(30 * pages) {
-        let open: Vec<u32> = store.passes.chunks(4).take(store.head.open as usize).map(|pass| pass[0]).collect();
+        let open: Vec<u32> = store.passes.chunks(4).take(store.head.count_open as usize).map(|pass| pass[0]).collect();
         let call = shape.call(random, store.head.last, store.head.started, &open);
         by_port(&mut store, call);
     }
@@ -26,13 +26,13 @@ pub fn random_trees(random: &mut Random) -> Store {
     let t = *random.pick(&[0, 1, 1_000, u32::MAX - 2, u32::MAX - 1]);
     store.head.last = t;
     store.head.started = random.between(3, 1_000_000);
-    store.head.open = random.below(4);
-    for place in 0..store.head.open {
+    store.head.count_open = random.below(4);
+    for place in 0..store.head.count_open {
         let pass = [place, random.below(30_000), random.between(1, 10_000), random.between(0, t)];
         store.passes[4 * place as usize..][..4].copy_from_slice(&pass);
     }
-    (store.head.start_pages, store.head.start_roots) = random_tree(random, &mut store.start_table, &mut store.start_list, t);
-    (store.head.end_pages, store.head.end_roots) = random_tree(random, &mut store.end_table, &mut store.end_list, t);
+    (store.head.start_pages_used, store.head.start_roots_used) = random_tree(random, &mut store.start_table, &mut store.start_roots, t);
+    (store.head.end_pages_used, store.head.end_roots_used) = random_tree(random, &mut store.end_table, &mut store.end_roots, t);
     store
 }
 
@@ -146,9 +146,9 @@ pub fn spoil(random: &mut Random, store: &mut Store) {
 /// One of the two trees: its table, its list, its pages used and its roots used.
 fn tree<'a>(random: &mut Random, store: &'a mut Store) -> (&'a mut Vec<u64>, &'a mut Vec<u64>, &'a mut u32, &'a mut u32) {
     if random.one_in(2) {
-        (&mut store.start_table, &mut store.start_list, &mut store.head.start_pages, &mut store.head.start_roots)
+        (&mut store.start_table, &mut store.start_roots, &mut store.head.start_pages_used, &mut store.head.start_roots_used)
     } else {
-        (&mut store.end_table, &mut store.end_list, &mut store.head.end_pages, &mut store.head.end_roots)
+        (&mut store.end_table, &mut store.end_roots, &mut store.head.end_pages_used, &mut store.head.end_roots_used)
     }
 }
 
@@ -267,30 +267,23 @@ fn spoil_head(random: &mut Random, store: &mut Store) {
     match random.below(8) {
         0 => head.last = number,
         1 => head.started = number,
-        2 => head.open = number,
-        3 => head.start_pages = number,
-        4 => head.start_roots = number,
-        5 => head.end_pages = number,
-        6 => head.end_roots = number,
+        2 => head.count_open = number,
+        3 => head.start_pages_used = number,
+        4 => head.start_roots_used = number,
+        5 => head.end_pages_used = number,
+        6 => head.end_roots_used = number,
         _ => head.last = head.last.saturating_sub(random.below(50)),
     }
 }
 
 fn spoil_passes(random: &mut Random, store: &mut Store) {
-    if store.passes.is_empty() {
-        return;
-    }
-    let places = if random.one_in(4) { 64 } else { store.head.open.clamp(1, 64) };
-    let at = (4 * random.below(places) + random.below(4)) as usize % store.passes.len();
+    let places = if random.one_in(4) { 64 } else { store.head.count_open.clamp(1, 64) };
+    let at = (4 * random.below(places) + random.below(4)) as usize;
     store.passes[at] = *random.pick(&[0, 1, 29_999, 30_000, 10_000, 10_001, store.head.last, u32::MAX]);
 }
 
 /// Shorter slices than the head says, or words past the last whole page.
 fn cut_memory(random: &mut Random, store: &mut Store) {
-    if random.one_in(8) {
-        store.passes.resize(*random.pick(&[0, 4, 255, 257, 512]), 1);
-        return;
-    }
     let (table, list, pages, roots) = tree(random, store);
     let length = *random.pick(&[0, 1, *roots as usize, *roots as usize + 1]);
     match random.below(3) {

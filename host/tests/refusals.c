@@ -7,14 +7,14 @@
 #include "lent.h"
 
 #define UNTOUCHED 0x1234567u
+#define PASSES_BYTES (sizeof(uint32_t) * NIMBLESHALE_PASS_NUMBERS)
 
 static unsigned long compared, differed;
 
-/* A store with the passes in a slice of their own, so that it can have another length. */
+/* A store with the passes in a slice of their own, so that a number read behind them is a crash. */
 struct tried {
     struct nimbleshale_store store;
     uint32_t *passes;
-    size_t passes_length;
 };
 
 enum call { OPEN, START, END, QUESTION, LOOKUP_STARTS, LOOKUP_ENDS, CALLS };
@@ -23,7 +23,7 @@ static const char *const names[CALLS] = {"open", "start", "end", "question", "lo
 
 /* The refusals of each call in document 01's order, 0 behind them. */
 static const uint8_t orders[CALLS][11] = {
-    {8, 20, 0},
+    {8, 0},
     {1, 3, 4, 20, 21, 24, 25, 26, 27, 28, 0},
     {4, 20, 21, 22, 23, 26, 27, 28, 0},
     {1, 2, 5, 20, 26, 0},
@@ -33,7 +33,6 @@ static const uint8_t orders[CALLS][11] = {
 
 /* Ways to spoil the head. */
 enum way {
-    PASSES_SHORT, PASSES_NONE, PASSES_LONG,
     OPEN_65, OPEN_ALL, KEY_HIGH, WEIGHT_NONE, WEIGHT_HIGH, NUMBER_FALLS, NUMBER_TWICE, NUMBER_REACHES, START_LATE, STARTED_MANY,
     PAGES_NONE, ROOTS_NONE, PAGES_OVER_TABLE, ROOTS_OVER_PAGES, ROOTS_OVER_LIST,
     END_PAGES_NONE, END_ROOTS_NONE, END_PAGES_OVER_TABLE, END_ROOTS_OVER_PAGES, END_ROOTS_OVER_LIST,
@@ -46,12 +45,6 @@ static int holds(unsigned conditions, enum call call, uint8_t refusal)
         if (orders[call][at] == refusal)
             return (int)(conditions >> at & 1);
     return 0;
-}
-
-static void lend_passes(struct tried *tried, size_t length)
-{
-    tried->passes = lend(4 * length + 4 * (length % 2));
-    tried->passes_length = length;
 }
 
 /* A leaf of 64 rows of equal width, all live, in page 0: entering a point makes three pages and a root entry. */
@@ -69,24 +62,45 @@ static void write_leaf(uint64_t *table)
     }
 }
 
+/* Spoils the head in one way. The tables have so many pages. */
+static void spoil_head(struct tried *tried, enum way way, size_t pages)
+{
+    struct nimbleshale_store *store = &tried->store;
+    switch (way) {
+    case OPEN_65: store->count_open = 65; break;
+    case OPEN_ALL: store->count_open = 4294967295u; break;
+    case KEY_HIGH: tried->passes[9] = 30000; break;
+    case WEIGHT_NONE: tried->passes[10] = 0; break;
+    case WEIGHT_HIGH: tried->passes[10] = 10001; break;
+    case NUMBER_FALLS: tried->passes[8] = 1; break;
+    case NUMBER_TWICE: tried->passes[8] = 2; break;
+    case NUMBER_REACHES: tried->passes[4 * (store->count_open - 1)] = store->started; break;
+    case START_LATE: tried->passes[11] = store->last + 1; break;
+    case STARTED_MANY: store->started = 1000001; break;
+    case PAGES_NONE: store->start_pages_used = 0; break;
+    case ROOTS_NONE: store->start_roots_used = 0; break;
+    case PAGES_OVER_TABLE: store->start_pages_used = (uint32_t)pages + 1; break;
+    case ROOTS_OVER_PAGES: store->start_roots_used = 2; break;
+    case ROOTS_OVER_LIST: store->start_pages_used = 3; store->start_roots_used = 3; break;
+    case END_PAGES_NONE: store->end_pages_used = 0; break;
+    case END_ROOTS_NONE: store->end_roots_used = 0; break;
+    case END_PAGES_OVER_TABLE: store->end_pages_used = (uint32_t)pages + 1; break;
+    case END_ROOTS_OVER_PAGES: store->end_roots_used = 2; break;
+    case END_ROOTS_OVER_LIST: store->end_pages_used = 3; store->end_roots_used = 3; break;
+    default: break;
+    }
+}
+
 /* The store of a case, with the conditions that are not of the arguments. */
 static void begin(struct tried *tried, enum call call, unsigned conditions, enum way way)
 {
     struct nimbleshale_store *store = &tried->store;
     size_t pages = holds(conditions, call, 27) ? 3 : 4, roots = holds(conditions, call, 28) ? 1 : 2;
-    size_t length = NIMBLESHALE_PASSES_LENGTH;
-    int bad = holds(conditions, call, 20);
-    if (bad && way == PASSES_SHORT)
-        length = 255;
-    if (bad && way == PASSES_NONE)
-        length = 0;
-    if (bad && way == PASSES_LONG)
-        length = 257;
     if (call == OPEN && holds(conditions, OPEN, 8))
         lend_store(store, way % 4 == 0 ? 259 : 260, way % 4 != 1, way % 4 == 2 ? 259 : 260, way % 4 != 3);
     else
         lend_store(store, NIMBLESHALE_TABLE_WORDS(pages) + 259, roots, NIMBLESHALE_TABLE_WORDS(pages) + 7, roots);
-    lend_passes(tried, length);
+    tried->passes = lend(PASSES_BYTES);
     if (call == OPEN)
         return;
     write_leaf(store->start_table);
@@ -95,53 +109,30 @@ static void begin(struct tried *tried, enum call call, unsigned conditions, enum
         (call == END || call == LOOKUP_ENDS ? store->end_table : store->start_table)[1] = 65;
     store->last = holds(conditions, call, 21) ? 101 : 90;
     store->started = holds(conditions, call, 25) ? 1000000 : 70;
-    store->open = holds(conditions, call, 24) ? 64 : 3;
-    store->start_pages = store->start_roots = store->end_pages = store->end_roots = 1;
-    for (uint32_t place = 0; place < store->open && place < length / 4; place++) {
+    store->count_open = holds(conditions, call, 24) ? 64 : 3;
+    store->start_pages_used = store->start_roots_used = store->end_pages_used = store->end_roots_used = 1;
+    for (uint32_t place = 0; place < store->count_open; place++) {
         uint32_t *pass = tried->passes + 4 * place;
         pass[0] = place + 1;
         pass[1] = 450;
         pass[2] = 10000;
         pass[3] = 80;
     }
-    if (holds(conditions, call, 23) && length >= 256)
+    if (holds(conditions, call, 23))
         tried->passes[7] = store->last == 90 ? 90 : 100;
-    if (!bad)
-        return;
-    switch (way) {
-    case OPEN_65: store->open = 65; break;
-    case OPEN_ALL: store->open = 4294967295u; break;
-    case KEY_HIGH: tried->passes[9] = 30000; break;
-    case WEIGHT_NONE: tried->passes[10] = 0; break;
-    case WEIGHT_HIGH: tried->passes[10] = 10001; break;
-    case NUMBER_FALLS: tried->passes[8] = 1; break;
-    case NUMBER_TWICE: tried->passes[8] = 2; break;
-    case NUMBER_REACHES: tried->passes[4 * (store->open - 1)] = store->started; break;
-    case START_LATE: tried->passes[11] = store->last + 1; break;
-    case STARTED_MANY: store->started = 1000001; break;
-    case PAGES_NONE: store->start_pages = 0; break;
-    case ROOTS_NONE: store->start_roots = 0; break;
-    case PAGES_OVER_TABLE: store->start_pages = (uint32_t)pages + 1; break;
-    case ROOTS_OVER_PAGES: store->start_roots = 2; break;
-    case ROOTS_OVER_LIST: store->start_pages = 3; store->start_roots = 3; break;
-    case END_PAGES_NONE: store->end_pages = 0; break;
-    case END_ROOTS_NONE: store->end_roots = 0; break;
-    case END_PAGES_OVER_TABLE: store->end_pages = (uint32_t)pages + 1; break;
-    case END_ROOTS_OVER_PAGES: store->end_roots = 2; break;
-    case END_ROOTS_OVER_LIST: store->end_pages = 3; store->end_roots = 3; break;
-    default: break;
-    }
+    if (holds(conditions, call, 20))
+        spoil_head(tried, way, pages);
 }
 
-/* The seven numbers and five slices, lent or only shown. */
+/* The seven numbers, the open passes and the four slices, lent or only shown. */
 #define LENT \
-    &s->last, &s->started, &s->open, &s->start_pages, &s->start_roots, &s->end_pages, &s->end_roots, t->passes, t->passes_length, \
-    s->start_table, s->start_table_length, s->start_list, s->start_list_length, s->end_table, s->end_table_length, s->end_list, \
-    s->end_list_length
+    &s->last, &s->started, &s->count_open, &s->start_pages_used, &s->start_roots_used, &s->end_pages_used, &s->end_roots_used, t->passes, \
+    s->start_table, s->start_table_length, s->start_roots, s->start_roots_length, s->end_table, s->end_table_length, s->end_roots, \
+    s->end_roots_length
 #define SHOWN \
-    s->last, s->started, s->open, s->start_pages, s->start_roots, s->end_pages, s->end_roots, t->passes, t->passes_length, \
-    s->start_table, s->start_table_length, s->start_list, s->start_list_length, s->end_table, s->end_table_length, s->end_list, \
-    s->end_list_length
+    s->last, s->started, s->count_open, s->start_pages_used, s->start_roots_used, s->end_pages_used, s->end_roots_used, t->passes, \
+    s->start_table, s->start_table_length, s->start_roots, s->start_roots_length, s->end_table, s->end_table_length, s->end_roots, \
+    s->end_roots_length
 
 struct results {
     uint32_t number;
@@ -189,7 +180,7 @@ static uint8_t make_call(struct tried *t, enum call call, unsigned conditions, e
 static uint64_t digest_tried(const struct tried *tried)
 {
     uint64_t x = digest_store(&tried->store);
-    for (size_t at = 0; at < tried->passes_length; at++)
+    for (size_t at = 0; at < NIMBLESHALE_PASS_NUMBERS; at++)
         x = digest_word(x, tried->passes[at]);
     return x;
 }
@@ -204,9 +195,6 @@ static void try_case(enum call call, unsigned conditions, enum way way)
     for (int at = 0; wanted == 0 && orders[call][at] != 0; at++)
         if (conditions >> at & 1)
             wanted = orders[call][at];
-    /* A slice of open passes of another length is no head: 20 comes before everything else. */
-    if (holds(conditions, call, 20) && (way == PASSES_SHORT || way == PASSES_NONE || way == PASSES_LONG))
-        wanted = 20;
     begin(&tried, call, conditions, way);
     before = digest_tried(&tried);
     refusal = make_call(&tried, call, conditions, way, &results);
@@ -224,7 +212,7 @@ static void try_case(enum call call, unsigned conditions, enum way way)
             printf("differs: %s, conditions %x, way %d: %d, not %d\n", names[call], conditions, (int)way, refusal, wanted);
     }
     give_back_store(&tried.store);
-    give_back(tried.passes, 4 * tried.passes_length + 4 * (tried.passes_length % 2));
+    give_back(tried.passes, PASSES_BYTES);
 }
 
 /* Over 1,000,000 pages. The table is that large but not touched past its first page. */
@@ -247,15 +235,15 @@ static void many_pages(void)
     write_leaf(table);
     s->start_table = table;
     s->start_table_length = length;
-    s->start_pages = 1000001;
+    s->start_pages_used = 1000001;
     found[0] = nimbleshale_question(SHOWN, 1, 2, 1, 2, &results.count, &results.sum, &results.pages);
-    s->start_pages = 1000000;
+    s->start_pages_used = 1000000;
     found[1] = nimbleshale_question(SHOWN, 1, 2, 1, 2, &results.count, &results.sum, &results.pages);
     found[2] = nimbleshale_start(LENT, 100, 450, 1, &results.number);
-    s->start_pages = 999997;
+    s->start_pages_used = 999997;
     found[3] = nimbleshale_start(LENT, 100, 450, 1, &results.number);
     compared += 4;
-    if (found[0] != 20 || found[1] != 0 || found[2] != 27 || found[3] != 0 || s->start_pages != 1000000) {
+    if (found[0] != 20 || found[1] != 0 || found[2] != 27 || found[3] != 0 || s->start_pages_used != 1000000) {
         differed++;
         printf("differs: 1,000,000 pages: %d %d %d %d\n", found[0], found[1], found[2], found[3]);
     }
@@ -263,7 +251,7 @@ static void many_pages(void)
     s->start_table = lent;
     s->start_table_length = NIMBLESHALE_TABLE_WORDS(4) + 259;
     give_back_store(s);
-    give_back(t->passes, 4 * t->passes_length);
+    give_back(t->passes, PASSES_BYTES);
 }
 
 int main(void)
@@ -274,8 +262,7 @@ int main(void)
             count++;
         for (unsigned conditions = 0; conditions < 1u << count; conditions++)
             for (int way = 0; way < WAYS; way++)
-                if (!(call == OPEN && holds(conditions, OPEN, 20) && way > PASSES_LONG))
-                    try_case((enum call)call, conditions, (enum way)way);
+                try_case((enum call)call, conditions, (enum way)way);
     }
     many_pages();
     printf("refusals: %lu compared, %lu differed\n", compared, differed);

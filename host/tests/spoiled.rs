@@ -18,8 +18,8 @@ fn call_on(random: &mut Random, store: &Store) -> Call {
         0 if random.one_in(20) => Call::Open,
         0..=5 => Call::Start { tick: *random.pick(&[tick, store.head.last, later]), key: near_key(random, store), weight: random.between(1, 10_000) },
         6..=9 => {
-            let place = random.below(store.head.open.min(64)) as usize;
-            let number = store.passes.get(4 * place).copied().unwrap_or(0);
+            let place = random.below(store.head.count_open.min(64)) as usize;
+            let number = store.passes[4 * place];
             Call::End { tick: *random.pick(&[tick, later, later]), number }
         }
         10 | 11 => Call::LookupStarts { t: tick, k: near_key(random, store) },
@@ -34,9 +34,9 @@ fn call_on(random: &mut Random, store: &Store) -> Call {
 /// A word of one of the tables.
 fn any_word(random: &mut Random, store: &Store, of_row: u32) -> u64 {
     let (table, pages) = if random.one_in(2) {
-        (&store.start_table, store.head.start_pages)
+        (&store.start_table, store.head.start_pages_used)
     } else {
-        (&store.end_table, store.head.end_pages)
+        (&store.end_table, store.head.end_pages_used)
     };
     let at = PAGE_WORDS * random.below(pages.min(1_000)) as usize + (4 + 4 * random.below(64) + of_row) as usize;
     table.get(at).copied().unwrap_or(0)
@@ -95,7 +95,8 @@ fn main() {
             }
             if writes {
                 written += 1;
-                split += u64::from(port.head.start_pages > before.head.start_pages || port.head.end_pages > before.head.end_pages);
+                let (after, earlier) = (&port.head, &before.head);
+                split += u64::from(after.start_pages_used > earlier.start_pages_used || after.end_pages_used > earlier.end_pages_used);
                 before.clone_from(&port);
             } else if !kept {
                 library.clone_from(&before);

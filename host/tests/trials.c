@@ -72,12 +72,12 @@ static struct answer make(enum call call, const uint32_t *given)
 {
     struct answer found = no_result;
     switch (call) {
-    case OPEN: found.refusal = nimbleshale_open_store(&store); break;
-    case START: found.refusal = nimbleshale_record_start(&store, given[0], given[1], given[2], &found.number); break;
-    case END: found.refusal = nimbleshale_record_end(&store, given[0], given[1]); break;
-    case QUESTION: found.refusal = nimbleshale_ask(&store, given[0], given[1], given[2], given[3], &found.totals); break;
-    case LOOKUP_STARTS: found.refusal = nimbleshale_look_up_starts(&store, given[0], given[1], &found.totals); break;
-    case LOOKUP_ENDS: found.refusal = nimbleshale_look_up_ends(&store, given[0], given[1], &found.totals); break;
+    case OPEN: found.refusal = nimbleshale_store_open(&store); break;
+    case START: found.refusal = nimbleshale_store_start(&store, given[0], given[1], given[2], &found.number); break;
+    case END: found.refusal = nimbleshale_store_end(&store, given[0], given[1]); break;
+    case QUESTION: found.refusal = nimbleshale_store_question(&store, given[0], given[1], given[2], given[3], &found.totals); break;
+    case LOOKUP_STARTS: found.refusal = nimbleshale_store_lookup_starts(&store, given[0], given[1], &found.totals); break;
+    case LOOKUP_ENDS: found.refusal = nimbleshale_store_lookup_ends(&store, given[0], given[1], &found.totals); break;
     }
     return found;
 }
@@ -166,19 +166,19 @@ static uint64_t *row_word(uint32_t page, uint32_t place, uint32_t word)
     return page_word(page, 4 + 4 * place + word);
 }
 
-static struct nimbleshale_pass *pass_at(uint32_t place)
+static uint32_t checked_place(uint32_t place)
 {
     if (place >= NIMBLESHALE_OPEN_PASSES)
         fault("no such place");
-    return &store.passes[place];
+    return place;
 }
 
 /* What is looked at. */
 
 static void see_used(const uint32_t *n)
 {
-    expect("pages used", store.start_pages, n[0]);
-    expect("roots used", store.start_roots, n[1]);
+    expect("pages used", store.start_pages_used, n[0]);
+    expect("roots used", store.start_roots_used, n[1]);
 }
 
 static void see_level(const uint32_t *n)
@@ -207,27 +207,27 @@ static void see_value(const uint32_t *n)
 
 static void see_root(const uint32_t *n)
 {
-    if (n[0] >= store.start_list_length)
+    if (n[0] >= store.start_roots_length)
         fault("no such root entry");
-    expect("birth", store.start_list[n[0]] % 4294967296u, n[1]);
-    expect("page", store.start_list[n[0]] >> 32, n[2]);
+    expect("birth", store.start_roots[n[0]] % 4294967296u, n[1]);
+    expect("page", store.start_roots[n[0]] >> 32, n[2]);
 }
 
 static void see_pass(const uint32_t *n)
 {
-    const struct nimbleshale_pass *pass = pass_at(n[0]);
-    expect("number", pass->number, n[1]);
-    expect("key", pass->key, n[2]);
-    expect("weight", pass->weight, n[3]);
-    expect("start", pass->start, n[4]);
+    const struct nimbleshale_pass pass = nimbleshale_store_pass(&store, checked_place(n[0]));
+    expect("number", pass.number, n[1]);
+    expect("key", pass.key, n[2]);
+    expect("weight", pass.weight, n[3]);
+    expect("start", pass.start, n[4]);
 }
 
 /* What is written by hand. */
 
 static void write_used(const uint32_t *n)
 {
-    store.start_pages = n[0];
-    store.start_roots = n[1];
+    store.start_pages_used = n[0];
+    store.start_roots_used = n[1];
 }
 
 /* A page's header: page, level, rows, low key, high key. It is born at 0. */
@@ -292,16 +292,12 @@ static void write_started(const uint32_t *n)
 
 static void write_open(const uint32_t *n)
 {
-    store.open = n[0];
+    store.count_open = n[0];
 }
 
 static void write_pass(const uint32_t *n)
 {
-    struct nimbleshale_pass *pass = pass_at(n[0]);
-    pass->number = n[1];
-    pass->key = n[2];
-    pass->weight = n[3];
-    pass->start = n[4];
+    memcpy(store.passes + 4 * checked_place(n[0]), n + 1, 4 * sizeof *n);
 }
 
 /* memory PAGES ROOTS: for each tree */

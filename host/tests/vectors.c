@@ -35,20 +35,16 @@ static size_t numbers_of(const char *text, int base, uint64_t *numbers, size_t l
 
 static void load_head(struct nimbleshale_store *store, const uint64_t *numbers)
 {
-    size_t place;
+    size_t at;
     store->last = (uint32_t)numbers[0];
     store->started = (uint32_t)numbers[1];
-    store->open = (uint32_t)numbers[2];
-    for (place = 0; place < NIMBLESHALE_OPEN_PASSES; place++) {
-        store->passes[place].number = (uint32_t)numbers[3 + 4 * place];
-        store->passes[place].key = (uint32_t)numbers[4 + 4 * place];
-        store->passes[place].weight = (uint32_t)numbers[5 + 4 * place];
-        store->passes[place].start = (uint32_t)numbers[6 + 4 * place];
-    }
-    store->start_pages = (uint32_t)numbers[259];
-    store->start_roots = (uint32_t)numbers[260];
-    store->end_pages = (uint32_t)numbers[261];
-    store->end_roots = (uint32_t)numbers[262];
+    store->count_open = (uint32_t)numbers[2];
+    for (at = 0; at < NIMBLESHALE_PASS_NUMBERS; at++)
+        store->passes[at] = (uint32_t)numbers[3 + at];
+    store->start_pages_used = (uint32_t)numbers[259];
+    store->start_roots_used = (uint32_t)numbers[260];
+    store->end_pages_used = (uint32_t)numbers[261];
+    store->end_roots_used = (uint32_t)numbers[262];
 }
 
 /* A slice with the numbers of a line. */
@@ -69,16 +65,16 @@ static uint8_t call_store(struct nimbleshale_store *store, char kind, const uint
     uint8_t refusal = 255;
     answers[0] = answers[1] = answers[2] = 0;
     switch (kind) {
-    case 'o': return nimbleshale_open_store(store);
-    case 'e': return nimbleshale_record_end(store, a, b);
+    case 'o': return nimbleshale_store_open(store);
+    case 'e': return nimbleshale_store_end(store, a, b);
     case 's':
-        refusal = nimbleshale_record_start(store, a, b, c, &number);
+        refusal = nimbleshale_store_start(store, a, b, c, &number);
         answers[0] = number;
         if (refusal != 0 && number != UNTOUCHED)
             return 255;
         return refusal;
-    case 'l': refusal = a == 0 ? nimbleshale_look_up_starts(store, b, c, &totals) : nimbleshale_look_up_ends(store, b, c, &totals); break;
-    case 'q': refusal = nimbleshale_ask(store, a, b, c, d, &totals); break;
+    case 'l': refusal = a == 0 ? nimbleshale_store_lookup_starts(store, b, c, &totals) : nimbleshale_store_lookup_ends(store, b, c, &totals); break;
+    case 'q': refusal = nimbleshale_store_question(store, a, b, c, d, &totals); break;
     }
     answers[0] = totals.count;
     answers[1] = totals.sum;
@@ -126,9 +122,9 @@ static void try_traces(FILE *file)
         case 'R':
             switch (slices++) {
             case 0: store.start_table = load_slice(line + 1, &store.start_table_length); break;
-            case 1: store.start_list = load_slice(line + 1, &store.start_list_length); break;
+            case 1: store.start_roots = load_slice(line + 1, &store.start_roots_length); break;
             case 2: store.end_table = load_slice(line + 1, &store.end_table_length); break;
-            case 3: store.end_list = load_slice(line + 1, &store.end_list_length); break;
+            case 3: store.end_roots = load_slice(line + 1, &store.end_roots_length); break;
             }
             break;
         case 'o': case 's': case 'e': case 'l': case 'q':
@@ -182,11 +178,11 @@ static int run_command(struct stream *stream)
     stream->input += 1 + operands[kind];
     stream->left -= 1 + operands[kind];
     if (kind == 1)
-        refusal = nimbleshale_record_start(&stream->store, operand(at, 4), operand(at + 4, 2), operand(at + 6, 2), &number);
+        refusal = nimbleshale_store_start(&stream->store, operand(at, 4), operand(at + 4, 2), operand(at + 6, 2), &number);
     else if (kind == 2)
-        refusal = nimbleshale_record_end(&stream->store, operand(at, 4), operand(at + 4, 4));
+        refusal = nimbleshale_store_end(&stream->store, operand(at, 4), operand(at + 4, 4));
     else
-        refusal = nimbleshale_ask(&stream->store, operand(at, 2), operand(at + 2, 2), operand(at + 4, 4), operand(at + 8, 4), &totals);
+        refusal = nimbleshale_store_question(&stream->store, operand(at, 2), operand(at + 2, 2), operand(at + 4, 4), operand(at + 8, 4), &totals);
     put_number(stream, refusal, 1);
     if (refusal != 0)
         return 1;
@@ -231,7 +227,7 @@ static void try_streams(FILE *file)
             exit(2);
         stream.written = 0;
         wanted = bytes_of(out, expected);
-        judge(nimbleshale_open_store(&stream.store) == 0, name);
+        judge(nimbleshale_store_open(&stream.store) == 0, name);
         while (stream.left > 0) {
             commands++;
             if (!run_command(&stream))

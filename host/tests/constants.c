@@ -1,0 +1,162 @@
+/* Every constant of the header and every text of a refusal, stated once more; the words of a table, the pass in a place, and what becomes of wide
+ * numbers. No archive is linked.
+ *
+ * constants NAME..: the names of all constants that the header has, without NIMBLESHALE_, each of which must be stated here */
+#include <nimbleshale.h>
+#include <stdio.h>
+#include <string.h>
+
+static unsigned long compared, differed;
+
+static void expect(const char *what, uint64_t found, uint64_t wanted)
+{
+    compared++;
+    if (found == wanted)
+        return;
+    differed++;
+    printf("differs: %s: found %llu, wanted %llu\n", what, (unsigned long long)found, (unsigned long long)wanted);
+}
+
+#define STATED(name, number) {#name, NIMBLESHALE_##name, number}
+
+static const struct {
+    const char *name;
+    uint64_t found, wanted;
+} constants[] = {
+    STATED(KEYS, 30000),
+    STATED(HIGHEST_KEY, 29999),
+    STATED(HIGHEST_WEIGHT, 10000),
+    STATED(TICKS, 4294967295u),
+    STATED(HIGHEST_TICK, 4294967294u),
+    STATED(OPEN_PASSES, 64),
+    STATED(PASSES, 1000000),
+    STATED(PAGES, 1000000),
+    STATED(PAGE_WORDS, 260),
+    STATED(PASS_NUMBERS, 256),
+    STATED(LOOKUP_PAGES, 4),
+    STATED(QUESTION_PAGES, 16),
+    STATED(ENTRY_PAGES, 7),
+    STATED(ACCEPTED, 0),
+    STATED(REFUSED_KEY, 1),
+    STATED(REFUSED_BAND, 2),
+    STATED(REFUSED_WEIGHT, 3),
+    STATED(REFUSED_TICK, 4),
+    STATED(REFUSED_INTERVAL, 5),
+    STATED(REFUSED_COMMAND, 6),
+    STATED(REFUSED_CUT_SHORT, 7),
+    STATED(REFUSED_MEMORY, 8),
+    STATED(REFUSED_HEAD, 20),
+    STATED(REFUSED_EARLIER, 21),
+    STATED(REFUSED_NOT_OPEN, 22),
+    STATED(REFUSED_OWN_START, 23),
+    STATED(REFUSED_ALL_OPEN, 24),
+    STATED(REFUSED_ALL_STARTED, 25),
+    STATED(REFUSED_SPOILED, 26),
+    STATED(REFUSED_NO_PAGES, 27),
+    STATED(REFUSED_NO_ROOT, 28),
+};
+
+#define CONSTANTS (sizeof constants / sizeof *constants)
+
+static void see_constants(void)
+{
+    for (size_t at = 0; at < CONSTANTS; at++)
+        expect(constants[at].name, constants[at].found, constants[at].wanted);
+}
+
+/* Every name that the header has is stated, and nothing else is. */
+static void see_names(int count, char **names)
+{
+    for (int name = 0; name < count; name++) {
+        size_t at = 0;
+        while (at < CONSTANTS && strcmp(constants[at].name, names[name]) != 0)
+            at++;
+        expect(names[name], at < CONSTANTS, 1);
+    }
+    expect("number of constants", (uint64_t)count, CONSTANTS);
+}
+
+/* By the number of the refusal; one that has no text here is unknown. */
+static const char *const texts[256] = {
+    [0] = "accepted",
+    [1] = "key or k1 above 29,999, or k2 above 30,000",
+    [2] = "k1 not below k2",
+    [3] = "weight 0 or above 10,000",
+    [4] = "tick 4,294,967,295",
+    [5] = "t1 not below t2",
+    [6] = "unknown command byte",
+    [7] = "command cut short",
+    [8] = "page table under 260 words or empty root list",
+    [20] = "head that doesn't fit",
+    [21] = "tick before the last tick",
+    [22] = "no open pass of that number",
+    [23] = "end at the pass's own start tick",
+    [24] = "64 passes open",
+    [25] = "1,000,000 passes started",
+    [26] = "spoiled page met",
+    [27] = "too few pages left",
+    [28] = "root list full",
+};
+
+static void see_texts(void)
+{
+    for (int refusal = 0; refusal < 256; refusal++) {
+        const char *found = nimbleshale_refusal_text((uint8_t)refusal), *wanted = texts[refusal];
+        compared++;
+        if (strcmp(found, wanted == NULL ? "unknown refusal" : wanted) == 0)
+            continue;
+        differed++;
+        printf("differs: refusal %d: %s\n", refusal, found);
+    }
+}
+
+static void see_sizes(void)
+{
+    expect("words of no page", NIMBLESHALE_TABLE_WORDS(0), 0);
+    expect("words of a page", NIMBLESHALE_TABLE_WORDS(1), 260);
+    expect("words of 2 + 1 pages", NIMBLESHALE_TABLE_WORDS(2 + 1), 780);
+    expect("words of 1,000,000 pages", NIMBLESHALE_TABLE_WORDS(1000000), 260000000);
+    expect("words of a table are a size_t", sizeof NIMBLESHALE_TABLE_WORDS(1), sizeof(size_t));
+    /* Over 2^32 words, where a size_t has room for them. */
+    if (sizeof(size_t) > 4)
+        expect("words of 20,000,000 pages", NIMBLESHALE_TABLE_WORDS(20000000), 5200000000u);
+}
+
+static void see_passes(void)
+{
+    static struct nimbleshale_store store;
+    for (uint32_t at = 0; at < NIMBLESHALE_PASS_NUMBERS; at++)
+        store.passes[at] = 1000 + at;
+    for (uint32_t place = 0; place < NIMBLESHALE_OPEN_PASSES; place++) {
+        const struct nimbleshale_pass pass = nimbleshale_store_pass(&store, place);
+        expect("number", pass.number, 1000 + 4 * place);
+        expect("key", pass.key, 1001 + 4 * place);
+        expect("weight", pass.weight, 1002 + 4 * place);
+        expect("start", pass.start, 1003 + 4 * place);
+    }
+}
+
+static void see_narrowed(void)
+{
+    const uint64_t beyond = 4294967296u;
+    expect("0 narrowed", nimbleshale_narrowed(0), 0);
+    expect("5 narrowed", nimbleshale_narrowed(5), 5);
+    expect("2^31 + 5 narrowed", nimbleshale_narrowed(2147483653u), 2147483653u);
+    expect("2^32 - 2 narrowed", nimbleshale_narrowed(beyond - 2), 4294967294u);
+    expect("2^32 - 1 narrowed", nimbleshale_narrowed(beyond - 1), 4294967295u);
+    expect("2^32 narrowed", nimbleshale_narrowed(beyond), 4294967295u);
+    expect("2^32 + 5 narrowed", nimbleshale_narrowed(beyond + 5), 4294967295u);
+    expect("2^64 - 1 narrowed", nimbleshale_narrowed(18446744073709551615u), 4294967295u);
+}
+
+int main(int count, char **names)
+{
+    see_constants();
+    see_names(count - 1, names + 1);
+    see_texts();
+    see_sizes();
+    see_passes();
+    see_narrowed();
+    printf("constants: %lu compared, %lu differed\n", compared, differed);
+    return differed != 0;
+}

@@ -1,0 +1,27 @@
+/* Every call that answers with a refusal, made for nothing: the compiler must warn of each, 12 times in all. This program is never run. */
+#include <nimbleshale.h>
+
+static uint32_t number, passes[NIMBLESHALE_PASS_NUMBERS];
+static uint64_t word, table[NIMBLESHALE_TABLE_WORDS(1)];
+static struct nimbleshale_store store;
+static struct nimbleshale_totals totals;
+
+#define LENT &number, &number, &number, &number, &number, &number, &number, passes, table, 260, &word, 1, table, 260, &word, 1
+#define SHOWN 0, 0, 0, 0, 0, 0, 0, passes, table, 260, &word, 1, table, 260, &word, 1
+
+int main(void)
+{
+    nimbleshale_open(LENT);
+    nimbleshale_start(LENT, 0, 0, 0, &number);
+    nimbleshale_end(LENT, 0, 0);
+    nimbleshale_question(SHOWN, 0, 0, 0, 0, &word, &word, &number);
+    nimbleshale_lookup_starts(SHOWN, 0, 0, &word, &word, &number);
+    nimbleshale_lookup_ends(SHOWN, 0, 0, &word, &word, &number);
+    nimbleshale_store_open(&store);
+    nimbleshale_store_start(&store, 0, 0, 0, &number);
+    nimbleshale_store_end(&store, 0, 0);
+    nimbleshale_store_question(&store, 0, 0, 0, 0, &totals);
+    nimbleshale_store_lookup_starts(&store, 0, 0, &totals);
+    nimbleshale_store_lookup_ends(&store, 0, 0, &totals);
+    return 0;
+}

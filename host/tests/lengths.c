@@ -1,0 +1,75 @@
+/* The header's short calls on slices of four different lengths. In each case one slice is too short, by a word, for what the head says that it
+ * holds, and each of the three others would be long enough in its place: a length that is handed for another slice is an answer that differs,
+ * or a crash, since each slice ends right before memory that may not be touched. */
+#define _DEFAULT_SOURCE
+#include "lent.h"
+
+/* No slice is too short. */
+#define NONE 4
+
+static unsigned long compared, differed;
+
+enum call { OPEN, START, END, QUESTION, LOOKUP_STARTS, LOOKUP_ENDS, CALLS };
+
+static const char *const names[CALLS] = {"open", "start", "end", "question", "lookup_starts", "lookup_ends"};
+
+static uint8_t make(struct nimbleshale_store *store, enum call call)
+{
+    struct nimbleshale_totals totals;
+    uint32_t number;
+    switch (call) {
+    case OPEN: return nimbleshale_store_open(store);
+    case START: return nimbleshale_store_start(store, 10, 450, 100, &number);
+    case END: return nimbleshale_store_end(store, 10, 0);
+    case QUESTION: return nimbleshale_store_question(store, 1, 30000, 1, 20, &totals);
+    case LOOKUP_STARTS: return nimbleshale_store_lookup_starts(store, 10, 450, &totals);
+    case LOOKUP_ENDS: return nimbleshale_store_lookup_ends(store, 10, 450, &totals);
+    default: return 255;
+    }
+}
+
+/* A store over slices that are long enough for all that they shall hold, or one of them not quite. An opening needs a page and a root entry a
+ * tree. The other calls get a head that says that two are used: the second root entry is that of page 0 again, at tick 0. */
+static void begin(struct nimbleshale_store *store, enum call call, int too_short)
+{
+    const size_t used = call == OPEN ? 1 : 2, page = NIMBLESHALE_PAGE_WORDS;
+    size_t lengths[4] = {used * page + 11, used * page + 12, used * page + 13, used * page + 14};
+    uint32_t number;
+    if (too_short != NONE)
+        lengths[too_short] = (too_short % 2 == 0 ? used * page : used) - 1;
+    lend_store(store, lengths[0], lengths[1], lengths[2], lengths[3]);
+    if (call == OPEN)
+        return;
+    /* Opened and given a pass as long as the slices are, and then said to hold more. */
+    compared += 2;
+    if (nimbleshale_store_open(store) != 0 || nimbleshale_store_start(store, 5, 450, 100, &number) != 0)
+        differed++;
+    store->start_pages_used = store->start_roots_used = store->end_pages_used = store->end_roots_used = 2;
+    if (store->start_roots_length > 1)
+        store->start_roots[1] = 0;
+    if (store->end_roots_length > 1)
+        store->end_roots[1] = 0;
+}
+
+static void try_case(enum call call, int too_short)
+{
+    struct nimbleshale_store store;
+    uint8_t wanted = too_short == NONE ? 0 : call == OPEN ? NIMBLESHALE_REFUSED_MEMORY : NIMBLESHALE_REFUSED_HEAD, refusal;
+    begin(&store, call, too_short);
+    refusal = make(&store, call);
+    compared++;
+    if (refusal != wanted) {
+        differed++;
+        printf("differs: nimbleshale_store_%s, slice %d too short: %d, not %d\n", names[call], too_short, refusal, wanted);
+    }
+    give_back_store(&store);
+}
+
+int main(void)
+{
+    for (int call = 0; call < CALLS; call++)
+        for (int too_short = 0; too_short <= NONE; too_short++)
+            try_case((enum call)call, too_short);
+    printf("lengths: %lu compared, %lu differed\n", compared, differed);
+    return differed != 0;
+}
