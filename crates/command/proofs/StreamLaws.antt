@@ -13,7 +13,7 @@ use borrow.Author.Tests.{lt-ltb, le-ltb}
 use Rattle.store.specs.Trees.{Store}
 use Rattle.store.specs.Calls.{Call, start, end, question}
 use Rattle.store.specs.Performing.{perform}
-use Rattle.command.specs.Bytes.{numberOf, operand}
+use Rattle.codec.specs.Bytes.{numberOf, operand}
 use Rattle.command.specs.Stream.{Kind, unknown, command, startCommand, endCommand, questionCommand, kindOf, operandBytes, cutShort, Ran, stops, answers, runKind, runOne, thenRest, runFor}
 
 -- The rest of the input, where two ways to go on agree on it

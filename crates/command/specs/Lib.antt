@@ -1,3 +1,2 @@
 -- The command program: document 01, "Commands".
-pub mod Bytes
 pub mod Stream

@@ -12,7 +12,7 @@ use Rattle.store.specs.Head.{openedHead}
 use Rattle.store.specs.Answers.{refusalOf, valuesOf, Answered}
 use Rattle.store.specs.Calls.{Call, opening, start, end, question}
 use Rattle.store.specs.Performing.{perform}
-use Rattle.command.specs.Bytes.{bytesOf, operand}
+use Rattle.codec.specs.Bytes.{bytesOf, operand}
 
 -- A command byte and how many operand bytes follow it
 pub data Kind : Type 0 where

@@ -7,10 +7,10 @@ use lib.ListN.{length, length-append}
 use Rattle.words.specs.Overwrite.{overwrite}
 use Rattle.words.proofs.OverwriteLaws.{overwrite-more}
 use Rattle.store.specs.declared.types.Answer.the-variants.{Started, Totals}
-use Rattle.command.specs.Bytes.{bytesOf}
+use Rattle.codec.specs.Bytes.{bytesOf}
 use Rattle.command.specs.Stream.{written}
 use Rattle.interpret.specs.Runs.{longestAnswer}
-use Rattle.interpret.proofs.ByteLaws.{bytes-length}
+use Rattle.codec.proofs.ByteLaws.{bytes-length}
 
 -- A code with no value behind it
 pub code-only : (n : ℕ) → bytesOf 1 n ++ [] ≡ bytesOf 1 n

@@ -15,7 +15,7 @@ use Rattle.store.specs.Calls.{Call, start, end, question}
 use Rattle.store.specs.Performing.{refusal, served, perform}
 use Rattle.updates.specs.declared.types.Reply.{Reply}
 use Rattle.updates.specs.Replies.{RepliedAs}
-use Rattle.command.specs.Bytes.{operand}
+use Rattle.codec.specs.Bytes.{operand}
 use Rattle.command.specs.Stream as stream
 use Rattle.command.specs.Stream.{Kind, unknown, command, startCommand, endCommand, questionCommand, kindOf, written, unknownCommand, cutShort, stops, answers, runKind, runOne}
 use Rattle.interpret.specs.declared.run.Ran.{Ran}

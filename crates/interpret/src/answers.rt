@@ -1,5 +1,5 @@
 // Answers as the bytes that a command writes.
-use crate::bytes::put_number;
+use codec::put_number;
 use store::Answer;
 ghost use mathlib.Core.Path.{_≡_};
 ghost use Prim.Native.Nat.{_≤_};

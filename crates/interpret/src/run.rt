@@ -1,8 +1,8 @@
 // One command: its operands taken from bytes, a call of the store, and its answer as bytes.
 use crate::answers::put_answer;
-use crate::bytes::number2;
-use crate::bytes::number4;
-use crate::bytes::put_number;
+use codec::number2;
+use codec::number4;
+use codec::put_number;
 use store::Head;
 ghost use mathlib.Core.Path.{_≡_};
 ghost use mathlib.Core.Bool.{false};

@@ -16,7 +16,7 @@ use Rattle.tree.specs.Plan.{descentSound, plan, enter}
 use Rattle.store.specs.Head.{findPass, passesFit, numbersRise, headFits}
 use Rattle.store.specs.Refusals.{firstMet}
 use Rattle.store.specs.Performing.{refusal, served, performAll, storeAfter}
-use Rattle.command.specs.Bytes.{numberOf, bytesOf}
+use Rattle.codec.specs.Bytes.{numberOf, bytesOf}
 use Rattle.command.specs.Stream.{runFor, programLent, programStore, output}
 
 unfoldable pub pages : Unit {0}

@@ -22,11 +22,11 @@ cast-word-at c = search needs
 word-at-requires : tie.Need-word-at-requires Inv-loop μ-loop
 word-at-requires c κs = search needs
 
-birth-of-requires : tie.Need-birth-of-requires Inv-loop μ-loop
-birth-of-requires c κs = search needs
+root-birth-requires : tie.Need-root-birth-requires Inv-loop μ-loop
+root-birth-requires c κs = search needs
 
-end-of-requires : tie.Need-end-of-requires Inv-loop μ-loop
-end-of-requires c κs = search needs
+root-page-requires : tie.Need-root-page-requires Inv-loop μ-loop
+root-page-requires c κs = search needs
 
 returns : tie.Need-returns Inv-loop μ-loop
 returns c = search needs
@@ -50,8 +50,8 @@ root-page-spec =
     sub-left
     cast-word-at
     word-at-requires
-    birth-of-requires
-    end-of-requires
+    root-birth-requires
+    root-page-requires
     returns
     loop-less
     loop-again

@@ -2,7 +2,7 @@ use Prim.Native.Nat.{ℕ}
 use mathlib.Core.Path.{ap, _∙_}
 use mathlib.Core.List.{List}
 use Rattle.words.specs.Overwrite.{overwrite}
-use Rattle.command.specs.Bytes.{bytesOf}
+use Rattle.codec.specs.Bytes.{bytesOf}
 use Rattle.interpret.proofs.AnswerLaws.{totals-bytes}
 use borrow.Author.Needs.{needs}
 use Rattle.interpret.proofs.answers.put_totals.Statement.{statement}

@@ -3,7 +3,7 @@ ghost use mathlib.Core.Path.{_≡_};
 ghost use Prim.Native.Nat.{_+_, _≤_};
 ghost use lib.ListN.{length};
 ghost use Rattle.words.specs.Overwrite.{overwrite};
-ghost use Rattle.command.specs.Bytes.{bytesOf, operand};
+ghost use Rattle.codec.specs.Bytes.{bytesOf, operand};
 
 // A byte as a wider number: with its own contract, so that a sum of bytes is known not to wrap.
 fn wide(byte: u8) -> u32

@@ -4,11 +4,11 @@ use mathlib.Core.Path.{_≡_, refl, ap, ap₂, sym, _∙_}
 use mathlib.Core.List.{List}
 use lib.ListN.{length, getD, set, take, drop, length-set}
 use Rattle.words.specs.Overwrite.{overwrite}
-use Rattle.command.specs.Bytes.{bytesOf}
-use Rattle.interpret.proofs.ByteLaws.{bytes-length, left-head, put-none, put-more, put-all}
+use Rattle.codec.specs.Bytes.{bytesOf}
+use Rattle.codec.proofs.ByteLaws.{bytes-length, left-head, put-none, put-more, put-all}
 use borrow.Author.Needs.{needs}
-use Rattle.interpret.proofs.bytes.put_number.Statement.{statement}
-use Rattle.interpret.proofs.bytes.put_number.Tie as tie
+use Rattle.codec.proofs.numbers.put_number.Statement.{statement}
+use Rattle.codec.proofs.numbers.put_number.Tie as tie
 
 abbrev Inv-loop : tie.InvT-loop
 Inv-loop out₀ from count number rest₀ at₀ out rest at =

@@ -1,8 +1,8 @@
 use native.Mathlib.Omega.{arith}
-use Rattle.interpret.proofs.ByteLaws.{spell4}
+use Rattle.codec.proofs.ByteLaws.{spell4}
 use borrow.Author.Needs.{needs}
-use Rattle.interpret.proofs.bytes.number4.Statement.{statement}
-use Rattle.interpret.proofs.bytes.number4.Tie as tie
+use Rattle.codec.proofs.numbers.number4.Statement.{statement}
+use Rattle.codec.proofs.numbers.number4.Tie as tie
 
 shared-slice-read-wide : tie.Need-shared-slice-read-wide
 shared-slice-read-wide c = search needs

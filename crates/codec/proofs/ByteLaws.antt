@@ -8,7 +8,7 @@ use lib.ListN.{length, getD, set, take, drop}
 use lib.Seq.{take-suc, drop-cons, take-all, length-take-le}
 use Rattle.words.specs.Overwrite.{overwrite}
 use Rattle.words.proofs.OverwriteLaws.{overwrite-none, overwrite-one, overwrite-more, overwrite-length}
-use Rattle.command.specs.Bytes.{numberOf, bytesOf, operand}
+use Rattle.codec.specs.Bytes.{numberOf, bytesOf, operand}
 
 -- The first bytes from a place on
 front2 : (bytes : List ℕ) (from : ℕ) → from + 2 ≤ length bytes → take 2 (drop from bytes) ≡ getD bytes from 0 ∷ (getD bytes (from + 1) 0 ∷ [])
