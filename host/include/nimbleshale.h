@@ -171,7 +171,7 @@ uint8_t nimbleshale_end(uint32_t *last, uint32_t *started, uint32_t *count_open,
  * Refusals: 1, 2, 5, 20, 26.
  * Accepted: *count becomes the number of passes with k1 <= key < k2 that started before t2 and are open or ended after t1, *sum the sum of
  * their weights, *pages the pages opened, at most 16. Nothing else changes, accepted or not.
- * Stack: 4,840 bytes.
+ * Stack: 4,864 bytes.
  */
 NIMBLESHALE_MUST_USE
 uint8_t nimbleshale_question(uint32_t last, uint32_t started, uint32_t count_open, uint32_t start_pages_used, uint32_t start_roots_used,
@@ -187,7 +187,7 @@ uint8_t nimbleshale_question(uint32_t last, uint32_t started, uint32_t count_ope
  * Refusals: 1, 4, 20, 26.
  * Accepted: *count becomes the number of passes with start <= t and key <= k, *sum the sum of their weights, *pages the pages opened, at
  * most 4. Nothing else changes, accepted or not.
- * Stack: 3,960 bytes.
+ * Stack: 4,000 bytes.
  */
 NIMBLESHALE_MUST_USE
 uint8_t nimbleshale_lookup_starts(uint32_t last, uint32_t started, uint32_t count_open, uint32_t start_pages_used,

@@ -52,9 +52,11 @@ spelled (w ∷ widths) (v ∷ values) = bytesOf w v ++ spelled widths values
 abbrev pub written : Answer → List ℕ
 written a = bytesOf 1 (refusalOf a) ++ spelled (widthsOf a) (valuesOf a)
 
+-- "6 unknown command byte."
 abbrev pub unknownCommand : List ℕ
 unknownCommand = 6 ∷ []
 
+-- "7 command cut short."
 abbrev pub cutShort : List ℕ
 cutShort = 7 ∷ []
 
