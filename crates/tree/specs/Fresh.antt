@@ -11,7 +11,7 @@ use Rattle.tree.specs.Row.{rowLimit, rowWords, encodeRows}
 unfoldable pub zeros : ℕ → List ℕ
 zeros n = replicate n 0
 
--- The 260 words of a page with these rows
+-- All words of a page with these rows
 unfoldable pub freshPage : (level low high birth : ℕ) → List Row → List ℕ
 freshPage level low high birth rows =
     level ∷ (length rows ∷ (keyRange low high ∷ (birth ∷ (encodeRows rows ++ zeros (rowWords * (rowLimit - length rows))))))
