@@ -101,7 +101,9 @@ fn put_rows(
     requires { ⌜ to - from ≤ rowLimit ⌝ }
     requires { ⌜ InPage (now words) (drop from (now order)) ⌝ }
     requires { ⌜ (number + 1) * pageWords ≤ length (now table) ⌝ }
-    ensures { λ _. ⌜ now (table .exit) ≡ putPage (now (table .entry)) number (encodePage (gainPage gain (fillPage (now (words .entry)) t (emptyPage (word (now (words .entry)) 0) low high t) (between from to (now (order .entry)))))) ⌝ }
+    ensures { λ _. do
+      let page : Page = fillPage (now (words .entry)) t (emptyPage (word (now (words .entry)) 0) low high t) (between from to (now (order .entry)))
+      ⌜ now (table .exit) ≡ putPage (now (table .entry)) number (encodePage (gainPage gain page)) ⌝ }
 {
     let page = filled(words, order, from, to, low, high, t);
     put_page(table, number, gain_first(page, gain));
