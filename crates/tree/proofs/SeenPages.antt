@@ -195,15 +195,15 @@ module _ (measure : Value → ℕ) (m : Measure measure) (tree : ours.Tree) (p :
   fits-at : (page : ℕ) → All Fits (rowsOf (pageAt (tree .table) page))
   fits-at page = rows-fit (pageAt (tree .table) page) headerWords (word (pageAt (tree .table) page) 1)
 
-  abbrev HasRoom : Written → Type 0
-  HasRoom so = (tree .used .pages + so .made) * pageWords ≤ length (tree .table)
+  abbrev TableHolds : Written → Type 0
+  TableHolds so = (tree .used .pages + so .made) * pageWords ≤ length (tree .table)
 
   unchanged : LooksSame w tree (tree .table)
   unchanged x l = record { level = refl; range = refl; rows = refl }
 
   -- A page whose step writes no other page first
   alone : (page : ℕ) (rows : List Row) → page < used → All Fits rows → length rows ≤ mostRows → seen w rows ≡ seen w (rowsAt page)
-      → HasRoom (finishPage tree (p .tick) (unwritten tree) page rows)
+      → TableHolds (finishPage tree (p .tick) (unwritten tree) page rows)
       → LooksSame w tree (finishPage tree (p .tick) (unwritten tree) page rows .table)
   alone page rows in-use fits few lookupStored =
       finish-looks tree (p .tick) w (unwritten tree) page rows in-use refl unchanged fits few lookupStored
@@ -211,16 +211,16 @@ module _ (measure : Value → ℕ) (m : Measure measure) (tree : ours.Tree) (p :
   module _ (IsKnown : ℕ → Type 0) (known : IsKnown (p .key)) where
     index-looks : (n : ℕ)
         → ((page lo hi : ℕ) (tr : Tree n) → lo ≤ p .key → p .key < hi → hi ≤ keyLimit → Holds n store used (p .tick) lo hi page tr
-        → Full IsKnown n tr → HasRoom (enterFrom tree p n page) → LooksSame w tree (enterFrom tree p n page .table))
+        → Full IsKnown n tr → TableHolds (enterFrom tree p n page) → LooksSame w tree (enterFrom tree p n page .table))
         → (page lo hi : ℕ) (tr : Tree (suc n)) → hi ≤ keyLimit → Cut (Holds n store used (p .tick)) lo hi (p .key) tr
-        → Holds (suc n) store used (p .tick) lo hi page tr → Full IsKnown (suc n) tr → HasRoom (enterFrom tree p (suc n) page)
+        → Holds (suc n) store used (p .tick) lo hi page tr → Full IsKnown (suc n) tr → TableHolds (enterFrom tree p (suc n) page)
         → LooksSame w tree (enterFrom tree p (suc n) page .table)
     unfolding enterFrom
     index-looks n ih page lo hi tr top (cut xs y ys c i j u d) h full = go (split (p .key) (y .entry .low))
       where
         Goal : Search Placed → Type 0
         Goal s =
-            HasRoom (enterBelow tree p page (λ (child : ℕ). enterFrom tree p n child) s)
+            TableHolds (enterBelow tree p page (λ (child : ℕ). enterFrom tree p n child) s)
             → LooksSame w tree (enterBelow tree p page (λ (child : ℕ). enterFrom tree p n child) s .table)
 
         go : (p .key ≤ y .entry .low) ⊎ (y .entry .low < p .key) → Goal (rowAround p (rowsAt page))
@@ -231,7 +231,7 @@ module _ (measure : Value → ℕ) (m : Measure measure) (tree : ours.Tree) (p :
         go (inr l) =
             subst Goal (sym (r .is-found))
             (subst
-            (λ (child : ℕ). HasRoom (enterAbove tree p page (r .item) (enterFrom tree p n child))
+            (λ (child : ℕ). TableHolds (enterAbove tree p page (r .item) (enterFrom tree p n child))
             → LooksSame w tree (enterAbove tree p page (r .item) (enterFrom tree p n child) .table))
             (sym is-child) above)
           where
@@ -259,9 +259,9 @@ module _ (measure : Value → ℕ) (m : Measure measure) (tree : ours.Tree) (p :
                 enter-agrees measure m tree p now small IsKnown known n (y .entry .page) (y .entry .low) (y .entry .high) (y .below) i j
                 (omega (arith, right)) u full-child
 
-            above : HasRoom (enterAbove tree p page (r .item) so) → LooksSame w tree (enterAbove tree p page (r .item) so .table)
+            above : TableHolds (enterAbove tree p page (r .item) so) → LooksSame w tree (enterAbove tree p page (r .item) so .table)
             above room =
-                let child-room : HasRoom so = omega (arith, finish-made tree (p .tick) so page rows) in
+                let child-room : TableHolds so = omega (arith, finish-made tree (p .tick) so page rows) in
                 finish-looks tree (p .tick) w so page rows (h .in-use) (child .0 .table child-room .0)
                 (ih (y .entry .page) (y .entry .low) (y .entry .high) (y .below) i j (omega (arith, right)) u full-child child-room)
                 (relink-fits (p .tick) (r .item) (gainRows p (rowsAt page)) (y .entry .low) (y .entry .high) (omega arith)
@@ -277,7 +277,7 @@ module _ (measure : Value → ℕ) (m : Measure measure) (tree : ours.Tree) (p :
                 (relink-seen p w early (rowsAt page) (r .item) (r .is-found) (so .became)) room
 
     pub enter-looks : (n page lo hi : ℕ) (tr : Tree n) → lo ≤ p .key → p .key < hi → hi ≤ keyLimit
-        → Holds n store used (p .tick) lo hi page tr → Full IsKnown n tr → HasRoom (enterFrom tree p n page)
+        → Holds n store used (p .tick) lo hi page tr → Full IsKnown n tr → TableHolds (enterFrom tree p n page)
         → LooksSame w tree (enterFrom tree p n page .table)
     unfolding enterFrom
     enter-looks zero page lo hi tr i j top h full =
