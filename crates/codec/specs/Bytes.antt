@@ -14,5 +14,5 @@ bytesOf zero x = []
 bytesOf (suc n) x = x % 256 ∷ bytesOf n (x / 256)
 
 -- The number in `n` bytes from a place on
-abbrev pub operand : List ℕ → ℕ → ℕ → ℕ
+abbrev pub operand : (bytes : List ℕ) → (from n : ℕ) → ℕ
 operand bytes from n = numberOf (take n (drop from bytes))

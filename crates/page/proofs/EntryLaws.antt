@@ -31,7 +31,7 @@ module _ (page : List ℕ) (n : ℕ) (small : n ≤ mostRows) (x : Placed) (s : 
   seated-place = omega (arith, s .within)
 
 -- The live rows among the m rows from place `from` on
-abbrev pub liveFrom : List ℕ → ℕ → ℕ → ℕ → List Placed
+abbrev pub liveFrom : (page : List ℕ) → (t from m : ℕ) → List Placed
 liveFrom page t from m = livePlaced t from (rowsFrom page (rowStart from) m)
 
 pub live-more : (page : List ℕ) (t from m : ℕ) →
@@ -52,7 +52,7 @@ live-seated page n t from (suc m) h =
     go false ih = ih
 
 -- The order of those rows
-abbrev pub orderFrom : List ℕ → ℕ → ℕ → ℕ → List Placed
+abbrev pub orderFrom : (page : List ℕ) → (t from m : ℕ) → List Placed
 orderFrom page t from m = sortBy placedLow (liveFrom page t from m)
 
 pub order-seated : (page : List ℕ) (n t from m : ℕ) → from + m ≤ n → All (Seated page n) (orderFrom page t from m)

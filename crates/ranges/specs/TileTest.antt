@@ -22,11 +22,11 @@ abbrev pub holdsKey : ℕ → ℕ → Bool
 holdsKey q e = leb (rangeLow e) q && ltb q (rangeHigh e)
 
 -- How many keys of the range low to high a range has
-abbrev pub clipped : ℕ → ℕ → ℕ → ℕ
+abbrev pub clipped : (low high e : ℕ) → ℕ
 clipped low high e = lesser (rangeHigh e) high - larger (rangeLow e) low
 
 -- The same, but an empty range counts for more than a range can have
-abbrev pub spanned : ℕ → ℕ → ℕ → ℕ
+abbrev pub spanned : (low high e : ℕ) → ℕ
 spanned low high e = cond (isEmpty e) 65536 (clipped low high e)
 
 -- A key at which a range stops is held again, unless it lies outside the range low to high

@@ -56,7 +56,7 @@ module _ (measure : Value → ℕ) where
       go true key = let x : 0 ≤ key = omega arith in simp tests
       go false key = refl
 
-  abbrev endAmount : ℕ → ℕ → ℕ → ℕ → End → ℕ
+  abbrev endAmount : (w key t k : ℕ) → End → ℕ
   endAmount w key t k stillOpen = 0
   endAmount w key t k (endedAt e) = cond (leb e t && ltb key k) w 0
 

@@ -22,7 +22,7 @@ endsAfter t1 stillOpen = true
 endsAfter t1 (endedAt e) = ltb t1 e
 
 -- Definition 1: records "whose keys are in R and whose time intervals intersect I". "It counts the passes with k1 ≤ key < k2, s < t2, and either open or e > t1"
-abbrev pub meets : ℕ → ℕ → ℕ → ℕ → Pass → Bool
+abbrev pub meets : (k1 k2 t1 t2 : ℕ) → Pass → Bool
 meets k1 k2 t1 t2 p = leb k1 (p .key) && (ltb (p .key) k2 && (ltb (p .start) t2 && endsAfter t1 (p .end)))
 
 -- The sum of a number over the items that pass a test
@@ -34,8 +34,8 @@ abbrev pub countWhere : {A : Type 0} → (A → Bool) → List A → ℕ
 countWhere {A} test xs = sumWhere (λ (x : A). 1) test xs
 
 -- "counts the passes .. and sums their weights"
-abbrev pub questionCount : ℕ → ℕ → ℕ → ℕ → List Pass → ℕ
+abbrev pub questionCount : (k1 k2 t1 t2 : ℕ) → List Pass → ℕ
 questionCount k1 k2 t1 t2 passes = countWhere (meets k1 k2 t1 t2) passes
 
-abbrev pub questionSum : ℕ → ℕ → ℕ → ℕ → List Pass → ℕ
+abbrev pub questionSum : (k1 k2 t1 t2 : ℕ) → List Pass → ℕ
 questionSum k1 k2 t1 t2 passes = sumWhere (λ (p : Pass). p .weight) (meets k1 k2 t1 t2) passes

@@ -56,7 +56,7 @@ module _ {A : Type 0} (n t : ℕ) (now : t < openEnd) (kind : PageKind A n t) (s
       not-me x e (inr (inr a)) = omega (arith, h .low, h .wide, ap (λ (z : ℕ). (s z) .low) e)
 
 module _ (t : ℕ) (now : t < openEnd) (k v : ℕ) (IsKnown : ℕ → Type 0) (known : IsKnown k) where
-  abbrev pub EntersWell : (n : ℕ) → (ℕ → Page) → ℕ → ℕ → ℕ → ℕ → Tree n → Outcome → Type 0
+  abbrev pub EntersWell : (n : ℕ) → (s : ℕ → Page) → (u lo hi p : ℕ) → Tree n → Outcome → Type 0
   EntersWell n s u lo hi p tr o =
       EnterResult (λ s′ u′ a b c x. Holds n s′ u′ t a b c x) (λ l q. lookupTree n q l) (λ s′ x l. potential n s′ x l) n t s u lo hi p
       (λ q. lookupTree n q tr + onlyIf (leb k q) v) (λ b l. Full IsKnown n l × (cond b 20 (slotCount n tr) ≤ slotCount n l))

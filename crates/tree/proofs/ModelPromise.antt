@@ -70,7 +70,7 @@ abbrev pub Apart : ℕ → ℕ → ℕ → Page → Type 0
 Apart n lo hi g = (n < g .level) ⊎ ((g .low < lo) ⊎ (hi ≤ g .low))
 
 -- Entering a point at tick t into page p of the store s, of which u pages were in use
-pub record EnterResult {X : Type 0} (H : (ℕ → Page) → ℕ → ℕ → ℕ → ℕ → X → Type 0) (W : X → ℕ → ℕ) (R : (ℕ → Page) → ℕ → X → ℕ)
+pub record EnterResult {X : Type 0} (H : (s : ℕ → Page) → (u lo hi p : ℕ) → X → Type 0) (W : X → ℕ → ℕ) (R : (ℕ → Page) → ℕ → X → ℕ)
     (n t : ℕ) (s : ℕ → Page) (u lo hi p : ℕ) (L : ℕ → ℕ) (G : Bool → X → Type 0) (B : ℕ) (o : Outcome) : Type 0 where
   pub yields : Yields (H (o .store) (o .used)) W L G lo hi p (o .parts)
   pub spent : Cost (H (o .store) (o .used)) W L G lo hi p (R (o .store)) (o .used) B (o .parts) yields

@@ -42,7 +42,7 @@ abbrev pub lowestOf : ℕ → List Entry → ℕ
 lowestOf default [] = default
 lowestOf default (e ∷ es) = e .low
 
-abbrev pub newPage : ℕ → ℕ → ℕ → ℕ → List Entry → Page
+abbrev pub newPage : (t n lo hi : ℕ) → List Entry → Page
 newPage t n lo hi es = record { level = n; low = lo; high = hi; rows = bornAll t es }
 
 -- Step 5: the live rows of the page g go to two new pages, or to one

@@ -53,7 +53,7 @@ lookupTree zero q tr = lookupSlots q (λ x. 0) tr
 lookupTree (suc n) q tr = lookupSlots q (lookupTree n q) tr
 
 -- Page p, and the pages under it, hold this tree at t
-abbrev pub Holds : (n : ℕ) → (ℕ → Page) → ℕ → ℕ → ℕ → ℕ → ℕ → Tree n → Type 0
+abbrev pub Holds : (n : ℕ) → (s : ℕ → Page) → (u t lo hi p : ℕ) → Tree n → Type 0
 Holds zero s u t lo hi p tr = Held (λ a b c x. Unit {0}) 0 s u t lo hi p tr
 Holds (suc n) s u t lo hi p tr = Held (Holds n s u t) (suc n) s u t lo hi p tr
 

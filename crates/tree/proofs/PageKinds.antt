@@ -15,7 +15,7 @@ use Rattle.tree.proofs.HeldTrees.{holds-frame, tree-potential-frame}
 -- A kind of page of level n, at tick t; A is what stands under a slot
 pub record PageKind (A : Type 0) (n t : ℕ) : Type 1 where
   -- What a store, of which so many pages are in use, must have under a slot of a key range and a child page. It looks at lower levels only.
-  pub under : (ℕ → Page) → ℕ → ℕ → ℕ → ℕ → A → Type 0
+  pub under : (s : ℕ → Page) → (u lo hi child : ℕ) → A → Type 0
   pub under-frame : (s s′ : ℕ → Page) (u u′ a b c : ℕ) (x : A) → u ≤ u′
       → ((z : ℕ) → z < u → (s z) .level < n → Alike t (s′ z) (s z)) → under s u a b c x → under s′ u′ a b c x
   -- The lookup under a slot
@@ -32,7 +32,7 @@ pub record PageKind (A : Type 0) (n t : ℕ) : Type 1 where
   pub fill-more : (v : ℕ) (y : Slot A) → Fill y → Fill (more v y)
 
 module _ {A : Type 0} {n t : ℕ} (kind : PageKind A n t) where
-  abbrev pub heldPage : (ℕ → Page) → ℕ → ℕ → ℕ → ℕ → List (Slot A) → Type 0
+  abbrev pub heldPage : (s : ℕ → Page) → (u lo hi p : ℕ) → List (Slot A) → Type 0
   heldPage s u lo hi p tr = Held (kind .under s u) n s u t lo hi p tr
 
   abbrev pub pageLookup : List (Slot A) → ℕ → ℕ

@@ -14,7 +14,7 @@ abbrev pub keyRange : ℕ → ℕ → ℕ
 keyRange low high = low + 65536 * high
 
 -- Row word 0: "low key + 65,536 × high key + 2^32 × child page"
-abbrev pub rowKeys : ℕ → ℕ → ℕ → ℕ
+abbrev pub rowKeys : (low high child : ℕ) → ℕ
 rowKeys low high child = low + 65536 * high + 4294967296 * child
 
 abbrev pub lowKey : ℕ → ℕ
