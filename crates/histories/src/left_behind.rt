@@ -68,7 +68,7 @@ fn places_agree(head: Head, passes: &[u32; NUMBERS], started: u32) -> bool
 {
     let mut place: usize = 0;
     let mut least: u32 = 0;
-    while place < 64 {
+    while place < Head::PLACES {
         let open = head.passes[place];
         if !place_agrees(open, place < head.count as usize, least, passes, started) {
             return false;

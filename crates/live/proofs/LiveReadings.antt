@@ -27,7 +27,8 @@ use Rattle.tree.proofs.Places.{cover, placedHolds, order-count, order-live, liv
 use Rattle.tree.proofs.Tiling.{rowsTile-tiles, tiles-rowsTile}
 use Rattle.tree.proofs.OrderTotals.{placedValue, total-stored, order-total}
 use Rattle.live.specs.Survey.{isAround, startsFrom, surveyOf}
-use Rattle.ranges.specs.KeyRanges.{rangeOf, rangeLow, rangeHigh, placeIn, count}
+use Rattle.words.specs.Sums.{count}
+use Rattle.ranges.specs.KeyRanges.{rangeOf, rangeLow, rangeHigh, placeIn}
 use Rattle.live.specs.LiveRows.{liveRows, Listed, AllIn}
 use Rattle.ranges.specs.TileTest.{holdsKey, tiles}
 use Rattle.ranges.specs.declared.search.Place.the-variants.{At, Missing}

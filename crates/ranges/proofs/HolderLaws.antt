@@ -9,6 +9,7 @@ use mathlib.Core.List.{List, [], _∷_}
 use lib.Dec.{leb, ltb}
 use lib.ListN.{length, getD, drop}
 use borrow.Author.Tests.{le-leb, lt-leb, lt-ltb, le-ltb}
+use Rattle.tree.specs.Row.{rowLimit}
 use Rattle.ranges.specs.declared.search.Place.the-variants.{At}
 use Rattle.ranges.specs.KeyRanges.{rangeLow, rangeHigh}
 use Rattle.ranges.specs.TileTest.{lesser, holdsKey}
@@ -91,7 +92,7 @@ module _ (key : ℕ) where
         let none : holderSum key at (drop at l) ≡ 0 = ap (holderSum key at) (drop-none l at h) in
         omega (arith, none)
 
-pub holder-small : (key at e : ℕ) → at < 64 → holder key at e ≤ 512
+pub holder-small : (key at e : ℕ) → at < rowLimit → holder key at e ≤ 512
 holder-small key at e h = go (holdsKey key e)
   where
     go : (b : Bool) → cond b (256 + at) 0 ≤ 512

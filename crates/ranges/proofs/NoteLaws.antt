@@ -8,7 +8,8 @@ use lib.Dec.{eqb, leb, ltb}
 use lib.ListN.{length, getD, replicate}
 use borrow.Author.Tests.{leb-false, ltb-true, eqb-true, le-leb, lt-ltb, eq-eqb, ne-eqb}
 use Rattle.tree.proofs.Lists.{All, all-at, count-at}
-use Rattle.ranges.specs.KeyRanges.{rangeLow, rangeHigh, count}
+use Rattle.words.specs.Sums.{count}
+use Rattle.ranges.specs.KeyRanges.{rangeLow, rangeHigh}
 use Rattle.ranges.specs.TileTest.{isEmpty, holdsKey, goesOn, stopsWell, slots, mayStop, Noted, Passed}
 use Rattle.ranges.proofs.TileLaws.{some-holder, every-on}
 

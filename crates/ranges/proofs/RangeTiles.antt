@@ -10,8 +10,8 @@ use mathlib.Core.List.{List, [], _∷_}
 use lib.Dec.{leb, ltb}
 use lib.ListN.{length, getD}
 use borrow.Author.Tests.{leb-true, leb-false, ltb-true, ltb-false, eqb-true, le-leb, lt-leb, lt-ltb, eq-eqb}
-use Rattle.words.specs.Sums.{sumBy}
-use Rattle.ranges.specs.KeyRanges.{rangeLow, rangeHigh, count}
+use Rattle.words.specs.Sums.{sumBy, count}
+use Rattle.ranges.specs.KeyRanges.{rangeLow, rangeHigh}
 use Rattle.ranges.specs.TileTest.{larger, isEmpty, holdsKey, clipped, goesOn, stopsWell, every, tiles}
 use Rattle.tree.proofs.Lists.{All, all-at, count-at}
 use Rattle.tree.proofs.Walk.{holds-one, below-none, above-none}

@@ -5,7 +5,8 @@ use mathlib.Core.Path.{_≡_}
 use mathlib.Core.Bool.{Bool, true, false}
 use mathlib.Core.List.{List}
 use lib.ListN.{length, getD, drop}
-use Rattle.ranges.specs.KeyRanges.{rangeHigh, count}
+use Rattle.words.specs.Sums.{count}
+use Rattle.ranges.specs.KeyRanges.{rangeHigh}
 use Rattle.ranges.specs.TileTest.{holdsKey, clipped, every}
 use Rattle.tree.proofs.Lists.{count-at}
 use Rattle.ranges.proofs.LesserLaws.{lesser-most}

@@ -1,8 +1,5 @@
--- The key ranges of rows, one number each, as the code keeps them in arrays, and how many of them pass a test.
+-- The key ranges of rows, one number each, as the code keeps them in arrays.
 use Prim.Native.Nat.{ℕ, _/_, _%_}
-use mathlib.Core.List.{List}
-use mathlib.Core.Bool.{Bool, cond}
-use Rattle.words.specs.Sums.{sumBy}
 use Rattle.words.specs.Words.{keyRange}
 use Rattle.tree.specs.KeyOrder.{Placed}
 
@@ -18,7 +15,3 @@ rangeHigh e = e / 65536
 
 abbrev pub placeIn : Placed → ℕ
 placeIn x = x .place
-
--- How many items of a list pass a test
-abbrev pub count : (ℕ → Bool) → List ℕ → ℕ
-count test xs = sumBy (λ (x : ℕ). cond (test x) 1 0) xs

@@ -6,8 +6,8 @@ use mathlib.Core.Bool.{Bool, true, cond, _&&_, _||_}
 use lib.Dec.{leb, ltb, eqb}
 use lib.ListN.{drop}
 use Rattle.words.specs.Lists.{All}
-use Rattle.words.specs.Sums.{sumBy}
-use Rattle.ranges.specs.KeyRanges.{rangeLow, rangeHigh, count}
+use Rattle.words.specs.Sums.{sumBy, count}
+use Rattle.ranges.specs.KeyRanges.{rangeLow, rangeHigh}
 
 abbrev pub lesser : ℕ → ℕ → ℕ
 lesser a b = cond (ltb a b) a b

@@ -9,8 +9,7 @@ ghost use Prim.Native.Nat.{_-_, _%_, _≤_, _<_};
 ghost use lib.ListN.{length, getD};
 ghost use lib.Dec.{ltb, eqb};
 ghost use Rattle.tree.specs.Row.{rowLimit};
-ghost use Rattle.words.specs.Sums.{sumBy};
-ghost use Rattle.ranges.specs.KeyRanges.{count};
+ghost use Rattle.words.specs.Sums.{sumBy, count};
 ghost use Rattle.ranges.specs.TileTest.{lesser, larger, isEmpty, holdsKey, clipped, spanned, goesOn, every, stopsWell, tiles, slots, Noted, Passed};
 
 // Keys are noted in so many slots.

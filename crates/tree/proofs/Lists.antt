@@ -6,7 +6,7 @@ use mathlib.Core.Bool.{Bool, true, cond}
 use mathlib.Core.List.{List, [], _∷_, _++_, map}
 use lib.ListN.{length, getD, set, take, drop, length-map}
 pub use Rattle.words.specs.Lists.{All}
-pub use Rattle.words.specs.Sums.{sumBy}
+pub use Rattle.words.specs.Sums.{sumBy, count}
 
 module _ {A : Type 0} where
   pub all-map : (P Q : A → Type 0) → ((x : A) → P x → Q x) → (xs : List A) → All P xs → All Q xs
@@ -67,10 +67,6 @@ module _ {A : Type 0} where
   -- 1 for an item that passes a test
   abbrev pub one-if : (A → Bool) → A → ℕ
   one-if test x = cond (test x) 1 0
-
-  -- How many items pass a test
-  abbrev pub count : (A → Bool) → List A → ℕ
-  count test xs = sumBy (one-if test) xs
 
   -- An item that passes it is counted
   pub count-at : (test : A → Bool) (xs : List A) (i : ℕ) (d : A) → i < length xs → test (getD xs i d) ≡ true → 1 ≤ count test xs

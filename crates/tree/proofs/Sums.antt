@@ -57,8 +57,8 @@ module _ (measure : Value → ℕ) (m : Measure measure) (tree : Tree) (points :
           → measure (sumOfPoints t k points) ≈ numbers measure t k points
       rest e = omega arith
 
-same-found : {v w : Value} {m n : ℕ} → Found v m ≡ Found w n → v ≡ w
-same-found e = cc
+found-value : {v w : Value} {m n : ℕ} → Found v m ≡ Found w n → v ≡ w
+found-value e = cc
 
 -- Read by every measure
 pub lookup-sum : (tree : Tree) (points : List Point) → TreeKept tree points → (t k : ℕ) → t < openEnd → k < keyLimit
@@ -80,5 +80,5 @@ lookup-sum tree points kept t k tick key =
     alike : (measure : Value → ℕ) (m : Measure measure)
         → measure (by countOf count-measure .value) ≈ measure (sumOfPoints t k points)
     alike measure m =
-        ap (λ (v : Value). measure v % 2 ^ 64) (same-found (sym (found countOf count-measure) ∙ found measure m))
+        ap (λ (v : Value). measure v % 2 ^ 64) (found-value (sym (found countOf count-measure) ∙ found measure m))
         ∙ read-sum measure m tree points (kept .words) (kept .tells measure m) t k tick key

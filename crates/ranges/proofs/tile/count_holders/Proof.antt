@@ -3,7 +3,7 @@ use mathlib.Core.Bool.{cond}
 use Prim.Native.Nat.{ℕ, _+_, _-_, _≤_}
 use lib.ListN.{length, drop}
 use native.Mathlib.Omega.{arith}
-use Rattle.ranges.specs.KeyRanges.{count}
+use Rattle.words.specs.Sums.{count}
 use Rattle.ranges.specs.TileTest.{holdsKey}
 use Rattle.ranges.proofs.SumLaws.{sum-on, sum-done, one-small}
 use borrow.Author.Needs.{needs}

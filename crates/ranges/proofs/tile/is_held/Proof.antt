@@ -1,7 +1,7 @@
 use Prim.Native.Nat.{_%_, _<_}
 use mathlib.Core.Path.{_≡_, sym, _∙_}
 use lib.ListN.{getD}
-use Rattle.ranges.specs.KeyRanges.{count}
+use Rattle.words.specs.Sums.{count}
 use Rattle.ranges.specs.TileTest.{holdsKey, slots}
 use borrow.Author.Tests.{lt-ltb, eqb-true}
 use borrow.Author.Needs.{needs}
