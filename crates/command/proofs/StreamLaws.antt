@@ -6,7 +6,7 @@ use mathlib.Core.Path.{_≡_, refl, ap, ap₂, sym, _∙_}
 use mathlib.Core.Bool.{Bool, true, false, cond}
 use mathlib.Core.List.{List, [], _∷_, _++_}
 use lib.ListN.{length, take, drop, length-take, length-drop}
-use lib.Dec.{ltb, eqb}
+use lib.Dec.{ltb}
 use lib.Seq.{take-take}
 use native.Mathlib.Decide.{decLe}
 use borrow.Author.Tests.{lt-ltb, le-ltb}
@@ -15,6 +15,7 @@ use Rattle.store.specs.Calls.{Call, start, end, question}
 use Rattle.store.specs.Performing.{perform}
 use Rattle.codec.specs.Bytes.{numberOf, operand}
 use Rattle.command.specs.Stream.{Kind, unknown, command, startCommand, endCommand, questionCommand, kindOf, operandBytes, cutShort, Ran, stops, answers, runKind, runOne, thenRest, runFor}
+use Rattle.command.proofs.KindLaws.{by-kind}
 
 -- The rest of the input, where two ways to go on agree on it
 same-rest : (f g : Store → List ℕ → List ℕ) (rest : List ℕ) (r : Ran) → f (r .store) rest ≡ g (r .store) rest → thenRest f rest r ≡ thenRest g rest r
@@ -81,13 +82,10 @@ one-front s bytes n call same =
     ap₂ (λ (b : Bool) (c : Call). cond b (stops s cutShort) (answers (perform s c))) (cut-same bytes n) same
 
 pub front-enough : (s : Store) (byte : ℕ) (bytes : List ℕ) → runOne s byte (take (operandBytes (kindOf byte)) bytes) ≡ runOne s byte bytes
-front-enough s byte bytes = go (eqb byte 1) (eqb byte 2) (eqb byte 3)
-  where
-    kind : Bool → Bool → Bool → Kind
-    kind x y z = cond x (command 8 startCommand) (cond y (command 8 endCommand) (cond z (command 12 questionCommand) unknown))
-
-    go : (x y z : Bool) → runKind s (take (operandBytes (kind x y z)) bytes) (kind x y z) ≡ runKind s bytes (kind x y z)
-    go true y z = one-front s bytes 8 startCommand (start-front bytes)
-    go false true z = one-front s bytes 8 endCommand (end-front bytes)
-    go false false true = one-front s bytes 12 questionCommand (question-front bytes)
-    go false false false = refl
+front-enough s byte bytes =
+    by-kind (λ (kind : Kind). runKind s (take (operandBytes kind) bytes) kind ≡ runKind s bytes kind)
+    (one-front s bytes 8 startCommand (start-front bytes))
+    (one-front s bytes 8 endCommand (end-front bytes))
+    (one-front s bytes 12 questionCommand (question-front bytes))
+    refl
+    byte

@@ -52,6 +52,10 @@ spelled (w ∷ widths) (v ∷ values) = bytesOf w v ++ spelled widths values
 abbrev pub written : Answer → List ℕ
 written a = bytesOf 1 (refusalOf a) ++ spelled (widthsOf a) (valuesOf a)
 
+-- No command writes more bytes than a question
+abbrev pub longestAnswer : ℕ
+longestAnswer = 18
+
 -- "6 unknown command byte."
 abbrev pub unknownCommand : List ℕ
 unknownCommand = 6 ∷ []
@@ -96,6 +100,10 @@ runFor (suc n) s [] = []
 runFor (suc n) s (b ∷ bytes) =
     thenRest (λ (s′ : Store) (rest : List ℕ). runFor n s′ rest) (drop (operandBytes (kindOf b)) bytes) (runOne s b bytes)
 
+-- A whole input, from a store on
+abbrev pub runAll : Store → List ℕ → List ℕ
+runAll s bytes = runFor (length bytes) s bytes
+
 -- "the program's own tables hold 12 pages a tree and 12 roots": all zero, and opened
 abbrev pub programPages : ℕ
 programPages = 12
@@ -111,4 +119,4 @@ programStore = perform (record { head = openedHead; lent = programLent }) openin
 
 -- The whole input to the whole output
 unfoldable pub output : List ℕ → List ℕ
-output input = runFor (length input) programStore input
+output input = runAll programStore input

@@ -29,12 +29,17 @@ module _ (code : ℕ) where
   pub kind-unknown : (code ≡ 1 → ⊥) → (code ≡ 2 → ⊥) → (code ≡ 3 → ⊥) → kindOf code ≡ unknown
   kind-unknown n m l = neither n m ∙ ap (λ (z : Bool). cond z (command 12 questionCommand) unknown) (ne-eqb code 3 l)
 
-  -- No command has more operands than a question
-  pub few-operands : operandBytes (kindOf code) ≤ 12
-  few-operands = go (eqb code 1) (eqb code 2) (eqb code 3)
-    where
-      go : (x y z : Bool) → operandBytes (kinds x y z) ≤ 12
-      go true y z = omega arith
-      go false true z = omega arith
-      go false false true = omega arith
-      go false false false = omega arith
+-- What holds of the three commands and of an unknown byte holds of every byte
+pub by-kind : (P : Kind → Type 0) → P (command 8 startCommand) → P (command 8 endCommand) → P (command 12 questionCommand) → P unknown
+    → (code : ℕ) → P (kindOf code)
+by-kind P s e q u code = go (eqb code 1) (eqb code 2) (eqb code 3)
+  where
+    go : (x y z : Bool) → P (kinds x y z)
+    go true y z = s
+    go false true z = e
+    go false false true = q
+    go false false false = u
+
+-- No command has more operands than a question
+pub few-operands : (code : ℕ) → operandBytes (kindOf code) ≤ 12
+few-operands = by-kind (λ (kind : Kind). operandBytes kind ≤ 12) (omega arith) (omega arith) (omega arith) (omega arith)
