@@ -2,5 +2,6 @@
 pub mod KindLaws
 pub mod StreamLaws
 pub mod AnswerLengths
-pub mod PieceLaws
+pub mod PieceSteps
+pub mod AnyPieces
 pub mod PieceReadings

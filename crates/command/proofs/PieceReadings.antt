@@ -11,10 +11,10 @@ use borrow.Author.Tests.{ltb-true}
 use Rattle.store.specs.Trees.{Store}
 use Rattle.store.specs.Performing.{perform}
 use Rattle.command.specs.Stream.{Kind, unknown, command, kindOf, operandBytes, longestAnswer, cutShort, Ran, stops, answers, runKind, runOne}
-use Rattle.command.specs.Pieces.{Fed, takesNothing, followed, commandLength, isUnfinished, mustWait, thenPiece, runPieceFor, runPiece, Unfinished}
+use Rattle.command.specs.Pieces.{Fed, takesNothing, followed, commandLength, isUnfinished, mustWait, runPiece, Unfinished}
 use Rattle.command.proofs.KindLaws.{by-kind, few-operands}
 use Rattle.command.proofs.AnswerLengths.{output-fits}
-use Rattle.command.proofs.PieceLaws.{on-whole, taken-on}
+use Rattle.command.proofs.PieceSteps.{on-whole, taken-on, each-piece}
 
 -- A command byte with its operands has 9 bytes at least; 6 and 7 are one byte
 kind-long : (s : Store) (b : ℕ) (bytes : List ℕ) → runOne s b bytes .on ≡ true → 8 ≤ operandBytes (kindOf b)
@@ -37,76 +37,46 @@ stop-short s bytes (command n call) e = go (ltb (length bytes) n) e
     go true e = refl
     go false e = absurd (true≢false e)
 
--- One induction for all that is said of a piece: nothing taken, a command that waits, one that ends the run, and one with the rest behind it
-module _ (P : (room : ℕ) (ended : Bool) (bytes : List ℕ) → Fed → Type 0)
-    (none : (room : ℕ) (ended : Bool) (s : Store) → P room ended [] (takesNothing s ended))
-    (waiting : (room : ℕ) (ended : Bool) (s : Store) (b : ℕ) (bytes : List ℕ) → mustWait room ended b bytes ≡ true → P room ended (b ∷ bytes) (takesNothing s false))
-    (last : (room : ℕ) (ended : Bool) (s : Store) (b : ℕ) (bytes : List ℕ) → runOne s b bytes .on ≡ false
-        → P room ended (b ∷ bytes) (followed (commandLength b bytes) (runOne s b bytes .output) (takesNothing (runOne s b bytes .store) true)))
-    (more : (room : ℕ) (ended : Bool) (s : Store) (b : ℕ) (bytes : List ℕ) (f : Fed) → runOne s b bytes .on ≡ true
-        → P (room - length (runOne s b bytes .output)) ended (drop (operandBytes (kindOf b)) bytes) f
-        → P room ended (b ∷ bytes) (followed (commandLength b bytes) (runOne s b bytes .output) f)) where
-  each-piece : (n room : ℕ) (ended : Bool) (s : Store) (bytes : List ℕ) → length bytes ≤ n → P room ended bytes (runPieceFor n room ended s bytes)
-  unfolding runPieceFor
-  each-piece zero room ended s [] less = none room ended s
-  each-piece zero room ended s (b ∷ bytes) less = absurd (omega arith)
-  each-piece (suc n) room ended s [] less = none room ended s
-  each-piece (suc n) room ended s (b ∷ bytes) less =
-      go (mustWait room ended b bytes) (runOne s b bytes .on) refl refl
-      (each-piece n (room - length (runOne s b bytes .output)) ended (runOne s b bytes .store) (drop (operandBytes (kindOf b)) bytes)
-      (omega (arith, length-drop (operandBytes (kindOf b)) bytes)))
-    where
-      next : Fed
-      next = runPieceFor n (room - length (runOne s b bytes .output)) ended (runOne s b bytes .store) (drop (operandBytes (kindOf b)) bytes)
-
-      go : (w on : Bool) → mustWait room ended b bytes ≡ w → runOne s b bytes .on ≡ on
-          → P (room - length (runOne s b bytes .output)) ended (drop (operandBytes (kindOf b)) bytes) next
-          → P room ended (b ∷ bytes)
-            (cond w (takesNothing s false) (followed (commandLength b bytes) (runOne s b bytes .output) (cond on next (takesNothing (runOne s b bytes .store) true))))
-      go true on w o h = waiting room ended s b bytes w
-      go false true w o h = more room ended s b bytes next o h
-      go false false w o h = last room ended s b bytes o
-
 -- No more bytes than there are
 pub takes-inside : (room : ℕ) (ended : Bool) (s : Store) (bytes : List ℕ) → runPiece room ended s bytes .taken ≤ length bytes
 takes-inside room ended s bytes =
-    each-piece (λ (room : ℕ) (ended : Bool) (bytes : List ℕ) (f : Fed). f .taken ≤ length bytes)
+    each-piece (λ (room : ℕ) (ended : Bool) (s : Store) (bytes : List ℕ) (f : Fed). f .taken ≤ length bytes)
     (λ room ended s. omega arith)
     (λ room ended s b bytes w. omega arith)
-    (λ room ended s b bytes o. omega arith)
-    (λ room ended s b bytes f o h. omega (arith, h, length-drop (operandBytes (kindOf b)) bytes, on-whole s b bytes o))
-    (length bytes) room ended s bytes (omega arith)
+    (λ room ended s b bytes w o. omega arith)
+    (λ room ended s b bytes f w o h. omega (arith, h, length-drop (operandBytes (kindOf b)) bytes, on-whole s b bytes o))
+    room ended s bytes
 
 -- At most two bytes written for a byte taken
 pub writes-few : (room : ℕ) (ended : Bool) (s : Store) (bytes : List ℕ) → length (runPiece room ended s bytes .output) ≤ 2 * runPiece room ended s bytes .taken
 writes-few room ended s bytes =
-    each-piece (λ (room : ℕ) (ended : Bool) (bytes : List ℕ) (f : Fed). length (f .output) ≤ 2 * f .taken)
+    each-piece (λ (room : ℕ) (ended : Bool) (s : Store) (bytes : List ℕ) (f : Fed). length (f .output) ≤ 2 * f .taken)
     (λ room ended s. omega arith)
     (λ room ended s b bytes w. omega arith)
-    (λ room ended s b bytes o. omega (arith, length-append (runOne s b bytes .output) [], stop-short s bytes (kindOf b) o))
-    (λ room ended s b bytes f o h.
-      omega (
-        arith,
-        h,
-        length-append (runOne s b bytes .output) (f .output),
-        output-fits s b bytes,
-        kind-long s b bytes o,
-        on-whole s b bytes o,
-      ))
-    (length bytes) room ended s bytes (omega arith)
+    (λ room ended s b bytes w o. omega (arith, length-append (runOne s b bytes .output) [], stop-short s bytes (kindOf b) o))
+    (λ room ended s b bytes f w o h.
+    omega (
+      arith,
+      h,
+      length-append (runOne s b bytes .output) (f .output),
+      output-fits s b bytes,
+      kind-long s b bytes o,
+      on-whole s b bytes o,
+    ))
+    room ended s bytes
 
 -- A run that is not over waits for bytes, which may still come, or for room
-abbrev pub Waits : (room : ℕ) (ended : Bool) (bytes : List ℕ) → Fed → Type 0
-Waits room ended bytes f = f .over ≡ false → ((ended ≡ false) × Unfinished (drop (f .taken) bytes)) ⊎ (room < length (f .output) + longestAnswer)
+abbrev pub Waits : (room : ℕ) (ended : Bool) → Store → List ℕ → Fed → Type 0
+Waits room ended s bytes f = f .over ≡ false → ((ended ≡ false) × Unfinished (drop (f .taken) bytes)) ⊎ (room < length (f .output) + longestAnswer)
 
-pub why-it-waits : (room : ℕ) (ended : Bool) (s : Store) (bytes : List ℕ) → Waits room ended bytes (runPiece room ended s bytes)
+pub why-it-waits : (room : ℕ) (ended : Bool) (s : Store) (bytes : List ℕ) → Waits room ended s bytes (runPiece room ended s bytes)
 why-it-waits room ended s bytes =
     each-piece Waits
     (λ room ended s e. inl (e, tt))
     (λ room ended s b bytes w e. waits room ended b bytes w)
-    (λ room ended s b bytes o e. absurd (true≢false e))
-    (λ room ended s b bytes f o h e. behind room ended s b bytes f o (h e))
-    (length bytes) room ended s bytes (omega arith)
+    (λ room ended s b bytes w o e. absurd (true≢false e))
+    (λ room ended s b bytes f w o h e. behind room ended s b bytes f o (h e))
+    room ended s bytes
   where
     waits : (room : ℕ) (ended : Bool) (b : ℕ) (bytes : List ℕ) → mustWait room ended b bytes ≡ true
         → ((ended ≡ false) × (isUnfinished b bytes ≡ true)) ⊎ (room < 0 + longestAnswer)
@@ -119,9 +89,9 @@ why-it-waits room ended s bytes =
 
     behind : (room : ℕ) (ended : Bool) (s : Store) (b : ℕ) (bytes : List ℕ) (f : Fed) → runOne s b bytes .on ≡ true
         → ((ended ≡ false) × Unfinished (drop (f .taken) (drop (operandBytes (kindOf b)) bytes)))
-          ⊎ (room - length (runOne s b bytes .output) < length (f .output) + longestAnswer)
+        ⊎ (room - length (runOne s b bytes .output) < length (f .output) + longestAnswer)
         → ((ended ≡ false) × Unfinished (drop (commandLength b bytes + f .taken) (b ∷ bytes)))
-          ⊎ (room < length (runOne s b bytes .output ++ f .output) + longestAnswer)
+        ⊎ (room < length (runOne s b bytes .output ++ f .output) + longestAnswer)
     behind room ended s b bytes f o (inl h) = inl (h .0, subst Unfinished (sym (taken-on b bytes (f .taken) (on-whole s b bytes o))) (h .1))
     behind room ended s b bytes f o (inr h) = inr (omega (arith, h, length-append (runOne s b bytes .output) (f .output)))
 

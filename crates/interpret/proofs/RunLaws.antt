@@ -1,5 +1,5 @@
 -- What one command hands back: stopped with a number of its own, or the store's answer as bytes.
-use Prim.Native.Nat.{ℕ, zero, suc, _≤_, _<_}
+use Prim.Native.Nat.{ℕ, zero, suc, _+_, _≤_, _<_}
 use mathlib.Core.Path.{_≡_, refl, ap, sym, subst, _∙_}
 use mathlib.Core.Bool.{Bool, true, false, cond}
 use mathlib.Core.List.{List, [], _∷_}
@@ -22,8 +22,8 @@ use Rattle.interpret.specs.declared.run.Ran.{Ran}
 use Rattle.interpret.specs.Runs.{RanAs}
 
 -- A command that comes to another
-pub ran : {a b : stream.Ran} {r : Ran} {before out : List ℕ} {lent : Lent} → a ≡ b → RanAs b r before out lent → RanAs a r before out lent
-ran {r = r} {before = before} {out = out} {lent = lent} e x = subst (λ (y : stream.Ran). RanAs y r before out lent) (sym e) x
+pub ran : {a b : stream.Ran} {r : Ran} {from : ℕ} {before out : List ℕ} {lent : Lent} → a ≡ b → RanAs b r from before out lent → RanAs a r from before out lent
+ran {r = r} {from = from} {before = before} {out = out} {lent = lent} e x = subst (λ (y : stream.Ran). RanAs y r from before out lent) (sym e) x
 
 -- Too few operand bytes, or enough
 cut : (s : Store) (bytes : List ℕ) (n : ℕ) (call : List ℕ → Call) → length bytes < n → runKind s bytes (command n call) ≡ stops s cutShort
@@ -43,65 +43,65 @@ question-keeps s k1 k2 t1 t2 = go (refusal s (question k1 k2 t1 t2))
     go (suc n) = refl
 
 module _ (s : Store) where
-  stopped : (n : ℕ) (r : Ran) (before out : List ℕ) → out ≡ overwrite before 0 (n ∷ []) → r ≡ record { head = s .head; length = 1; on = false }
-      → RanAs (stops s (n ∷ [])) r before out (s .lent)
-  stopped n r before out e is =
+  stopped : (n : ℕ) (r : Ran) (from : ℕ) (before out : List ℕ) → out ≡ overwrite before from (n ∷ []) → r ≡ record { head = s .head; written = from + 1; on = false }
+      → RanAs (stops s (n ∷ [])) r from before out (s .lent)
+  stopped n r from before out e is =
       record {
         output = e;
-        size = ap (λ (x : Ran). x .length) is;
+        size = ap (λ (x : Ran). x .written) is;
         on = ap (λ (x : Ran). x .on) is;
         head = ap (λ (x : Ran). x .head) is;
         lent-is = refl;
       }
 
-  pub cut-short : (bytes : List ℕ) (n : ℕ) (call : List ℕ → Call) → length bytes < n → (r : Ran) (before out : List ℕ)
-      → out ≡ overwrite before 0 cutShort → r ≡ record { head = s .head; length = 1; on = false }
-      → RanAs (runKind s bytes (command n call)) r before out (s .lent)
-  cut-short bytes n call h r before out e is = ran (cut s bytes n call h) (stopped 7 r before out e is)
+  pub cut-short : (bytes : List ℕ) (n : ℕ) (call : List ℕ → Call) → length bytes < n → (r : Ran) (from : ℕ) (before out : List ℕ)
+      → out ≡ overwrite before from cutShort → r ≡ record { head = s .head; written = from + 1; on = false }
+      → RanAs (runKind s bytes (command n call)) r from before out (s .lent)
+  cut-short bytes n call h r from before out e is = ran (cut s bytes n call h) (stopped 7 r from before out e is)
 
-  pub unknown-stops : (bytes : List ℕ) (r : Ran) (before out : List ℕ) → out ≡ overwrite before 0 unknownCommand
-      → r ≡ record { head = s .head; length = 1; on = false }
-      → RanAs (runKind s bytes unknown) r before out (s .lent)
-  unknown-stops bytes r before out e is = stopped 6 r before out e is
+  pub unknown-stops : (bytes : List ℕ) (r : Ran) (from : ℕ) (before out : List ℕ) → out ≡ overwrite before from unknownCommand
+      → r ≡ record { head = s .head; written = from + 1; on = false }
+      → RanAs (runKind s bytes unknown) r from before out (s .lent)
+  unknown-stops bytes r from before out e is = stopped 6 r from before out e is
 
   -- A byte that stands for a kind of command
-  pub of-kind : (bytes : List ℕ) (code : ℕ) (kind : Kind) → kindOf code ≡ kind → (r : Ran) (before out : List ℕ) (lent : Lent)
-      → RanAs (runKind s bytes kind) r before out lent → RanAs (runOne s code bytes) r before out lent
-  of-kind bytes code kind e r before out lent x = ran (ap (λ (k : Kind). runKind s bytes k) e) x
+  pub of-kind : (bytes : List ℕ) (code : ℕ) (kind : Kind) → kindOf code ≡ kind → (r : Ran) (from : ℕ) (before out : List ℕ) (lent : Lent)
+      → RanAs (runKind s bytes kind) r from before out lent → RanAs (runOne s code bytes) r from before out lent
+  of-kind bytes code kind e r from before out lent x = ran (ap (λ (k : Kind). runKind s bytes k) e) x
 
   answered : (bytes : List ℕ) (n : ℕ) (call : List ℕ → Call) → n ≤ length bytes → (done : Answered) → perform s (call bytes) ≡ done
       → (reply : Reply) (lent : Lent) → RepliedAs done reply lent
-      → (size : ℕ) (before out : List ℕ) → out ≡ overwrite before 0 (written (reply .answer)) → size ≡ length (written (reply .answer))
-      → RanAs (runKind s bytes (command n call)) (record { head = reply .head; length = size; on = true }) before out lent
-  answered bytes n call h done e reply lent replies size before out o l =
+      → (size from : ℕ) (before out : List ℕ) → out ≡ overwrite before from (written (reply .answer)) → size ≡ from + length (written (reply .answer))
+      → RanAs (runKind s bytes (command n call)) (record { head = reply .head; written = size; on = true }) from before out lent
+  answered bytes n call h done e reply lent replies size from before out o l =
       ran (whole s bytes n call h ∙ ap answers e)
       (record {
-        output = o ∙ ap (λ (x : Answer). overwrite before 0 (written x)) (replies .answer);
-        size = l ∙ ap (λ (x : Answer). length (written x)) (replies .answer);
+        output = o ∙ ap (λ (x : Answer). overwrite before from (written x)) (replies .answer);
+        size = l ∙ ap (λ (x : Answer). from + length (written x)) (replies .answer);
         on = refl;
         head = replies .head;
         lent-is = replies .lent-is;
       })
 
-  module _ (bytes : List ℕ) (size : ℕ) (before out : List ℕ) where
+  module _ (bytes : List ℕ) (size from : ℕ) (before out : List ℕ) where
     pub ran-start : 8 ≤ length bytes → (tick key weight : ℕ) → tick ≡ operand bytes 0 4 → key ≡ operand bytes 4 2 → weight ≡ operand bytes 6 2
         → (reply : Reply) (lent : Lent) → RepliedAs (perform s (start tick key weight)) reply lent
-        → out ≡ overwrite before 0 (written (reply .answer)) → size ≡ length (written (reply .answer))
-        → RanAs (runKind s bytes (command 8 startCommand)) (record { head = reply .head; length = size; on = true }) before out lent
+        → out ≡ overwrite before from (written (reply .answer)) → size ≡ from + length (written (reply .answer))
+        → RanAs (runKind s bytes (command 8 startCommand)) (record { head = reply .head; written = size; on = true }) from before out lent
     ran-start h tick key weight t k w reply lent replies o l =
-        answered bytes 8 startCommand h (perform s (start tick key weight)) (sym (λ i. perform s (start (t i) (k i) (w i)))) reply lent replies size before out o l
+        answered bytes 8 startCommand h (perform s (start tick key weight)) (sym (λ i. perform s (start (t i) (k i) (w i)))) reply lent replies size from before out o l
 
     pub ran-end : 8 ≤ length bytes → (tick number : ℕ) → tick ≡ operand bytes 0 4 → number ≡ operand bytes 4 4
         → (reply : Reply) (lent : Lent) → RepliedAs (perform s (end tick number)) reply lent
-        → out ≡ overwrite before 0 (written (reply .answer)) → size ≡ length (written (reply .answer))
-        → RanAs (runKind s bytes (command 8 endCommand)) (record { head = reply .head; length = size; on = true }) before out lent
+        → out ≡ overwrite before from (written (reply .answer)) → size ≡ from + length (written (reply .answer))
+        → RanAs (runKind s bytes (command 8 endCommand)) (record { head = reply .head; written = size; on = true }) from before out lent
     ran-end h tick number t n reply lent replies o l =
-        answered bytes 8 endCommand h (perform s (end tick number)) (sym (λ i. perform s (end (t i) (n i)))) reply lent replies size before out o l
+        answered bytes 8 endCommand h (perform s (end tick number)) (sym (λ i. perform s (end (t i) (n i)))) reply lent replies size from before out o l
 
     pub ran-question : 12 ≤ length bytes → (k1 k2 t1 t2 : ℕ) → k1 ≡ operand bytes 0 2 → k2 ≡ operand bytes 2 2 → t1 ≡ operand bytes 4 4
         → t2 ≡ operand bytes 8 4 → (said : Answer) → said ≡ perform s (question k1 k2 t1 t2) .answer
-        → out ≡ overwrite before 0 (written said) → size ≡ length (written said)
-        → RanAs (runKind s bytes (command 12 questionCommand)) (record { head = s .head; length = size; on = true }) before out (s .lent)
+        → out ≡ overwrite before from (written said) → size ≡ from + length (written said)
+        → RanAs (runKind s bytes (command 12 questionCommand)) (record { head = s .head; written = size; on = true }) from before out (s .lent)
     ran-question h k1 k2 t1 t2 a b c d said is o l =
         let kept = sym (question-keeps s k1 k2 t1 t2) in
         answered bytes 12 questionCommand h (perform s (question k1 k2 t1 t2)) (sym (λ i. perform s (question (a i) (b i) (c i) (d i))))
@@ -111,4 +111,4 @@ module _ (s : Store) where
           head = ap (λ (x : Store). x .head) kept;
           lent-is = ap (λ (x : Store). x .lent) kept;
         })
-        size before out o l
+        size from before out o l

@@ -1,8 +1,8 @@
-// One command of the stream, run on lent slices: operands from bytes, a call of the store, its answer to bytes.
+// The commands of the stream, run on lent slices: operands from bytes, calls of the store, their answers to bytes.
 mod answers;
+mod pieces;
 mod run;
 
 pub use answers::LONGEST_ANSWER;
-pub use run::Ran;
-pub use run::operand_count;
-pub use run::run_command;
+pub use pieces::Fed;
+pub use pieces::run_piece;

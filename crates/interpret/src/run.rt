@@ -7,17 +7,17 @@ use store::Head;
 ghost use mathlib.Core.Path.{_≡_};
 ghost use mathlib.Core.Bool.{false};
 ghost use mathlib.Core.List.{[], _∷_};
-ghost use Prim.Native.Nat.{_≤_};
+ghost use Prim.Native.Nat.{_+_, _≤_};
 ghost use lib.ListN.{length};
 ghost use Rattle.words.specs.Overwrite.{overwrite};
 ghost use Rattle.store.specs.Trees.{Lent, lentOf, Store, storeOf};
-ghost use Rattle.command.specs.Stream.{command, kindOf, operandBytes, startCommand, endCommand, questionCommand, runKind, runOne};
-ghost use Rattle.interpret.specs.Runs.{longestAnswer, RanAs};
+ghost use Rattle.command.specs.Stream.{command, kindOf, operandBytes, longestAnswer, startCommand, endCommand, questionCommand, runKind, runOne};
+ghost use Rattle.interpret.specs.Runs.{RanAs};
 
-// What a command leaves: the head for the next one, how many bytes it wrote, and whether the run goes on.
+// What a command leaves: the head for the next one, the place behind what it wrote, and whether the run goes on.
 pub struct Ran {
     pub head: Head,
-    pub length: usize,
+    pub written: usize,
     pub on: bool,
 }
 
@@ -38,15 +38,15 @@ pub fn operand_count(code: u8) -> usize
 }
 
 // Ends the run with a number of its own, as one byte: 6 for an unknown command, 7 for one cut short.
-fn stop(head: Head, out: &mut [u8], number: u8) -> Ran
-    requires { ⌜ longestAnswer ≤ length (now out) ⌝ }
-    ensures { λ _. ⌜ now (out .exit) ≡ overwrite (now (out .entry)) 0 (number ∷ []) ⌝ }
-    ensures { λ r. ⌜ r ≡ record { head = head; length = 1; on = false } ⌝ }
+fn stop(head: Head, out: &mut [u8], from: usize, number: u8) -> Ran
+    requires { ⌜ from + longestAnswer ≤ length (now out) ⌝ }
+    ensures { λ _. ⌜ now (out .exit) ≡ overwrite (now (out .entry)) from (number ∷ []) ⌝ }
+    ensures { λ r. ⌜ r ≡ record { head = head; written = from + 1; on = false } ⌝ }
 {
-    out[0] = number;
+    out[from] = number;
     Ran {
         head,
-        length: 1,
+        written: from + 1,
         on: false,
     }
 }
@@ -60,15 +60,16 @@ fn run_start(
     end_roots: &[u64],
     operands: &[u8],
     out: &mut [u8],
+    from: usize,
 ) -> Ran
-    requires { ⌜ longestAnswer ≤ length (now out) ⌝ }
+    requires { ⌜ from + longestAnswer ≤ length (now out) ⌝ }
     ensures { λ r. do
       let s : Store = storeOf head (now («start_table» .entry)) (now («start_roots» .entry)) (now («end_table» .entry)) (now («end_roots» .entry))
       let left : Lent = lentOf (now («start_table» .exit)) (now («start_roots» .exit)) (now («end_table» .entry)) (now («end_roots» .entry))
-      ⌜ RanAs (runKind s (now (operands .entry)) (command 8 startCommand)) r (now (out .entry)) (now (out .exit)) left ⌝ }
+      ⌜ RanAs (runKind s (now (operands .entry)) (command 8 startCommand)) r from (now (out .entry)) (now (out .exit)) left ⌝ }
 {
     if operands.len() < 8 {
-        return stop(head, out, 7);
+        return stop(head, out, from, 7);
     }
     let tick = number4(operands, 0);
     let key = number2(operands, 4);
@@ -84,11 +85,11 @@ fn run_start(
         weight,
     );
     let answer = reply.answer;
-    let length = put_answer(out, answer);
+    let written = put_answer(out, from, answer);
     let after = reply.head;
     Ran {
         head: after,
-        length,
+        written,
         on: true,
     }
 }
@@ -102,15 +103,16 @@ fn run_end(
     end_roots: &mut [u64],
     operands: &[u8],
     out: &mut [u8],
+    from: usize,
 ) -> Ran
-    requires { ⌜ longestAnswer ≤ length (now out) ⌝ }
+    requires { ⌜ from + longestAnswer ≤ length (now out) ⌝ }
     ensures { λ r. do
       let s : Store = storeOf head (now («start_table» .entry)) (now («start_roots» .entry)) (now («end_table» .entry)) (now («end_roots» .entry))
       let left : Lent = lentOf (now («start_table» .entry)) (now («start_roots» .entry)) (now («end_table» .exit)) (now («end_roots» .exit))
-      ⌜ RanAs (runKind s (now (operands .entry)) (command 8 endCommand)) r (now (out .entry)) (now (out .exit)) left ⌝ }
+      ⌜ RanAs (runKind s (now (operands .entry)) (command 8 endCommand)) r from (now (out .entry)) (now (out .exit)) left ⌝ }
 {
     if operands.len() < 8 {
-        return stop(head, out, 7);
+        return stop(head, out, from, 7);
     }
     let tick = number4(operands, 0);
     let number = number4(operands, 4);
@@ -124,11 +126,11 @@ fn run_end(
         number,
     );
     let answer = reply.answer;
-    let length = put_answer(out, answer);
+    let written = put_answer(out, from, answer);
     let after = reply.head;
     Ran {
         head: after,
-        length,
+        written,
         on: true,
     }
 }
@@ -142,15 +144,16 @@ fn run_question(
     end_roots: &[u64],
     operands: &[u8],
     out: &mut [u8],
+    from: usize,
 ) -> Ran
-    requires { ⌜ longestAnswer ≤ length (now out) ⌝ }
+    requires { ⌜ from + longestAnswer ≤ length (now out) ⌝ }
     ensures { λ r. do
       let s : Store = storeOf head (now («start_table» .entry)) (now («start_roots» .entry)) (now («end_table» .entry)) (now («end_roots» .entry))
       let left : Lent = lentOf (now («start_table» .entry)) (now («start_roots» .entry)) (now («end_table» .entry)) (now («end_roots» .entry))
-      ⌜ RanAs (runKind s (now (operands .entry)) (command 12 questionCommand)) r (now (out .entry)) (now (out .exit)) left ⌝ }
+      ⌜ RanAs (runKind s (now (operands .entry)) (command 12 questionCommand)) r from (now (out .entry)) (now (out .exit)) left ⌝ }
 {
     if operands.len() < 12 {
-        return stop(head, out, 7);
+        return stop(head, out, from, 7);
     }
     let k1 = number2(operands, 0);
     let k2 = number2(operands, 2);
@@ -167,15 +170,15 @@ fn run_question(
         t1,
         t2,
     );
-    let length = put_answer(out, answer);
+    let written = put_answer(out, from, answer);
     Ran {
         head,
-        length,
+        written,
         on: true,
     }
 }
 
-// Runs the command of a byte, with the bytes that follow it, and writes what it says to the front of `out`.
+// Runs the command of a byte, with the bytes that follow it, and writes what it says into `out` from a place on.
 pub fn run_command(
     head: Head,
     start_table: &mut [u64],
@@ -185,12 +188,13 @@ pub fn run_command(
     code: u8,
     operands: &[u8],
     out: &mut [u8],
+    from: usize,
 ) -> Ran
-    requires { ⌜ longestAnswer ≤ length (now out) ⌝ }
+    requires { ⌜ from + longestAnswer ≤ length (now out) ⌝ }
     ensures { λ r. do
       let s : Store = storeOf head (now («start_table» .entry)) (now («start_roots» .entry)) (now («end_table» .entry)) (now («end_roots» .entry))
       let left : Lent = lentOf (now («start_table» .exit)) (now («start_roots» .exit)) (now («end_table» .exit)) (now («end_roots» .exit))
-      ⌜ RanAs (runOne s code (now (operands .entry))) r (now (out .entry)) (now (out .exit)) left ⌝ }
+      ⌜ RanAs (runOne s code (now (operands .entry))) r from (now (out .entry)) (now (out .exit)) left ⌝ }
 {
     if code == 1 {
         return run_start(
@@ -201,6 +205,7 @@ pub fn run_command(
             end_roots,
             operands,
             out,
+            from,
         );
     }
     if code == 2 {
@@ -212,6 +217,7 @@ pub fn run_command(
             end_roots,
             operands,
             out,
+            from,
         );
     }
     if code == 3 {
@@ -223,7 +229,8 @@ pub fn run_command(
             end_roots,
             operands,
             out,
+            from,
         );
     }
-    stop(head, out, 6)
+    stop(head, out, from, 6)
 }

@@ -1,4 +1,4 @@
-use Prim.Native.Nat.{ℕ}
+use Prim.Native.Nat.{ℕ, _+_}
 use mathlib.Core.Path.{ap, _∙_}
 use mathlib.Core.List.{List}
 use Rattle.words.specs.Overwrite.{overwrite}
@@ -11,6 +11,9 @@ use Rattle.interpret.proofs.answers.put_started.Tie as tie
 put-number-requires : tie.Need-put-number-requires
 put-number-requires c κs = search needs
 
+add-put-number : tie.Need-add-put-number
+add-put-number c = search needs
+
 put-number-requires-2 : tie.Need-put-number-requires-2
 put-number-requires-2 c κs = search needs
 
@@ -21,9 +24,9 @@ returns : tie.Need-returns
 returns c =
     let a = c .before .before .before .before .before .before .before .before .before .args in
     c .before .before .put-number2 .ensures
-    ∙ ap (λ (l : List ℕ). overwrite l 1 (bytesOf 4 (a .number))) (c .before .before .before .before .before .before .put-number .ensures)
-    ∙ started-bytes (a .out .now) (c .before .before .before .before .before .before .before .before .before .pre) (a .number)
+    ∙ ap (λ (l : List ℕ). overwrite l (a .from + 1) (bytesOf 4 (a .number))) (c .before .before .before .before .before .before .put-number .ensures)
+    ∙ started-bytes (a .out .now) (a .from) (c .before .before .before .before .before .before .before .before .before .pre) (a .number)
 
 pub put-started-spec : {M : Type 1} → statement M
 put-started-spec =
-    tie.close (tie.spec put-number-requires put-number-requires-2 same-length returns)
+    tie.close (tie.spec put-number-requires add-put-number put-number-requires-2 same-length returns)

@@ -1,6 +1,6 @@
 use mathlib.Core.Path.{ap, sym}
 use Rattle.command.specs.Stream.{operandBytes}
-use Rattle.interpret.proofs.KindLaws.{kind-start, kind-end, kind-question, kind-unknown}
+use Rattle.command.proofs.KindLaws.{kind-start, kind-end, kind-question, kind-unknown}
 use Rattle.interpret.proofs.run.operand_count.Statement.{statement}
 use Rattle.interpret.proofs.run.operand_count.Tie as tie
 

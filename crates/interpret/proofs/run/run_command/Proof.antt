@@ -1,4 +1,4 @@
-use Rattle.interpret.proofs.KindLaws.{kind-start, kind-end, kind-question, kind-unknown}
+use Rattle.command.proofs.KindLaws.{kind-start, kind-end, kind-question, kind-unknown}
 use Rattle.interpret.proofs.RunLaws.{of-kind, unknown-stops}
 use Rattle.store.specs.Trees.{storeOf}
 use borrow.Author.Needs.{needs}
@@ -26,7 +26,7 @@ same-length-5 c = search needs
 returns : tie.Need-returns
 returns c =
     let a = c .before .before .before .before .before .before .before .before .before .before .before .before .before .before .before .before .before .before .before .args in
-    of-kind (storeOf (a .head) (a .start-table .now) (a .start-roots .now) (a .end-table .now) (a .end-roots .now)) (a .operands .now) (a .code) _ (kind-start (a .code) (c .before .before .before .before .before .before .before .before .before .before .before .before .if1 .taken)) _ _ _ _
+    of-kind (storeOf (a .head) (a .start-table .now) (a .start-roots .now) (a .end-table .now) (a .end-roots .now)) (a .operands .now) (a .code) _ (kind-start (a .code) (c .before .before .before .before .before .before .before .before .before .before .before .before .if1 .taken)) _ _ _ _ _
     (c .before .before .before .before .before .before .run-start .ensures)
 
 run-end-requires : tie.Need-run-end-requires
@@ -50,7 +50,7 @@ same-length-10 c = search needs
 returns-2 : tie.Need-returns-2
 returns-2 c =
     let a = c .before .before .before .before .before .before .before .before .before .before .before .before .before .before .before .before .before .before .before .before .args in
-    of-kind (storeOf (a .head) (a .start-table .now) (a .start-roots .now) (a .end-table .now) (a .end-roots .now)) (a .operands .now) (a .code) _ (kind-end (a .code) (c .before .before .before .before .before .before .before .before .before .before .before .before .before .if1 .left) (c .before .before .before .before .before .before .before .before .before .before .before .before .if2 .taken)) _ _ _ _
+    of-kind (storeOf (a .head) (a .start-table .now) (a .start-roots .now) (a .end-table .now) (a .end-roots .now)) (a .operands .now) (a .code) _ (kind-end (a .code) (c .before .before .before .before .before .before .before .before .before .before .before .before .before .if1 .left) (c .before .before .before .before .before .before .before .before .before .before .before .before .if2 .taken)) _ _ _ _ _
     (c .before .before .before .before .before .before .run-end .ensures)
 
 run-question-requires : tie.Need-run-question-requires
@@ -74,7 +74,7 @@ same-length-15 c = search needs
 returns-3 : tie.Need-returns-3
 returns-3 c =
     let a = c .before .before .before .before .before .before .before .before .before .before .before .before .before .before .before .before .before .args in
-    of-kind (storeOf (a .head) (a .start-table .now) (a .start-roots .now) (a .end-table .now) (a .end-roots .now)) (a .operands .now) (a .code) _ (kind-question (a .code) (c .before .before .before .before .before .before .before .before .before .before .if1 .left) (c .before .before .before .before .before .before .before .before .before .if2 .left) (c .before .before .before .before .before .before .before .before .if3 .taken)) _ _ _ _
+    of-kind (storeOf (a .head) (a .start-table .now) (a .start-roots .now) (a .end-table .now) (a .end-roots .now)) (a .operands .now) (a .code) _ (kind-question (a .code) (c .before .before .before .before .before .before .before .before .before .before .if1 .left) (c .before .before .before .before .before .before .before .before .before .if2 .left) (c .before .before .before .before .before .before .before .before .if3 .taken)) _ _ _ _ _
     (c .before .before .run-question .ensures)
 
 stop-requires : tie.Need-stop-requires
@@ -86,8 +86,8 @@ same-length-16 c = search needs
 returns-4 : tie.Need-returns-4
 returns-4 c =
     let a = c .before .before .before .before .before .before .before .before .before .before .before .before .before .args in
-    of-kind (storeOf (a .head) (a .start-table .now) (a .start-roots .now) (a .end-table .now) (a .end-roots .now)) (a .operands .now) (a .code) _ (kind-unknown (a .code) (c .before .before .before .before .before .before .if1 .left) (c .before .before .before .before .before .if2 .left) (c .before .before .before .before .if3 .left)) _ _ _ _
-    (unknown-stops (storeOf (a .head) (a .start-table .now) (a .start-roots .now) (a .end-table .now) (a .end-roots .now)) (a .operands .now) _ _ _ (c .before .before .stop .ensures .0) (c .before .before .stop .ensures .1))
+    of-kind (storeOf (a .head) (a .start-table .now) (a .start-roots .now) (a .end-table .now) (a .end-roots .now)) (a .operands .now) (a .code) _ (kind-unknown (a .code) (c .before .before .before .before .before .before .if1 .left) (c .before .before .before .before .before .if2 .left) (c .before .before .before .before .if3 .left)) _ _ _ _ _
+    (unknown-stops (storeOf (a .head) (a .start-table .now) (a .start-roots .now) (a .end-table .now) (a .end-roots .now)) (a .operands .now) _ _ _ _ (c .before .before .stop .ensures .0) (c .before .before .stop .ensures .1))
 
 pub run-command-spec : {M : Type 1} → statement M
 run-command-spec =

@@ -15,7 +15,7 @@ returns : tie.Need-returns
 returns c =
     let a = c .before .before .before .before .before .before .before .before .before .before .before .args in
     let stopped = c .before .before .stop .ensures in
-    cut-short (storeOf (a .head) (a .start-table .now) (a .start-roots .now) (a .end-table .now) (a .end-roots .now)) (a .operands .now) 8 endCommand (c .before .before .before .before .if1 .taken) _ _ _ (stopped .0) (stopped .1)
+    cut-short (storeOf (a .head) (a .start-table .now) (a .start-roots .now) (a .end-table .now) (a .end-roots .now)) (a .operands .now) 8 endCommand (c .before .before .before .before .if1 .taken) _ _ _ _ (stopped .0) (stopped .1)
 
 number4-requires : tie.Need-number4-requires
 number4-requires c κs = search needs
@@ -43,7 +43,7 @@ returns-2 c =
     let called = c .before .before .before .before .before .before .before .before .before in
     let a = called .before .before .before .before .before .before .before .before .before .before .before .before .args in
     let put = c .before .before .before .put-answer .ensures in
-    ran-end (storeOf (a .head) (a .start-table .now) (a .start-roots .now) (a .end-table .now) (a .end-roots .now)) (a .operands .now) _ _ _ (called .before .before .before .before .before .if1 .left) _ _ (called .before .before .before .before .number4 .ensures)
+    ran-end (storeOf (a .head) (a .start-table .now) (a .start-roots .now) (a .end-table .now) (a .end-roots .now)) (a .operands .now) _ _ _ _ (called .before .before .before .before .before .if1 .left) _ _ (called .before .before .before .before .number4 .ensures)
     (called .before .before .before .number42 .ensures) _ _ (called .end .ensures) (put .0) (put .1)
 
 pub run-end-spec : {M : Type 1} → statement M

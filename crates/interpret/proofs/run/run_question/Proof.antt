@@ -15,7 +15,7 @@ returns : tie.Need-returns
 returns c =
     let a = c .before .before .before .before .before .before .before .before .before .before .before .args in
     let stopped = c .before .before .stop .ensures in
-    cut-short (storeOf (a .head) (a .start-table .now) (a .start-roots .now) (a .end-table .now) (a .end-roots .now)) (a .operands .now) 12 questionCommand (c .before .before .before .before .if1 .taken) _ _ _ (stopped .0) (stopped .1)
+    cut-short (storeOf (a .head) (a .start-table .now) (a .start-roots .now) (a .end-table .now) (a .end-roots .now)) (a .operands .now) 12 questionCommand (c .before .before .before .before .if1 .taken) _ _ _ _ (stopped .0) (stopped .1)
 
 number2-requires : tie.Need-number2-requires
 number2-requires c κs = search needs
@@ -43,7 +43,7 @@ returns-2 c =
     let called = c .before .before .before .before in
     let a = called .before .before .before .before .before .before .before .before .before .before .before .before .args in
     let put = c .before .before .put-answer .ensures in
-    ran-question (storeOf (a .head) (a .start-table .now) (a .start-roots .now) (a .end-table .now) (a .end-roots .now)) (a .operands .now) _ _ _ (called .before .before .before .before .before .if1 .left) _ _ _ _ (called .before .before .before .before .number2 .ensures)
+    ran-question (storeOf (a .head) (a .start-table .now) (a .start-roots .now) (a .end-table .now) (a .end-roots .now)) (a .operands .now) _ _ _ _ (called .before .before .before .before .before .if1 .left) _ _ _ _ (called .before .before .before .before .number2 .ensures)
     (called .before .before .before .number22 .ensures) (called .before .before .number4 .ensures) (called .before .number42 .ensures) _ (called .question .ensures)
     (put .0) (put .1)
 

@@ -15,7 +15,7 @@ returns : tie.Need-returns
 returns c =
     let a = c .before .before .before .before .before .before .before .before .before .before .before .args in
     let stopped = c .before .before .stop .ensures in
-    cut-short (storeOf (a .head) (a .start-table .now) (a .start-roots .now) (a .end-table .now) (a .end-roots .now)) (a .operands .now) 8 startCommand (c .before .before .before .before .if1 .taken) _ _ _ (stopped .0) (stopped .1)
+    cut-short (storeOf (a .head) (a .start-table .now) (a .start-roots .now) (a .end-table .now) (a .end-roots .now)) (a .operands .now) 8 startCommand (c .before .before .before .before .if1 .taken) _ _ _ _ (stopped .0) (stopped .1)
 
 number4-requires : tie.Need-number4-requires
 number4-requires c κs = search needs
@@ -46,7 +46,7 @@ returns-2 c =
     let called = c .before .before .before .before .before .before .before .before .before in
     let a = called .before .before .before .before .before .before .before .before .before .before .before .before .before .args in
     let put = c .before .before .before .put-answer .ensures in
-    ran-start (storeOf (a .head) (a .start-table .now) (a .start-roots .now) (a .end-table .now) (a .end-roots .now)) (a .operands .now) _ _ _ (called .before .before .before .before .before .before .if1 .left) _ _ _ (called .before .before .before .before .before .number4 .ensures)
+    ran-start (storeOf (a .head) (a .start-table .now) (a .start-roots .now) (a .end-table .now) (a .end-roots .now)) (a .operands .now) _ _ _ _ (called .before .before .before .before .before .before .if1 .left) _ _ _ (called .before .before .before .before .before .number4 .ensures)
     (called .before .before .before .before .number2 .ensures) (called .before .before .before .number22 .ensures) _ _ (called .start .ensures) (put .0) (put .1)
 
 pub run-start-spec : {M : Type 1} → statement M
