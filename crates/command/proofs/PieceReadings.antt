@@ -14,7 +14,7 @@ use Rattle.command.specs.Stream.{Kind, unknown, command, kindOf, operand
 use Rattle.command.specs.Pieces.{Fed, takesNothing, followed, commandLength, isUnfinished, mustWait, runPiece, Unfinished}
 use Rattle.command.proofs.KindLaws.{by-kind, few-operands}
 use Rattle.command.proofs.AnswerLengths.{output-fits}
-use Rattle.command.proofs.PieceSteps.{on-whole, taken-on, each-piece}
+use Rattle.command.proofs.PieceSteps.{on-whole, has-room, taken-on, each-piece}
 
 -- A command byte with its operands has 9 bytes at least; 6 and 7 are one byte
 kind-long : (s : Store) (b : ℕ) (bytes : List ℕ) → runOne s b bytes .on ≡ true → 8 ≤ operandBytes (kindOf b)
@@ -63,6 +63,18 @@ writes-few room ended s bytes =
       kind-long s b bytes o,
       on-whole s b bytes o,
     ))
+    room ended s bytes
+
+-- No more bytes written than there is room for
+pub writes-inside : (room : ℕ) (ended : Bool) (s : Store) (bytes : List ℕ) → length (runPiece room ended s bytes .output) ≤ room
+writes-inside room ended s bytes =
+    each-piece (λ (room : ℕ) (ended : Bool) (s : Store) (bytes : List ℕ) (f : Fed). length (f .output) ≤ room)
+    (λ room ended s. omega arith)
+    (λ room ended s b bytes w. omega arith)
+    (λ room ended s b bytes w o.
+    omega (arith, length-append (runOne s b bytes .output) [], output-fits s b bytes, has-room room ended b bytes w))
+    (λ room ended s b bytes f w o h.
+    omega (arith, h, length-append (runOne s b bytes .output) (f .output), output-fits s b bytes, has-room room ended b bytes w))
     room ended s bytes
 
 -- A run that is not over waits for bytes, which may still come, or for room

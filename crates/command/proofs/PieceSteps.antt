@@ -2,7 +2,7 @@
 use Prim.Native.Nat.{ℕ, zero, suc, _+_, _-_, _≤_, min}
 use native.Mathlib.Omega.{arith}
 use mathlib.Core.Path.{_≡_, refl, ap, sym, _∙_}
-use mathlib.Core.Bool.{Bool, true, false, true≢false, cond}
+use mathlib.Core.Bool.{Bool, true, false, true≢false, cond, not, _&&_}
 use mathlib.Core.List.{List, [], _∷_}
 use lib.ListN.{length, drop, length-drop}
 use lib.Seq.{drop-drop}
@@ -10,8 +10,9 @@ use lib.Dec.{ltb}
 use borrow.Author.Tests.{ltb-false}
 use Rattle.store.specs.Trees.{Store}
 use Rattle.store.specs.Performing.{perform}
-use Rattle.command.specs.Stream.{Kind, unknown, command, kindOf, operandBytes, cutShort, Ran, stops, answers, runKind, runOne}
-use Rattle.command.specs.Pieces.{Fed, takesNothing, followed, commandLength, mustWait, thenPiece, runPieceFor, runPiece}
+use Rattle.store.proofs.RefusalLaws.{or-false}
+use Rattle.command.specs.Stream.{Kind, unknown, command, kindOf, operandBytes, longestAnswer, cutShort, Ran, stops, answers, runKind, runOne}
+use Rattle.command.specs.Pieces.{Fed, takesNothing, followed, commandLength, isUnfinished, mustWait, thenPiece, runPieceFor, runPiece}
 
 -- A run goes on only after a whole command
 kind-whole : (s : Store) (bytes : List ℕ) (kind : Kind) → runKind s bytes kind .on ≡ true → operandBytes kind ≤ length bytes
@@ -24,6 +25,10 @@ kind-whole s bytes (command n call) e = go (ltb (length bytes) n) refl e
 
 pub on-whole : (s : Store) (b : ℕ) (bytes : List ℕ) → runOne s b bytes .on ≡ true → operandBytes (kindOf b) ≤ length bytes
 on-whole s b bytes = kind-whole s bytes (kindOf b)
+
+-- A command that does not wait has room for its answer
+pub has-room : (room : ℕ) (ended : Bool) (b : ℕ) (bytes : List ℕ) → mustWait room ended b bytes ≡ false → longestAnswer ≤ room
+has-room room ended b bytes e = ltb-false room longestAnswer (or-false (ltb room longestAnswer) (not ended && isUnfinished b bytes) e .0)
 
 -- What is taken of a piece is the command and what is taken of the rest behind it
 pub taken-on : (b : ℕ) (bytes : List ℕ) (t : ℕ) → operandBytes (kindOf b) ≤ length bytes

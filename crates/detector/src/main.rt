@@ -1,154 +1,106 @@
 // The command program: commands from standard input, what they say to standard output, over a store of its own. Reading and writing is all that
-// happens here; what a command does is run_command's part.
-use interpret::LONGEST_ANSWER;
-use interpret::Ran;
-use interpret::operand_count;
-use interpret::run_command;
-use libc::STDIN_FILENO;
-use libc::STDOUT_FILENO;
+// happens here; what the bytes do is run_piece's part.
+mod input;
+mod turn;
+
 use store::Head;
-ghost use Prim.Native.Nat.{_≤_};
-ghost use lib.ListN.{length};
-ghost use Rattle.interpret.specs.Runs.{longestAnswer};
-
-// Reads so many bytes to the front of a buffer. Fewer come where the input ends.
-fn read_front(buffer: &mut [u8], count: usize) -> usize
-    requires { ⌜ count ≤ length (now buffer) ⌝ }
-    ensures { λ r. ⌜ r ≤ count ⌝ }
-{
-    io::read_full(STDIN_FILENO, &mut buffer[..count])
-}
-
-// Writes so many bytes from the front of a buffer.
-fn write_front(buffer: &[u8], count: usize)
-    requires { ⌜ count ≤ length (now buffer) ⌝ }
-{
-    io::write_all(STDOUT_FILENO, &buffer[..count]);
-}
-
-// Runs a command on the operands that came, and says how many bytes of `out` it wrote.
-fn run_front(
-    head: Head,
-    start_table: &mut [u64],
-    start_roots: &mut [u64],
-    end_table: &mut [u64],
-    end_roots: &mut [u64],
-    code: u8,
-    operands: &[u8],
-    came: usize,
-    out: &mut [u8],
-) -> Ran
-    requires { ⌜ came ≤ length (now operands) ⌝ }
-    requires { ⌜ longestAnswer ≤ length (now out) ⌝ }
-    ensures { λ r. ⌜ r .length ≤ longestAnswer ⌝ }
-{
-    run_command(
-        head,
-        start_table,
-        start_roots,
-        end_table,
-        end_roots,
-        code,
-        &operands[..came],
-        out,
-    )
-}
-
-// Reads the operands of a command, no more bytes than it has, runs it and writes what it says.
-fn obey(
-    head: Head,
-    start_table: &mut [u64],
-    start_roots: &mut [u64],
-    end_table: &mut [u64],
-    end_roots: &mut [u64],
-    code: u8,
-) -> Ran {
-    let mut operands = [0u8; 12];
-    let asked = operand_count(code);
-    let came = read_front(&mut operands, asked);
-    let mut out = [0u8; LONGEST_ANSWER];
-    let ran = run_front(
-        head,
-        start_table,
-        start_roots,
-        end_table,
-        end_roots,
-        code,
-        &operands,
-        came,
-        &mut out,
-    );
-    write_front(&out, ran.length);
-    ran
-}
-
-// One command, from its first byte on. "Input that ends between commands ends the run, with nothing written."
-fn next(
-    head: Head,
-    start_table: &mut [u64],
-    start_roots: &mut [u64],
-    end_table: &mut [u64],
-    end_roots: &mut [u64],
-) -> Ran {
-    let mut code = [0u8; 1];
-    let came = io::read_full(STDIN_FILENO, &mut code);
-    if came == 0 {
-        return Ran {
-            head,
-            length: 0,
-            on: false,
-        };
-    }
-    obey(
-        head,
-        start_table,
-        start_roots,
-        end_table,
-        end_roots,
-        code[0],
-    )
-}
-
-// A proved loop has to end, and nothing says that the input does. So the commands are counted down, from a number that no run uses up.
-fn run(
-    opened: Head,
-    start_table: &mut [u64],
-    start_roots: &mut [u64],
-    end_table: &mut [u64],
-    end_roots: &mut [u64],
-) {
-    let mut head = opened;
-    let mut left = u64::MAX;
-    while left > 0 {
-        let ran = next(head, start_table, start_roots, end_table, end_roots);
-        if !ran.on {
-            return;
-        }
-        head = ran.head;
-        left -= 1;
-    }
-}
+use turn::Left;
+use turn::turn;
+ghost use mathlib.Core.Path.{_≡_};
+ghost use mathlib.Core.Bool.{false};
+ghost use mathlib.Core.List.{[]};
+ghost use lib.ListN.{replicate};
+ghost use Rattle.store.specs.Trees.{Store, storeOf};
+ghost use Rattle.command.specs.Stream.{programTree, programStore};
+ghost use Rattle.command.specs.Pieces.{Feed, programFeed};
+ghost use Rattle.detector.specs.Turns.{feedOf, Served};
 
 // "the program's own tables hold 12 pages a tree and 12 roots": arrays of 3,120 words and of 12.
 const PAGES: usize = 12;
 
 const TABLE_WORDS: usize = PAGES * page::Page::WORDS;
 
+// As much as one read brings, and room for the answers to it.
+const PIECE: usize = 4096;
+
+const ANSWERS: usize = 2 * PIECE + interpret::LONGEST_ANSWER;
+
+// A proved loop has to end, and nothing says that the input does. So the turns are counted down, from a number that no run uses up.
+const MOST_TURNS: u64 = u64::MAX;
+
+fn serve(
+    opened: Head,
+    start_table: &mut [u64],
+    start_roots: &mut [u64],
+    end_table: &mut [u64],
+    end_roots: &mut [u64],
+) -> Left
+    ensures { λ r. do
+      let s : Store = storeOf opened (now («start_table» .entry)) (now («start_roots» .entry)) (now («end_table» .entry)) (now («end_roots» .entry))
+      let before : Feed = record { store = s; waiting = []; over = false }
+      let after : Store = storeOf (r .head) (now («start_table» .exit)) (now («start_roots» .exit)) (now («end_table» .exit)) (now («end_roots» .exit))
+      ⌜ Served before after (r .over) ⌝ }
+{
+    let mut buffer = [0u8; PIECE];
+    let mut out = [0u8; ANSWERS];
+    let mut now = Left {
+        head: opened,
+        waiting: 0,
+        over: false,
+    };
+    let mut left = MOST_TURNS;
+    while left > 0 {
+        let head = now.head;
+        now = turn(
+            head,
+            start_table,
+            start_roots,
+            end_table,
+            end_roots,
+            &mut buffer,
+            now.waiting,
+            &mut out,
+        );
+        if now.over {
+            return now;
+        }
+        left -= 1;
+    }
+    now
+}
+
+// Opens the store in the program's tables and runs the input on it.
+fn run_program(
+    start_table: &mut [u64; TABLE_WORDS],
+    start_roots: &mut [u64; PAGES],
+    end_table: &mut [u64; TABLE_WORDS],
+    end_roots: &mut [u64; PAGES],
+) -> Left
+    requires { ⌜ now «start_table» ≡ programTree .table ⌝ }
+    requires { ⌜ now «start_roots» ≡ programTree .roots ⌝ }
+    requires { ⌜ now «end_table» ≡ programTree .table ⌝ }
+    requires { ⌜ now «end_roots» ≡ programTree .roots ⌝ }
+    ensures { λ r. do
+      let after : Store = storeOf (r .head) (now («start_table» .exit)) (now («start_roots» .exit)) (now («end_table» .exit)) (now («end_roots» .exit))
+      ⌜ Served programFeed after (r .over) ⌝ }
+{
+    let reply = updates::open(
+        head::opened_head(),
+        start_table,
+        start_roots,
+        end_table,
+        end_roots,
+    );
+    let opened = reply.head;
+    serve(opened, start_table, start_roots, end_table, end_roots)
+}
+
 fn main() {
     let mut start_table = [0u64; TABLE_WORDS];
     let mut start_roots = [0u64; PAGES];
     let mut end_table = [0u64; TABLE_WORDS];
     let mut end_roots = [0u64; PAGES];
-    let reply = updates::open(
-        head::opened_head(),
-        &mut start_table,
-        &mut start_roots,
-        &mut end_table,
-        &mut end_roots,
-    );
-    let opened = reply.head;
-    run(
-        opened,
+    run_program(
         &mut start_table,
         &mut start_roots,
         &mut end_table,

@@ -8,17 +8,16 @@ use mathlib.Core.List.{List, [], _∷_, _++_, append-assoc, append-nil}
 use lib.ListN.{length, getD, drop, length-append, length-drop}
 use lib.Seq.{drop-cons, drop-drop}
 use lib.Dec.{ltb}
-use borrow.Author.Tests.{ltb-false, lt-ltb, le-ltb, not-true, not-false}
+use borrow.Author.Tests.{lt-ltb, le-ltb, not-true, not-false}
 use Rattle.words.specs.Overwrite.{overwrite}
 use Rattle.words.proofs.OverwriteLaws.{overwrite-none, overwrite-more}
 use Rattle.store.specs.Trees.{Lent, Store}
-use Rattle.store.proofs.RefusalLaws.{or-false}
 use Rattle.command.specs.Stream as stream
 use Rattle.command.specs.Stream.{kindOf, operandBytes, longestAnswer, runOne}
 use Rattle.command.specs.Pieces as piece
 use Rattle.command.specs.Pieces.{takesNothing, followed, commandLength, isUnfinished, mustWait, runPiece}
 use Rattle.command.proofs.AnswerLengths.{output-fits}
-use Rattle.command.proofs.PieceSteps.{on-whole, piece-none, piece-waits, piece-stops, piece-goes-on}
+use Rattle.command.proofs.PieceSteps.{on-whole, has-room, piece-none, piece-waits, piece-stops, piece-goes-on}
 use Rattle.interpret.specs.declared.run.Ran.{Ran}
 use Rattle.interpret.specs.declared.pieces.Fed.{Fed}
 use Rattle.interpret.specs.Runs.{RanAs, RanAt, FedAs}
@@ -46,9 +45,6 @@ module _ (input : List ℕ) (at : ℕ) where
         → ltb (length input - (at + 1)) operands ≡ mustWait room ended code behind
     waits-for-bytes h e operands is =
         ap₂ ltb (sym (length-drop (at + 1) input)) is ∙ sym (roomy h ∙ ap (λ (x : Bool). not x && isUnfinished code behind) e)
-
-    pub has-room : mustWait room ended code behind ≡ false → longestAnswer ≤ room
-    has-room e = ltb-false room longestAnswer (or-false (ltb room longestAnswer) (not ended && isUnfinished code behind) e .0)
 
   -- Where it ends, operands missing or not
   module _ (operands : ℕ) (is : operands ≡ operandBytes (kindOf code)) (inside : at < length input) where
@@ -153,7 +149,7 @@ module _ (out₀ : List ℕ) (ended : Bool) (s₀ : Store) (input : List ℕ) wh
       command-waits {over} off e = rests over (ap (runPiece room ended s) here ∙ piece-waits room ended s b rest (sym e) ∙ ap (takesNothing s) (sym off))
 
       pub still-fits : false ≡ mustWait room ended b rest → written + longestAnswer ≤ length out₀
-      still-fits ready = omega (arith, g .fits, has-room input taken room ended (sym ready))
+      still-fits ready = omega (arith, g .fits, has-room room ended b rest (sym ready))
 
       module _ (ready : false ≡ mustWait room ended b rest) {r : Fed} {out′ : List ℕ} {lent : Lent} (ran : RanAt s input taken r written out out′ lent) where
         put : out′ ≡ overwrite out₀ 0 (g .said ++ does .output)

@@ -1,12 +1,11 @@
 use mathlib.Core.Path.{sym}
 use lib.Seq.{length-take-le}
 use borrow.Author.Needs.{needs}
-use Rattle.detector.proofs.write_front.Statement.{statement}
-use Rattle.detector.proofs.write_front.Tie as tie
+use Rattle.detector.proofs.turn.write_front.Statement.{statement}
+use Rattle.detector.proofs.turn.write_front.Tie as tie
 
 slice-aggregate-write-all : tie.Need-slice-aggregate-write-all
-slice-aggregate-write-all c =
-    sym (length-take-le _ _ (c .before .before .pre))
+slice-aggregate-write-all c = sym (length-take-le _ _ (c .before .before .pre))
 
 write-all-requires : tie.Need-write-all-requires
 write-all-requires c κs = search needs

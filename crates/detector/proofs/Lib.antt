@@ -1,0 +1,3 @@
+-- Laws of the command program.
+pub mod BufferLaws
+pub mod TurnLaws

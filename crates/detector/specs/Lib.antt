@@ -1,0 +1,2 @@
+-- The command program: what a turn of it does.
+pub mod Turns
