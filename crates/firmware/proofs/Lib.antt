@@ -1,3 +1,4 @@
 -- Laws of the exported calls.
 pub mod ExportedLaws
 pub mod ExportedLists
+pub mod PacketLaws

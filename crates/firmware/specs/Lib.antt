@@ -1,2 +1,3 @@
 -- The store as firmware in C calls it.
 pub mod Exported
+pub mod Packets

@@ -1,0 +1,24 @@
+-- What an exported call says of a packet of commands, and leaves.
+use Prim.Native.Nat.{ℕ}
+use mathlib.Core.Path.{_≡_}
+use mathlib.Core.Bool.{Bool, cond}
+use mathlib.Core.List.{List}
+use lib.ListN.{length}
+use Rattle.words.specs.Overwrite.{overwrite}
+use Rattle.command.specs.Pieces.{Fed}
+use Rattle.firmware.specs.Exported.{Handed, handedBack}
+
+-- The number returned, the lent numbers and the room for answers, afterwards
+pub record Packet : Type 0 where
+  pub over : ℕ
+  pub taken : ℕ
+  pub written : ℕ
+  pub out : List ℕ
+
+-- A packet that comes to f: 1 where the run is over, the bytes taken and written, the answers at the front of the room, and the store in its places
+pub record LeavesOf (f : Fed) (said : Packet) (out : List ℕ) (after : Handed) : Type 0 where
+  pub over : said .over ≡ cond (f .over) 1 0
+  pub taken : said .taken ≡ f .taken
+  pub written : said .written ≡ length (f .output)
+  pub output : said .out ≡ overwrite out 0 (f .output)
+  pub left : after ≡ handedBack (f .store)
