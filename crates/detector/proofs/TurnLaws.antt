@@ -16,9 +16,10 @@ use Rattle.store.specs.Calls.{opening}
 use Rattle.store.specs.Performing.{perform}
 use Rattle.updates.specs.declared.types.Reply.{Reply}
 use Rattle.updates.specs.Replies.{RepliedAs}
-use Rattle.command.specs.Stream.{longestAnswer, programLent, programStore}
+use Rattle.command.specs.Stream.{longestAnswer, programLent, programStore, output}
 use Rattle.command.specs.Pieces as piece
-use Rattle.command.specs.Pieces.{runPiece, Piece, Feed, programFeed, handedOver, fedWith, feedAfter, feedAll, inputOf, EndsOnce}
+use Rattle.command.specs.Pieces.{runPiece, Piece, Feed, programFeed, handedOver, fedWith, feedAfter, feedAll, writtenAll, inputOf, EndsOnce}
+use Rattle.command.proofs.AnyPieces.{any-pieces}
 use Rattle.command.proofs.PieceReadings.{takes-inside, room-enough, unfinished-short}
 use Rattle.interpret.specs.declared.pieces.Fed.{Fed}
 use Rattle.interpret.specs.Runs.{FedAs}
@@ -164,3 +165,7 @@ from-opened {s} e {reply} {lent} replied {left} {over} h =
     let opened : record { head = reply .head; lent = lent } ≡ perform s opening .store = λ i. record { head = replied .head i; lent = replied .lent-is i } in
     let ours : record { head = reply .head; lent = lent } ≡ programStore = opened ∙ ap (λ (x : Store). perform x opening .store) e in
     subst (λ (x : Store). Served (record { store = x; waiting = []; over = false }) left over) ours h
+
+-- A run that is over has written, piece by piece, the output of its whole input
+pub run-writes : {left : Store} {over : Bool} (h : Served programFeed left over) → over ≡ true → writtenAll programFeed (h .pieces) ≡ output (inputOf (h .pieces))
+run-writes h e = any-pieces (h .pieces) (h .ends) (sym (h .over-is) ∙ e)

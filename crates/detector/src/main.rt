@@ -18,7 +18,9 @@ ghost use Rattle.detector.specs.Turns.{feedOf, Served};
 // "the program's own tables hold 12 pages a tree and 12 roots": arrays of 3,120 words and of 12.
 const PAGES: usize = 12;
 
-const TABLE_WORDS: usize = PAGES * page::Page::WORDS;
+const ROOTS: usize = 12;
+
+const TABLE_WORDS: usize = PAGES * tree::PAGE_WORDS;
 
 // As much as one read brings, and room for the answers to it.
 const PIECE: usize = 4096;
@@ -72,9 +74,9 @@ fn serve(
 // Opens the store in the program's tables and runs the input on it.
 fn run_program(
     start_table: &mut [u64; TABLE_WORDS],
-    start_roots: &mut [u64; PAGES],
+    start_roots: &mut [u64; ROOTS],
     end_table: &mut [u64; TABLE_WORDS],
-    end_roots: &mut [u64; PAGES],
+    end_roots: &mut [u64; ROOTS],
 ) -> Left
     requires { ⌜ now «start_table» ≡ programTree .table ⌝ }
     requires { ⌜ now «start_roots» ≡ programTree .roots ⌝ }
@@ -97,9 +99,9 @@ fn run_program(
 
 fn main() {
     let mut start_table = [0u64; TABLE_WORDS];
-    let mut start_roots = [0u64; PAGES];
+    let mut start_roots = [0u64; ROOTS];
     let mut end_table = [0u64; TABLE_WORDS];
-    let mut end_roots = [0u64; PAGES];
+    let mut end_roots = [0u64; ROOTS];
     run_program(
         &mut start_table,
         &mut start_roots,

@@ -48,7 +48,7 @@ passes-behind front (p ∷ passes) at e =
 passes-back : (passes : List OpenPass) → length passes ≡ openLimit → passesFrom (numbersOf passes) 0 openLimit ≡ passes
 passes-back passes long = ap (passesFrom (numbersOf passes) 0) (sym long) ∙ passes-behind [] passes 0 refl
 
-store-back : (s : Store) → length (s .head .passes) ≡ openLimit → storeIn (handedBack s) ≡ s
+pub store-back : (s : Store) → length (s .head .passes) ≡ openLimit → storeIn (handedBack s) ≡ s
 store-back s long =
     let same = passes-back (s .head .passes) long in
     λ i.

@@ -3,16 +3,23 @@ use Prim.Native.Nat.{ℕ}
 use mathlib.Core.Path.{_≡_, refl, ap, subst, _∙_}
 use mathlib.Core.Bool.{Bool, true, false, cond}
 use mir.Val.{boolByte}
-use mathlib.Core.List.{List}
+use mathlib.Core.List.{List, [], _∷_, _++_}
+use lib.ListN.{length}
+use lib.Dec.{ltb}
 use Rattle.store.specs.declared.types.Head.{Head}
 use Rattle.store.specs.Trees.{Lent, Store}
+use Rattle.store.specs.Head.{openLimit}
+use Rattle.store.specs.Performing.{perform}
+use Rattle.command.specs.Stream.{Kind, unknown, command, kindOf, cutShort, stops, answers, runKind}
 use Rattle.command.specs.Pieces as piece
-use Rattle.command.specs.Pieces.{runPiece}
+use Rattle.command.specs.Pieces.{takesNothing, runPiece, Piece, Feed, handedOver, fedWith, feedAfter, writtenAll}
+use Rattle.command.proofs.PieceSteps.{each-piece}
 use Rattle.interpret.specs.declared.pieces.Fed.{Fed}
 use Rattle.interpret.specs.Runs.{FedAs}
 use Rattle.c_numbers.specs.Heads.{Fields, headOf, fieldsOf, numbersOf}
 use Rattle.firmware.specs.Exported.{Handed, storeIn, handedBack}
-use Rattle.firmware.specs.Packets.{Packet, LeavesOf}
+use Rattle.firmware.specs.Packets.{Packet, LeavesOf, handedOn, exportPackets}
+use Rattle.firmware.proofs.ExportedLists.{store-back, places-stay}
 
 -- A truth value as a byte
 pub as-byte : (b : Bool) → boolByte b ≡ cond b 1 0
@@ -38,3 +45,41 @@ module _ (room : ℕ) (ended : Bool) (before : Handed) (input : List ℕ) {head 
         output = is .output;
         left = λ i. record { fields = fields-are i; passes = passes-are i; lent = lent-is i };
       }
+
+-- Every packet leaves a head with as many places
+abbrev Places : Store → Type 0
+Places s = length (s .head .passes) ≡ openLimit
+
+command-places : (s : Store) → Places s → (bytes : List ℕ) (kind : Kind) → Places (runKind s bytes kind .store)
+command-places s long bytes unknown = long
+command-places s long bytes (command n call) = go (ltb (length bytes) n)
+  where
+    go : (x : Bool) → Places (cond x (stops s cutShort) (answers (perform s (call bytes))) .store)
+    go true = long
+    go false = places-stay s long (call bytes)
+
+packet-places : (room : ℕ) (ended : Bool) (s : Store) (bytes : List ℕ) → Places s → Places (runPiece room ended s bytes .store)
+packet-places =
+    each-piece (λ (room : ℕ) (ended : Bool) (s : Store) (bytes : List ℕ) (f : piece.Fed). Places s → Places (f .store))
+    (λ room ended s long. long)
+    (λ room ended s b bytes w long. long)
+    (λ room ended s b bytes w o long. command-places s long bytes (kindOf b))
+    (λ room ended s b bytes f w o h long. h (command-places s long bytes (kindOf b)))
+
+fed-places : (f : Feed) (p : Piece) → Places (f .store) → Places (feedAfter f p .store)
+fed-places f p long = go (f .over)
+  where
+    go : (x : Bool) → Places (cond x (takesNothing (f .store) true) (runPiece (p .room) (p .ended) (f .store) (handedOver f p)) .store)
+    go true = long
+    go false = packet-places (p .room) (p .ended) (f .store) (handedOver f p) long
+
+-- Packets, each handed what the one before left, are pieces of one stream: what any-pieces says of pieces holds of them
+pub exported-packets : (f : Feed) → length (f .store .head .passes) ≡ openLimit → (packets : List Piece) → exportPackets f packets ≡ writtenAll f packets
+unfolding exportPackets writtenAll
+exported-packets f long [] = refl
+exported-packets f long (p ∷ packets) =
+    let after : Feed = feedAfter f p in
+    let places : Places (after .store) = fed-places f p long in
+    let back : storeIn (handedBack (after .store)) ≡ after .store = store-back (after .store) places in
+    let same : handedOn after ≡ after = λ i. record { store = back i; waiting = after .waiting; over = after .over } in
+    ap (_++_ (fedWith f p .output)) (ap (λ (x : Feed). exportPackets x packets) same ∙ exported-packets after places packets)

@@ -2,11 +2,11 @@
 use Prim.Native.Nat.{ℕ}
 use mathlib.Core.Path.{_≡_}
 use mathlib.Core.Bool.{Bool, cond}
-use mathlib.Core.List.{List}
+use mathlib.Core.List.{List, [], _∷_, _++_}
 use lib.ListN.{length}
 use Rattle.words.specs.Overwrite.{overwrite}
-use Rattle.command.specs.Pieces.{Fed}
-use Rattle.firmware.specs.Exported.{Handed, handedBack}
+use Rattle.command.specs.Pieces.{Fed, Piece, Feed, fedWith, feedAfter}
+use Rattle.firmware.specs.Exported.{Handed, storeIn, handedBack}
 
 -- The number returned, the lent numbers and the room for answers, afterwards
 pub record Packet : Type 0 where
@@ -22,3 +22,11 @@ pub record LeavesOf (f : Fed) (said : Packet) (out : List ℕ) (after : Handed) 
   pub written : said .written ≡ length (f .output)
   pub output : said .out ≡ overwrite out 0 (f .output)
   pub left : after ≡ handedBack (f .store)
+
+-- Packets one after the other: each call is handed the numbers and the slices that the one before left, and the bytes that it did not take
+abbrev pub handedOn : Feed → Feed
+handedOn f = record { store = storeIn (handedBack (f .store)); waiting = f .waiting; over = f .over }
+
+unfoldable pub exportPackets : Feed → List Piece → List ℕ
+exportPackets f [] = []
+exportPackets f (p ∷ packets) = fedWith f p .output ++ exportPackets (handedOn (feedAfter f p)) packets

@@ -1,5 +1,4 @@
 // Refusal 20: a head that doesn't fit. Any head may be handed in, so the number of open passes is tested before a place is read.
-use page::Page;
 use store::Head;
 use store::OpenPass;
 use tree::TreeUse;
@@ -65,7 +64,7 @@ fn use_fits(used: TreeUse, words: usize, list: usize) -> bool
     if TreeUse::PAGE_LIMIT < used.pages {
         return false;
     }
-    if words / Page::WORDS < used.pages as usize {
+    if words / tree::PAGE_WORDS < used.pages as usize {
         return false;
     }
     if used.pages < used.roots {

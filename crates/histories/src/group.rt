@@ -1,7 +1,6 @@
 // A group of histories of one shape: twenty on small parts of the memory, on which pages and places for roots run out, and one on the whole.
 use crate::counts::Counts;
 use crate::history::history;
-use page::Page;
 use random_calls::Keys;
 use random_calls::NUMBERS;
 use random_calls::Pace;
@@ -38,7 +37,7 @@ fn part_of(random: &mut u64, small: bool, words: usize, places: usize) -> Part
 {
     if small {
         return Part {
-            words: lesser(Page::WORDS + draw(random, 2000) as usize, words),
+            words: lesser(tree::PAGE_WORDS + draw(random, 2000) as usize, words),
             places: lesser(1 + draw(random, 6) as usize, places),
             anew: 200,
             turns: 420,

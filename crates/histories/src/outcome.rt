@@ -5,7 +5,6 @@ use crate::left_behind::memory_sum;
 use crate::paths::height;
 use crate::paths::pages_opened;
 use crate::paths::word_at;
-use page::Page;
 use pass_book::Call;
 use store::Answer;
 use store::Head;
@@ -27,7 +26,7 @@ fn most_made(height: u64) -> u64
 // Whether a tree may lack pages for an entry: more may be made than are left.
 fn may_lack_pages(table: &[u64], roots: &[u64], used: TreeUse) -> bool {
     let most = most_made(height(table, roots, used.roots));
-    let whole = table.len() / Page::WORDS;
+    let whole = table.len() / tree::PAGE_WORDS;
     (whole as u64) < used.pages as u64 + most
 }
 

@@ -1,5 +1,4 @@
 // Pages opened, by the words that the store holds: the lengths of the paths of a question's or a lookup's lookups.
-use page::Page;
 use pass_book::Asked;
 use store::Head;
 use store::TreeName;
@@ -46,16 +45,16 @@ fn holds(keys: u64, life: u64, t: u32, k: u32) -> bool {
 fn row_count(table: &[u64], page: u32) -> usize
     ensures { λ r. ⌜ r ≤ rowLimit ⌝ }
 {
-    let rows = word_at(table, page as usize * Page::WORDS + 1);
-    if (Page::ROWS as u64) < rows {
-        return Page::ROWS;
+    let rows = word_at(table, page as usize * tree::PAGE_WORDS + 1);
+    if (tree::PAGE_ROWS as u64) < rows {
+        return tree::PAGE_ROWS;
     }
     rows as usize
 }
 
 // The child of the row that holds (t, k).
 fn child(table: &[u64], page: u32, t: u32, k: u32) -> u32 {
-    let from = page as usize * Page::WORDS + Page::HEADER_WORDS;
+    let from = page as usize * tree::PAGE_WORDS + tree::PAGE_HEADER_WORDS;
     let rows = row_count(table, page);
     let mut row: usize = 0;
     while row < rows {
@@ -75,7 +74,7 @@ fn path_length(table: &[u64], roots: &[u64], used: u32, t: u32, k: u32) -> u32 {
     let mut page = root_page(roots, used, t);
     let mut length: u32 = 1;
     while length < 5 {
-        if word_at(table, page as usize * Page::WORDS) == 0 {
+        if word_at(table, page as usize * tree::PAGE_WORDS) == 0 {
             return length;
         }
         page = child(table, page, t, k);
@@ -144,5 +143,5 @@ pub fn pages_opened(
 pub fn height(table: &[u64], roots: &[u64], used: u32) -> u64 {
     let last = std::num::wrapping_sub_u32(used, 1);
     let page = words::root_page(word_at(roots, last as usize));
-    std::num::wrapping_add_u64(word_at(table, page as usize * Page::WORDS), 1)
+    std::num::wrapping_add_u64(word_at(table, page as usize * tree::PAGE_WORDS), 1)
 }

@@ -1,13 +1,12 @@
 // A piece of the stream: as many of its commands as have come and as there is room for answers.
 use crate::answers::LONGEST_ANSWER;
-use crate::run::operand_count;
 use crate::run::run_command;
 use store::Head;
 ghost use mathlib.Core.Path.{_≡_};
 ghost use Prim.Native.Nat.{_+_, _≤_, _<_};
 ghost use lib.ListN.{length, getD, drop};
 ghost use Rattle.store.specs.Trees.{Lent, lentOf, Store, storeOf};
-ghost use Rattle.command.specs.Stream.{longestAnswer};
+ghost use Rattle.command.specs.Stream.{kindOf, operandBytes, longestAnswer};
 ghost use Rattle.command.specs.Pieces.{commandLength, mustWait, runPiece};
 ghost use Rattle.interpret.specs.Runs.{RanAt, FedAs};
 
@@ -17,6 +16,22 @@ pub struct Fed {
     pub taken: usize,
     pub written: usize,
     pub over: bool,
+}
+
+// How many operand bytes follow a command byte. An unknown command has none: nothing more is read after it.
+fn operand_count(code: u8) -> usize
+    ensures { λ r. ⌜ r ≡ operandBytes (kindOf code) ⌝ }
+{
+    if code == 1 {
+        return 8;
+    }
+    if code == 2 {
+        return 8;
+    }
+    if code == 3 {
+        return 12;
+    }
+    0
 }
 
 // Whether the command at a place waits: an answer might not have room, or operands of it may still come.

@@ -11,7 +11,7 @@ ghost use Prim.Native.Nat.{_+_, _≤_};
 ghost use lib.ListN.{length};
 ghost use Rattle.words.specs.Overwrite.{overwrite};
 ghost use Rattle.store.specs.Trees.{Lent, lentOf, Store, storeOf};
-ghost use Rattle.command.specs.Stream.{command, kindOf, operandBytes, longestAnswer, startCommand, endCommand, questionCommand, runKind, runOne};
+ghost use Rattle.command.specs.Stream.{command, longestAnswer, startCommand, endCommand, questionCommand, runKind, runOne};
 ghost use Rattle.interpret.specs.Runs.{RanAs};
 
 // What a command leaves: the head for the next one, the place behind what it wrote, and whether the run goes on.
@@ -19,22 +19,6 @@ pub struct Ran {
     pub head: Head,
     pub written: usize,
     pub on: bool,
-}
-
-// How many operand bytes follow a command byte. An unknown command has none: nothing more is read after it.
-pub fn operand_count(code: u8) -> usize
-    ensures { λ r. ⌜ r ≡ operandBytes (kindOf code) ⌝ }
-{
-    if code == 1 {
-        return 8;
-    }
-    if code == 2 {
-        return 8;
-    }
-    if code == 3 {
-        return 12;
-    }
-    0
 }
 
 // Ends the run with a number of its own, as one byte: 6 for an unknown command, 7 for one cut short.

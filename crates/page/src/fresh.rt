@@ -24,13 +24,13 @@ pub struct Page {
 
 impl Page {
     // The words of a page before its rows.
-    pub const HEADER_WORDS: usize = 4;
+    pub const HEADER_WORDS: usize = tree::PAGE_HEADER_WORDS;
 
     // The rows that a page holds.
-    pub const ROWS: usize = 64;
+    pub const ROWS: usize = tree::PAGE_ROWS;
 
     // The words of a page.
-    pub const WORDS: usize = Page::HEADER_WORDS + Page::ROWS * Row::WORDS;
+    pub const WORDS: usize = tree::PAGE_WORDS;
 
     // The live rows that one new page takes; more go to two pages.
     pub const COPIED: usize = 40;

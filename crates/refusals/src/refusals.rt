@@ -6,7 +6,6 @@ use crate::grounds::start_input;
 use crate::grounds::start_state;
 use head::find_pass;
 use head::head_fits;
-use page::Page;
 use store::FoundPass;
 use store::Head;
 use tree::Plan;
@@ -29,7 +28,7 @@ ghost use Rattle.refusals.specs.Grounds.{earlier, headGrounds, planGroun
 fn too_small(table: &[u64], roots: &[u64]) -> bool
     ensures { λ r. ⌜ r ≡ tooSmall (record { table = now (table .entry); roots = now (roots .entry) }) ⌝ }
 {
-    if table.len() < Page::WORDS {
+    if table.len() < tree::PAGE_WORDS {
         return true;
     }
     roots.len() < 1
@@ -84,7 +83,7 @@ fn pages_left(table: &[u64], used: TreeUse) -> usize
     ensures { λ r. ⌜ r ≡ pagesLeft (record { table = now (table .entry); roots = []; used = used }) ⌝ }
 {
     let most = TreeUse::PAGE_LIMIT as usize;
-    let whole = table.len() / Page::WORDS;
+    let whole = table.len() / tree::PAGE_WORDS;
     if whole < most {
         return whole - used.pages as usize;
     }
