@@ -19,16 +19,27 @@ ghost use Rattle.tree.specs.Tree.{putPage, pageLimit};
 ghost use Rattle.tree.specs.Overflow.{takenPage, lowerHalf};
 ghost use Rattle.split.specs.SplitWords.{scratchWords, Sourced, between, fillPage, addRows, gainPage, copiedTable, middleKey, halvedTable, splitWords};
 
-// A new page of the old page's level, with the rows of the entries from one place of the order up to another, each born at t and open. The
-// rows are stored here and not by `with_row`, which would copy the page for each of them.
-fn filled(words: &[u64], order: &[u64], from: usize, to: usize, low: u16, high: u16, t: u32) -> Page
+// A new page of the old page's level, with the rows of the entries from one place of the order up to another, each born at t and open, and a
+// value added to the first of them. All is stored here, and not by functions that take and give a page, which would copy it for each row.
+fn filled(
+    words: &[u64],
+    order: &[u64],
+    from: usize,
+    to: usize,
+    low: u16,
+    high: u16,
+    gain: Value,
+    t: u32,
+) -> Page
     requires { ⌜ headerWords ≤ length (now words) ⌝ }
     requires { ⌜ length (now order) ≡ mostRows ⌝ }
     requires { ⌜ from ≤ to ⌝ }
     requires { ⌜ to ≤ mostRows ⌝ }
     requires { ⌜ to - from ≤ rowLimit ⌝ }
     requires { ⌜ InPage (now words) (drop from (now order)) ⌝ }
-    ensures { λ r. ⌜ r ≡ fillPage (now (words .entry)) t (emptyPage (word (now (words .entry)) 0) low high t) (between from to (now (order .entry))) ⌝ }
+    ensures { λ r. do
+      let page : Page = fillPage (now (words .entry)) t (emptyPage (word (now (words .entry)) 0) low high t) (between from to (now (order .entry)))
+      ⌜ r ≡ gainPage gain page ⌝ }
 {
     let mut page = Page::empty(words[0], low, high, t);
     let mut at = from;
@@ -39,6 +50,8 @@ fn filled(words: &[u64], order: &[u64], from: usize, to: usize, low: u16, high: 
         page.count = place + 1;
         at += 1;
     }
+    let first = page.rows[0];
+    page.rows[0] = gained_row(first, gain);
     page
 }
 
@@ -58,15 +71,6 @@ fn total_of(words: &[u64], order: &[u64], from: usize, to: usize) -> Value
         at += 1;
     }
     total
-}
-
-// The page with a value added to its first row.
-fn gain_first(mut page: Page, value: Value) -> Page
-    ensures { λ r. ⌜ r ≡ gainPage value page ⌝ }
-{
-    let first = page.rows[0];
-    page.rows[0] = gained_row(first, value);
-    page
 }
 
 // Writes a page into its own part of the table.
@@ -105,8 +109,11 @@ fn put_rows(
       let page : Page = fillPage (now (words .entry)) t (emptyPage (word (now (words .entry)) 0) low high t) (between from to (now (order .entry)))
       ⌜ now (table .exit) ≡ putPage (now (table .entry)) number (encodePage (gainPage gain page)) ⌝ }
 {
-    let page = filled(words, order, from, to, low, high, t);
-    put_page(table, number, gain_first(page, gain));
+    put_page(
+        table,
+        number,
+        filled(words, order, from, to, low, high, gain, t),
+    );
 }
 
 // All live rows go to one new page of the old page's level and key range.
