@@ -12,7 +12,7 @@ use borrow.Author.Tests.{ltb-false}
 use Rattle.store.specs.Trees.{Store}
 use Rattle.store.proofs.RefusalLaws.{or-false}
 use Rattle.command.specs.Stream.{kindOf, operandBytes, longestAnswer, Ran, runOne, thenRest, runFor, runAll, output}
-use Rattle.command.specs.Pieces.{Fed, takesNothing, followed, commandLength, isUnfinished, mustWait, runPiece, Piece, Feed, programFeed, handedOver, fedWith, feedAfter, feedAll, writtenAll, inputOf, EndsOnce}
+use Rattle.command.specs.Pieces.{Fed, takesNothing, followed, commandLength, isUnfinished, mustWait, overAfter, runPiece, Piece, Feed, programFeed, handedOver, fedWith, feedAfter, feedAll, writtenAll, inputOf, EndsOnce}
 use Rattle.command.proofs.StreamLaws.{any-bound, front-enough}
 use Rattle.command.proofs.PieceSteps.{on-whole, taken-on, each-piece}
 
@@ -74,7 +74,7 @@ module _ (room : ℕ) (ended : Bool) (s : Store) (b : ℕ) (bytes : List ℕ) (r
       ∙ ap (thenRest runAll (drop operands (bytes ++ later))) (same-command later none (does-not-wait room ended b bytes ready))
       ∙ ap (λ (x : Bool). r .output ++ cond x (runAll (r .store) (drop operands (bytes ++ later))) []) e
 
-  runs-last : r .on ≡ false → Runs room ended s (b ∷ bytes) (followed (commandLength b bytes) (r .output) (takesNothing (r .store) true))
+  runs-last : r .on ≡ false → Runs room ended s (b ∷ bytes) (followed (commandLength b bytes) (r .output) (overAfter r))
   runs-last off later none = first-command later none false off ∙ sym (append-nil (r .output ++ []))
 
   runs-more : (f : Fed) → r .on ≡ true → Runs (room - length (r .output)) ended (r .store) (drop operands bytes) f

@@ -2,7 +2,7 @@
 use Prim.Native.Nat.{ℕ, zero, suc, _+_, _-_, _≤_, min}
 use native.Mathlib.Omega.{arith}
 use mathlib.Core.Path.{_≡_, refl, ap, sym, _∙_}
-use mathlib.Core.Bool.{Bool, true, false, true≢false, cond, not, _&&_}
+use mathlib.Core.Bool.{Bool, true, false, true≢false, cond}
 use mathlib.Core.List.{List, [], _∷_}
 use lib.ListN.{length, drop, length-drop}
 use lib.Seq.{drop-drop}
@@ -12,7 +12,7 @@ use Rattle.store.specs.Trees.{Store}
 use Rattle.store.specs.Performing.{perform}
 use Rattle.store.proofs.RefusalLaws.{or-false}
 use Rattle.command.specs.Stream.{Kind, unknown, command, kindOf, operandBytes, longestAnswer, cutShort, Ran, stops, answers, runKind, runOne}
-use Rattle.command.specs.Pieces.{Fed, takesNothing, followed, commandLength, isUnfinished, mustWait, thenPiece, runPieceFor, runPiece}
+use Rattle.command.specs.Pieces.{Fed, takesNothing, followed, commandLength, mustWait, overAfter, thenPiece, runPieceFor, runPiece}
 
 -- A run goes on only after a whole command
 kind-whole : (s : Store) (bytes : List ℕ) (kind : Kind) → runKind s bytes kind .on ≡ true → operandBytes kind ≤ length bytes
@@ -28,7 +28,7 @@ on-whole s b bytes = kind-whole s bytes (kindOf b)
 
 -- A command that does not wait has room for its answer
 pub has-room : (room : ℕ) (ended : Bool) (b : ℕ) (bytes : List ℕ) → mustWait room ended b bytes ≡ false → longestAnswer ≤ room
-has-room room ended b bytes e = ltb-false room longestAnswer (or-false (ltb room longestAnswer) (not ended && isUnfinished b bytes) e .0)
+has-room room ended b bytes e = ltb-false room longestAnswer (or-false (ltb room longestAnswer) _ e .0)
 
 -- What is taken of a piece is the command and what is taken of the rest behind it
 pub taken-on : (b : ℕ) (bytes : List ℕ) (t : ℕ) → operandBytes (kindOf b) ≤ length bytes
@@ -39,7 +39,7 @@ taken-on b bytes t h =
 
 -- The bound on the number of commands is no limit here either
 same-onward : (f g : Ran → Fed) (taken : ℕ) (r : Ran) → f r ≡ g r → thenPiece f taken r ≡ thenPiece g taken r
-same-onward f g taken r h = ap (λ (x : Fed). followed taken (r .output) (cond (r .on) x (takesNothing (r .store) true))) h
+same-onward f g taken r h = ap (λ (x : Fed). followed taken (r .output) (cond (r .on) x (overAfter r))) h
 
 any-piece-bound : (m n room : ℕ) (ended : Bool) (s : Store) (bytes : List ℕ) → length bytes ≤ m → length bytes ≤ n
     → runPieceFor m room ended s bytes ≡ runPieceFor n room ended s bytes
@@ -82,24 +82,24 @@ module _ (room : ℕ) (ended : Bool) (s : Store) where
         (commandLength b bytes) r (any-piece-bound (length bytes) (length rest) (room - length (r .output)) ended (r .store) rest less (omega arith))
 
     pub piece-stops : mustWait room ended b bytes ≡ false → runOne s b bytes .on ≡ false
-        → runPiece room ended s (b ∷ bytes) ≡ followed (commandLength b bytes) (runOne s b bytes .output) (takesNothing (runOne s b bytes .store) true)
+        → runPiece room ended s (b ∷ bytes) ≡ followed (commandLength b bytes) (runOne s b bytes .output) (overAfter (runOne s b bytes))
     piece-stops e off =
         ready e
-        ∙ ap (λ (x : Bool). followed (commandLength b bytes) (runOne s b bytes .output) (cond x (runPiece (room - length (runOne s b bytes .output)) ended (runOne s b bytes .store) (drop (operandBytes (kindOf b)) bytes)) (takesNothing (runOne s b bytes .store) true))) off
+        ∙ ap (λ (x : Bool). followed (commandLength b bytes) (runOne s b bytes .output) (cond x (runPiece (room - length (runOne s b bytes .output)) ended (runOne s b bytes .store) (drop (operandBytes (kindOf b)) bytes)) (overAfter (runOne s b bytes)))) off
 
     pub piece-goes-on : mustWait room ended b bytes ≡ false → runOne s b bytes .on ≡ true
         → runPiece room ended s (b ∷ bytes)
         ≡ followed (commandLength b bytes) (runOne s b bytes .output) (runPiece (room - length (runOne s b bytes .output)) ended (runOne s b bytes .store) (drop (operandBytes (kindOf b)) bytes))
     piece-goes-on e on =
         ready e
-        ∙ ap (λ (x : Bool). followed (commandLength b bytes) (runOne s b bytes .output) (cond x (runPiece (room - length (runOne s b bytes .output)) ended (runOne s b bytes .store) (drop (operandBytes (kindOf b)) bytes)) (takesNothing (runOne s b bytes .store) true))) on
+        ∙ ap (λ (x : Bool). followed (commandLength b bytes) (runOne s b bytes .output) (cond x (runPiece (room - length (runOne s b bytes .output)) ended (runOne s b bytes .store) (drop (operandBytes (kindOf b)) bytes)) (overAfter (runOne s b bytes)))) on
 
 -- One induction for all that is said of a piece: nothing there, a command that waits, one that ends the run, and one with the rest behind it
 module _ (P : (room : ℕ) (ended : Bool) (s : Store) (bytes : List ℕ) → Fed → Type 0)
     (none : (room : ℕ) (ended : Bool) (s : Store) → P room ended s [] (takesNothing s ended))
     (waits : (room : ℕ) (ended : Bool) (s : Store) (b : ℕ) (bytes : List ℕ) → mustWait room ended b bytes ≡ true → P room ended s (b ∷ bytes) (takesNothing s false))
     (last : (room : ℕ) (ended : Bool) (s : Store) (b : ℕ) (bytes : List ℕ) → mustWait room ended b bytes ≡ false → runOne s b bytes .on ≡ false
-    → P room ended s (b ∷ bytes) (followed (commandLength b bytes) (runOne s b bytes .output) (takesNothing (runOne s b bytes .store) true)))
+    → P room ended s (b ∷ bytes) (followed (commandLength b bytes) (runOne s b bytes .output) (overAfter (runOne s b bytes))))
     (more : (room : ℕ) (ended : Bool) (s : Store) (b : ℕ) (bytes : List ℕ) (f : Fed) → mustWait room ended b bytes ≡ false → runOne s b bytes .on ≡ true
     → P (room - length (runOne s b bytes .output)) ended (runOne s b bytes .store) (drop (operandBytes (kindOf b)) bytes) f
     → P room ended s (b ∷ bytes) (followed (commandLength b bytes) (runOne s b bytes .output) f)) where
@@ -119,7 +119,7 @@ module _ (P : (room : ℕ) (ended : Bool) (s : Store) (bytes : List ℕ) → Fed
       go : (w on : Bool) → mustWait room ended b bytes ≡ w → runOne s b bytes .on ≡ on
           → P (room - length (runOne s b bytes .output)) ended (runOne s b bytes .store) (drop (operandBytes (kindOf b)) bytes) next
           → P room ended s (b ∷ bytes)
-          (cond w (takesNothing s false) (followed (commandLength b bytes) (runOne s b bytes .output) (cond on next (takesNothing (runOne s b bytes .store) true))))
+          (cond w (takesNothing s false) (followed (commandLength b bytes) (runOne s b bytes .output) (cond on next (overAfter (runOne s b bytes)))))
       go true on w o h = waits room ended s b bytes w
       go false true w o h = more room ended s b bytes next w o h
       go false false w o h = last room ended s b bytes w o

@@ -34,9 +34,13 @@ isUnfinished byte bytes = ltb (length bytes) (operandBytes (kindOf byte))
 abbrev pub mustWait : (room : ℕ) (ended : Bool) → ℕ → List ℕ → Bool
 mustWait room ended byte bytes = ltb room longestAnswer || (not ended && isUnfinished byte bytes)
 
--- A command that ran, then the rest of the piece. "After 6 or 7 nothing more is read."
+-- "After 6 or 7 nothing more is read."
+abbrev pub overAfter : Ran → Fed
+overAfter r = takesNothing (r .store) true
+
+-- A command that ran, then the rest of the piece
 abbrev pub thenPiece : (Ran → Fed) → ℕ → Ran → Fed
-thenPiece onward taken r = followed taken (r .output) (cond (r .on) (onward r) (takesNothing (r .store) true))
+thenPiece onward taken r = followed taken (r .output) (cond (r .on) (onward r) (overAfter r))
 
 -- As many commands as the piece and the room allow. "Input that ends between commands ends the run, with nothing written."
 -- The first number bounds the commands, as in runFor.

@@ -15,7 +15,7 @@ use Rattle.store.specs.Trees.{Lent, Store}
 use Rattle.command.specs.Stream as stream
 use Rattle.command.specs.Stream.{kindOf, operandBytes, longestAnswer, runOne}
 use Rattle.command.specs.Pieces as piece
-use Rattle.command.specs.Pieces.{takesNothing, followed, commandLength, isUnfinished, mustWait, runPiece}
+use Rattle.command.specs.Pieces.{takesNothing, followed, commandLength, isUnfinished, mustWait, overAfter, runPiece}
 use Rattle.command.proofs.AnswerLengths.{output-fits}
 use Rattle.command.proofs.PieceSteps.{on-whole, has-room, piece-none, piece-waits, piece-stops, piece-goes-on}
 use Rattle.interpret.specs.declared.run.Ran.{Ran}
@@ -166,7 +166,7 @@ module _ (out₀ : List ℕ) (ended : Bool) (s₀ : Store) (input : List ℕ) wh
             let off = not-true (does .on) (sym (ran .over) ∙ over) in
             fed-of
             (g .whole ∙ ap (followed taken (g .said)) (ap (runPiece room ended s) here ∙ piece-stops room ended s b rest (sym ready) off)
-            ∙ regroup taken (commandLength b rest) (g .said) (does .output) (takesNothing (does .store) true))
+            ∙ regroup taken (commandLength b rest) (g .said) (does .output) (overAfter does))
             (record {
               taken = omega (arith, ran .taken);
               output = put ∙ ap (overwrite out₀ 0) (sym (append-nil (g .said ++ does .output)));
