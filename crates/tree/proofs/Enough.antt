@@ -10,12 +10,13 @@ use Rattle.words.proofs.Measure.{countOf, count-measure}
 use Rattle.tree.specs.Fresh.{freshPage, twoRows}
 use Rattle.tree.specs.declared.types.Root.the-variants.{At}
 use Rattle.tree.specs.declared.types.RootChange.the-variants.{Added}
-use Rattle.tree.specs.Tree.{Tree, putPage, levelOf, rootAt, wholePages, pageLimit}
+use Rattle.tree.specs.Use.{pageLimit, takenPage}
+use Rattle.tree.specs.Tree.{Tree, putPage, levelOf, rootAt, wholePages}
 use Rattle.tree.specs.RowSteps.{Point}
 use Rattle.tree.specs.declared.types.Child.{Child}
 use Rattle.tree.specs.declared.types.Became.{Became}
 use Rattle.tree.specs.declared.types.Became.the-variants.{Stays, Copied, Halved}
-use Rattle.tree.specs.Overflow.{Written, takenPage}
+use Rattle.tree.specs.Overflow.{Written}
 use Rattle.tree.specs.Enter.{enterFrom, enteredAs, enterRoot}
 use Rattle.tree.specs.Grown.{lastTick, InTime, Room}
 use Rattle.tree.proofs.ModelSteps.{Outcome, Parts, State, grown}

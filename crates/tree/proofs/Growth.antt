@@ -6,7 +6,7 @@ use mathlib.Core.Bool.{Bool, true, false, cond, _&&_, _||_, not, and-eq-true-iff
 use mathlib.Core.List.{List, [], _∷_}
 use lib.Dec.{leb, eqb}
 use lib.ListN.{length, take}
-use borrow.Author.Tests.{le-leb, lt-ltb, eq-eqb, eqb-true}
+use borrow.Author.Tests.{le-leb, eq-eqb, eqb-true}
 use Rattle.words.specs.Words.{keyLimit, rootEntry}
 use Rattle.words.specs.declared.value.Value.{Value}
 use Rattle.words.specs.Value as value
@@ -19,7 +19,8 @@ use Rattle.tree.proofs.TrueValueSums.{numberIf, total-measure}
 use Rattle.tree.specs.declared.types.Root.the-variants.{At}
 use Rattle.tree.specs.declared.types.RootChange.the-variants.{Added}
 use Rattle.tree.specs.declared.types.Plan.the-variants.{Spoiled, Ready}
-use Rattle.tree.specs.Tree.{Tree, pageAt, levelOf, rootAt, rootFor, topLevel, pageLimit}
+use Rattle.tree.specs.Use.{pageLimit}
+use Rattle.tree.specs.Tree.{Tree, pageAt, levelOf, rootAt, rootFor, topLevel}
 use Rattle.tree.specs.RowSteps.{Point}
 use Rattle.tree.specs.declared.types.Became.{Became}
 use Rattle.tree.specs.declared.types.Became.the-variants.{Stays, Copied, Halved}
@@ -43,6 +44,7 @@ use Rattle.tree.proofs.PageViews.{Agrees}
 use Rattle.tree.proofs.TreeViews.{pageOf, stateOf, WordsKept, state-path, modelOut, root-agrees, grew, grew-words}
 use Rattle.tree.proofs.TreeViews.{entered-state}
 use Rattle.tree.proofs.Descent.{descent-sound}
+use Rattle.tree.proofs.UseLaws.{is-below}
 
 -- A key that is zero or that some point has: each leaf row starts at such a key
 abbrev pub isKnown : List Point → ℕ → Bool
@@ -190,7 +192,7 @@ module _ (measure : Value → ℕ) (m : Measure measure) (tree : Tree) (points :
       ap (planRoot tree p) is-root
       ∙ ap (λ (b : Bool). cond b (Ready (enterRoot tree p page .made) (enterRoot tree p page .root)) Spoiled)
       (and-eq-true-iff _ _ .1 (
-        and-eq-true-iff _ _ .1 (lt-ltb page (tree .used .pages) in-use, le-leb (levelOf (tree .table) page) topLevel level-low),
+        and-eq-true-iff _ _ .1 (is-below (tree .used) page in-use, le-leb (levelOf (tree .table) page) topLevel level-low),
         and-eq-true-iff _ _ .1 (descent, ap not no-split),
       ))
     where

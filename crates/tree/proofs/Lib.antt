@@ -24,6 +24,10 @@ pub mod ModelSteps
 pub mod ModelPromise
 -- Entering a point into the model
 pub mod ReplacedRows
+-- Pages in use and pages that a call takes
+pub mod TakenPages
+pub mod UseLaws
+-- Held trees
 pub mod HeldTrees
 pub mod SlotCuts
 pub mod GainedSlots

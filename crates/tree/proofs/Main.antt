@@ -14,7 +14,8 @@ use Rattle.tree.specs.declared.types.RootChange.{RootChange}
 use Rattle.tree.specs.declared.types.Lookup.the-variants.{Found}
 use Rattle.tree.specs.declared.types.Plan.the-variants.{Ready}
 use Rattle.tree.specs.Row.{rowsOf}
-use Rattle.tree.specs.Tree.{Tree, pageAt, height, wholePages, pageLimit, topLevel}
+use Rattle.tree.specs.Use.{pageLimit}
+use Rattle.tree.specs.Tree.{Tree, pageAt, height, wholePages, topLevel}
 use Rattle.tree.specs.RowSteps.{Point}
 use Rattle.tree.specs.Lookup.{lookup}
 use Rattle.tree.specs.Path.{path}

@@ -5,7 +5,7 @@ use native.Mathlib.Decide.{ℕ-discrete}
 use mathlib.Core.Path.{_≡_, refl, sym, ap, _∙_}
 use mathlib.Core.Bool.{Bool, true, false, true≢false, cond, _&&_, not, and-eq-true-iff}
 use mathlib.Core.List.{List}
-use lib.Dec.{leb, ltb, eqb}
+use lib.Dec.{leb, eqb}
 use lib.ListN.{length}
 use borrow.Author.Tests.{leb-true, eq-eqb}
 use Rattle.words.specs.Words.{keyLimit}
@@ -22,7 +22,8 @@ use Rattle.tree.specs.Tree.{Tree, pageAt, putPage, levelOf, rootAt, root
 use Rattle.tree.specs.RowSteps.{Point, rowAround, gainRows, leafRows, relinkRow}
 use Rattle.tree.specs.declared.types.Became.{Became}
 use Rattle.tree.specs.declared.types.Became.the-variants.{Stays, Copied, Halved}
-use Rattle.tree.specs.Overflow.{Written, takenPage, copiedRows, finishPage}
+use Rattle.tree.specs.Use.{inUse, takenPage}
+use Rattle.tree.specs.Overflow.{Written, copiedRows, finishPage}
 use Rattle.tree.specs.Enter.{unwritten, enterBelow, enterFrom, enteredAs, enterRoot}
 use Rattle.tree.specs.Plan.{descentSound, isHalved, topMustSplit, planRoot, plan}
 use Rattle.tree.specs.Limits.{mostMade}
@@ -104,7 +105,7 @@ made-at-most tree p {made} {root} e = go (rootAt tree (p .tick)) e
     at page false b f = spoiled-not-ready f
     at page true b f =
         let in-use = and-eq-true-iff (rootInUse tree page) _ .0 b in
-        let low = and-eq-true-iff (ltb page (tree .used .pages)) _ .0 (in-use .0) .1 in
+        let low = and-eq-true-iff (inUse (tree .used) page) _ .0 (in-use .0) .1 in
         let sound = and-eq-true-iff (descentSound tree p (levelOf (tree .table) page) 0 keyLimit page) _ .0 (in-use .1) in
         let is : enterRoot tree p page .made ≡ made = cc in
         omega (arith, root-few tree p page (leb-true (levelOf (tree .table) page) topLevel low) (sound .1), is)

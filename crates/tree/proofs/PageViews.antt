@@ -25,6 +25,7 @@ use Rattle.tree.specs.declared.types.Became.{Became}
 use Rattle.tree.specs.declared.types.Became.the-variants.{Stays, Copied, Halved}
 use Rattle.tree.specs.Overflow.{Written, copiedRows, lowerCount, lowestKey, gainFirst, totalOf, copyPage, halvePage, splitPage, lowerHalf}
 use Rattle.tree.specs.Overflow.{finishPage}
+use Rattle.tree.specs.Use.{takenPage}
 use Rattle.tree.proofs.ModelPages as model
 use Rattle.tree.proofs.ModelSteps as modelSteps
 use Rattle.tree.proofs.ModelPages.{Entry, Page, orderedEntries, bornAll}
@@ -216,6 +217,7 @@ module _ (measure : Value → ℕ) where
               suc U;
           parts = copy U;
         })
+    unfolding takenPage
     copy-matches small =
         record {
           parts = refl;
@@ -284,6 +286,7 @@ module _ (measure : Value → ℕ) where
 
       halve-matches : Matches measure tree lo hi (halvePage tree t so old lower upper middle)
           (modelSteps.halved t S U oldPage (take i (map (entryOf measure) moving)) (drop i (map (entryOf measure) moving)))
+      unfolding takenPage
       halve-matches =
           record {
             parts = λ k. two U (next k) (middle-is k);

@@ -21,7 +21,8 @@ use Rattle.tree.specs.Tree.{Tree, putPage, levelOf, rootAt}
 use Rattle.tree.specs.RowSteps.{Point}
 use Rattle.tree.specs.declared.types.Became.{Became}
 use Rattle.tree.specs.declared.types.Became.the-variants.{Stays, Copied, Halved}
-use Rattle.tree.specs.Overflow.{Written, takenPage}
+use Rattle.tree.specs.Use.{takenPage}
+use Rattle.tree.specs.Overflow.{Written}
 use Rattle.tree.specs.Enter.{enterFrom, enteredAs, enterRoot}
 use Rattle.tree.specs.Path.{path}
 use Rattle.tree.specs.Plan.{enter}

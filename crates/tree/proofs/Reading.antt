@@ -7,7 +7,6 @@ use mathlib.Core.Bool.{Bool, true, false, cond, _&&_}
 use mathlib.Core.List.{List, [], _∷_, _++_}
 use lib.Dec.{leb, ltb}
 use lib.ListN.{length}
-use borrow.Author.Tests.{lt-ltb}
 use Rattle.words.specs.declared.value.Value.{Value}
 use Rattle.words.specs.Value as value
 use Rattle.words.specs.Value.{plus}
@@ -37,6 +36,7 @@ use Rattle.tree.proofs.PageKinds.{Leaf}
 use Rattle.tree.proofs.View.{viewTable, sum-live-view}
 use Rattle.tree.proofs.RowViews.{FoundRow, holding-one}
 use Rattle.tree.proofs.SoundPages.{live-tile, live-start, held-sound}
+use Rattle.tree.proofs.UseLaws.{is-below}
 
 -- The path in a tree of slots: the child of the slot that holds the key, and on
 abbrev pub slotsPath : {A : Type 0} → ℕ → (ℕ → A → List ℕ) → List (Slot A) → List ℕ
@@ -139,7 +139,7 @@ module _ (measure : Value → ℕ) (m : Measure measure) (tree : ours.Tree)
         (λ (b : Bool). cond b
         (withBelow below (cond (soundAt t n lo hi (pageAt (tree .table) page)) (heldAs t (rowsAt page) (holdingRow t k (rowsAt page)))
         found.Spoiled)) Spoiled)
-        (lt-ltb page used (held .in-use))
+        (is-below (tree .used) page (held .in-use))
         ∙ ap₂ (λ (b : Bool) (s : Search Placed). withBelow below (cond b (heldAs t (rowsAt page) s) found.Spoiled))
         (held-sound measure tree small P t n lo hi page (xs ++ (y ∷ ys)) held) (at-key .is-found)
 

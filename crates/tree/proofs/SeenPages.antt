@@ -29,6 +29,7 @@ use Rattle.tree.specs.Overflow.{Written, copiedRows, lowerCount, lowestK
 use Rattle.tree.specs.Overflow.{finishPage}
 use Rattle.tree.specs.Enter.{Entered, unwritten, enterAbove, enterBelow, enterFrom, withRoot, enteredAs}
 use Rattle.tree.specs.Alike.{LookAlike}
+use Rattle.tree.specs.Use.{takenPage}
 use Rattle.tree.proofs.ModelPages.{Entry, Page}
 use Rattle.tree.proofs.ModelTrees.{Tree, Holds}
 use Rattle.tree.proofs.ModelSteps.{enter}
@@ -101,6 +102,7 @@ module _ (tree : ours.Tree) (t w : ℕ) (so : Written) (page : ℕ) (rows : List
 
   copy-looks : length (copiedRows t rows) ≤ copyLimit → (U + 1) * pageWords ≤ length (tree .table)
       → LooksSame w tree (copyPage tree t so old moving .table)
+  unfolding takenPage
   copy-looks small room x l =
       same-look w
       (put-other (so .table) U (freshPage (word old 0) (lowKey (word old 2)) (highKey (word old 2)) t moving) (omega arith)
@@ -109,6 +111,7 @@ module _ (tree : ours.Tree) (t w : ℕ) (so : Written) (page : ℕ) (rows : List
 
   halve-looks : (i middle : ℕ) → i ≤ rowLimit → length (copiedRows t rows) - i ≤ rowLimit → (U + 2) * pageWords ≤ length (tree .table)
       → LooksSame w tree (halvePage tree t so old (take i moving) (drop i moving) middle .table)
+  unfolding takenPage
   halve-looks i middle low high room x l =
       same-look w
       (put-other (putPage (so .table) U first-page) (tree .used .pages + (so .made + 1)) second-page (omega (arith, put-first))
@@ -291,6 +294,7 @@ module _ (measure : Value → ℕ) (m : Measure measure) (tree : ours.Tree) (p :
 pub root-looks : (tree : ours.Tree) (t w level : ℕ) (so : Written) → length (so .table) ≡ length (tree .table)
     → LooksSame w tree (so .table) → (tree .used .pages + enteredAs tree t level so (so .became) .made) * pageWords ≤ length (tree .table)
     → LooksSame w tree (enteredAs tree t level so (so .became) .tree .table)
+unfolding takenPage
 root-looks tree t w level so size-is before = go (so .became)
   where
     either-table : (b : Bool) (x y : Entered) (table : List ℕ) → x .tree .table ≡ table → y .tree .table ≡ table

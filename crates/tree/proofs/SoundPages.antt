@@ -6,7 +6,7 @@ use mathlib.Core.Bool.{Bool, true, false, cond, _&&_, and-eq-true-iff}
 use mathlib.Core.List.{List, [], _∷_}
 use lib.Dec.{leb, ltb}
 use lib.ListN.{length}
-use borrow.Author.Tests.{leb-false, ltb-false, le-leb, lt-ltb, eq-eqb}
+use borrow.Author.Tests.{leb-false, ltb-false, le-leb, eq-eqb}
 use Rattle.words.specs.Lists.{All}
 use Rattle.words.specs.declared.value.Value.{Value}
 use Rattle.tree.specs.declared.types.Row.{Row}
@@ -24,6 +24,7 @@ use Rattle.tree.proofs.SlotCuts.{Cut, cut, cutAt}
 use Rattle.tree.proofs.GainedSlots.{at-cut}
 use Rattle.tree.proofs.PageCodec.{rows-length}
 use Rattle.tree.proofs.View.{viewRows, viewTable, sum-live-view}
+use Rattle.tree.proofs.UseLaws.{is-below}
 
 -- A number that is zero of all slots of a chain
 module _ {A : Type 0} (P : ℕ → ℕ → ℕ → A → Type 0) where
@@ -128,4 +129,4 @@ module _ (measure : Value → ℕ) (tree : ours.Tree)
       (live-tile measure P t lo hi (rowsOf words) tr (held .chain) (held .same) (held .wide))
 
   pub held-met : metAt tree t level lo hi page ≡ true
-  held-met = and-eq-true-iff _ _ .1 (lt-ltb page (tree .used .pages) (held .in-use), held-sound)
+  held-met = and-eq-true-iff _ _ .1 (is-below (tree .used) page (held .in-use), held-sound)

@@ -4,7 +4,7 @@ use native.Mathlib.Omega.{arith}
 use mathlib.Core.Path.{_≡_, sym, ap, _∙_}
 use mathlib.Core.Bool.{Bool, cond, and-eq-true-iff}
 use mathlib.Core.List.{List}
-use borrow.Author.Tests.{le-leb, lt-ltb}
+use borrow.Author.Tests.{le-leb}
 use Rattle.words.specs.Words.{keyLimit, openEnd}
 use Rattle.words.specs.declared.value.Value.{Value}
 use Rattle.words.proofs.Measure.{Measure, countOf, count-measure, by-measures}
@@ -23,6 +23,7 @@ use Rattle.tree.proofs.TreeViews.{pageOf, WordsKept}
 use Rattle.tree.proofs.Reading.{Reads, reads}
 use Rattle.tree.proofs.HeldPaths.{found-root}
 use Rattle.tree.proofs.Growth.{numbers, numbers-sum, Tells, TreeKept}
+use Rattle.tree.proofs.UseLaws.{is-below}
 
 -- Read by one measure
 module _ (measure : Value → ℕ) (m : Measure measure) (tree : Tree) (points : List Point)
@@ -44,7 +45,7 @@ module _ (measure : Value → ℕ) (m : Measure measure) (tree : Tree) (points :
   read-lookup =
       ap (lookupRoot tree t k) (found-root tree words t)
       ∙ ap (λ (b : Bool). cond b (lookupFrom tree t k level 0 keyLimit page) Spoiled)
-      (and-eq-true-iff _ _ .1 (lt-ltb page (tree .used .pages) in-use, le-leb level topLevel (tells .levels t tick)))
+      (and-eq-true-iff _ _ .1 (is-below (tree .used) page in-use, le-leb level topLevel (tells .levels t tick)))
       ∙ read .is
     where
       in-use : page < tree .used .pages

@@ -17,7 +17,8 @@ use Rattle.tree.specs.declared.types.Root.{Root}
 use Rattle.tree.specs.declared.types.Root.the-variants.{At, Missing}
 use Rattle.tree.specs.declared.types.RootChange.the-variants.{Added}
 use Rattle.tree.specs.Tree as ours
-use Rattle.tree.specs.Tree.{pageAt, putPage, levelOf, rootAt, pageLimit}
+use Rattle.tree.specs.Use.{pageLimit, pagesAfter, takenPage}
+use Rattle.tree.specs.Tree.{pageAt, putPage, levelOf, rootAt}
 use Rattle.tree.specs.RowSteps.{Point}
 use Rattle.tree.specs.declared.types.Became.{Became}
 use Rattle.tree.specs.declared.types.Became.the-variants.{Stays, Copied, Halved}
@@ -89,6 +90,7 @@ module _ (measure : Value → ℕ) (m : Measure measure) (tree : ours.Tree) (las
       × RootsKept (withRoot tree t page words made .tree) t
       × (length (withRoot tree t page words made .tree .table) ≡ length (tree .table))
       × (length (withRoot tree t page words made .tree .roots) ≡ length (tree .roots))
+  unfolding pagesAfter
   new-root page words made s u some place view use-is slotCount =
       let r : Rooted tree t page words made (withRoot tree t page words made) =
       root-changed tree last t page words made kept time (omega arith) some place in (
@@ -130,6 +132,7 @@ module _ (measure : Value → ℕ) (m : Measure measure) (tree : ours.Tree) (las
       → (tree .used .pages + enteredAs tree t level so (so .became) .made) * pageWords ≤ length (tree .table)
       → (enteredAs tree t level so (so .became) .root ≡ Added → tree .used .roots < length (tree .roots))
       → Grew measure tree t level o (enteredAs tree t level so (so .became))
+  unfolding pagesAfter takenPage
   grown-from so agree = go (so .became) (agree .parts) (agree .made-some) (agree .covers)
     where
       root : ℕ → ℕ
