@@ -45,7 +45,8 @@ entered-as tree t level so (Halved c d) =
     (putPage (so .table) (takenPage (tree .used) (so .made)) (freshPage (level + 1) 0 keyLimit t (twoRows t (c .high) (c .page) (d .page))))
     (so .made + 1)
 
-root-done : (tree : Tree) (p : Point) (page : ℕ) → Done tree (enterRoot tree p page)
+pub root-done : (tree : Tree) (p : Point) (page : ℕ)
+    → Does tree (enterRoot tree p page .made) (enterRoot tree p page .root) (enterRoot tree p page .tree)
 unfolding enterRoot
 root-done tree p page =
     entered-as tree (p .tick) (levelOf (tree .table) page) (enterFrom tree p (levelOf (tree .table) page) page)

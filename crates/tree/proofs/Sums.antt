@@ -16,6 +16,7 @@ use Rattle.tree.specs.Lookup.{lookupFrom, lookupRoot, lookup}
 use Rattle.tree.specs.Grown.{lastTick}
 use Rattle.tree.specs.PointSums.{dominated}
 use Rattle.tree.specs.PointTotals.{pointValue, sumOfPoints}
+use Rattle.tree.specs.Taking.{InUse}
 use Rattle.tree.proofs.ModelPages.{_≈_}
 use Rattle.tree.proofs.GrownStates.{Version, holds-used}
 use Rattle.tree.proofs.View.{viewTable}
@@ -23,7 +24,6 @@ use Rattle.tree.proofs.TreeViews.{pageOf, WordsKept}
 use Rattle.tree.proofs.Reading.{Reads, reads}
 use Rattle.tree.proofs.HeldPaths.{found-root}
 use Rattle.tree.proofs.Growth.{numbers, numbers-sum, Tells, TreeKept}
-use Rattle.tree.proofs.UseLaws.{is-below}
 
 -- Read by one measure
 module _ (measure : Value → ℕ) (m : Measure measure) (tree : Tree) (points : List Point)
@@ -34,7 +34,7 @@ module _ (measure : Value → ℕ) (m : Measure measure) (tree : Tree) (points :
   abbrev level : ℕ
   level = levelOf (tree .table) page
 
-  version : Version (viewTable measure (tree .table)) (tree .used .pages) t (λ q. numbers measure t q points) page
+  version : Version (viewTable measure (tree .table)) (InUse (tree .used)) t (λ q. numbers measure t q points) page
   version = tells .versions t tick
 
   read : Reads measure tree t k level 0 keyLimit page (version .tree)
@@ -45,11 +45,11 @@ module _ (measure : Value → ℕ) (m : Measure measure) (tree : Tree) (points :
   read-lookup =
       ap (lookupRoot tree t k) (found-root tree words t)
       ∙ ap (λ (b : Bool). cond b (lookupFrom tree t k level 0 keyLimit page) Spoiled)
-      (and-eq-true-iff _ _ .1 (is-below (tree .used) page in-use, le-leb level topLevel (tells .levels t tick)))
+      (and-eq-true-iff _ _ .1 (in-use, le-leb level topLevel (tells .levels t tick)))
       ∙ read .is
     where
-      in-use : page < tree .used .pages
-      in-use = holds-used level (viewTable measure (tree .table)) (tree .used .pages) t 0 keyLimit page (version .tree) (version .held)
+      in-use : InUse (tree .used) page
+      in-use = holds-used level (viewTable measure (tree .table)) (InUse (tree .used)) t 0 keyLimit page (version .tree) (version .held)
 
   read-sum : measure (read .value) ≈ measure (sumOfPoints t k points)
   read-sum = read .sum ∙ version .adds k key ∙ sym (rest (numbers-sum measure m t k points))

@@ -1,9 +1,10 @@
--- What may be relied on of the pages in use and of the pages that a call takes. No other file opens their definitions.
+-- What may be relied on of the pages in use and of the pages that a call takes. No other proof opens their definitions: how they reckon with page
+-- numbers is said here, and nowhere else.
 use Prim.Native.Nat.{ℕ, _+_, _*_, _-_, _≤_, _<_, min}
 use native.Mathlib.Omega.{arith}
+use native.Mathlib.Decide.{decLe}
 use mathlib.Core.Path.{_≡_, refl, sym, _∙_}
-use mathlib.Core.Bool.{Bool, true}
-use mathlib.Core.Logic.{_⊎_, inl, inr}
+use mathlib.Core.Logic.{inl, inr}
 use mathlib.Core.List.{List}
 use lib.ListN.{length}
 use lib.Dec.{ltb}
@@ -11,14 +12,14 @@ use borrow.Author.Tests.{lt-ltb, ltb-true}
 use Rattle.tree.specs.Row.{pageWords}
 use Rattle.tree.specs.declared.types.TreeUse.{TreeUse}
 use Rattle.tree.specs.declared.types.RootChange.{RootChange}
+use Rattle.tree.specs.declared.types.RootChange.the-variants.{Kept}
 use Rattle.tree.specs.Use.{inUse, takenPage, pagesAfter, useAfter, openedUse, pageLimit}
 use Rattle.tree.specs.Taking.{InUse, HasPages, Takes}
 use Rattle.tree.specs.Tree.{Tree, wholePages, pagesLeft}
-use Rattle.tree.proofs.ReplacedRows.{split}
-use Rattle.tree.proofs.TakenPages.{Taken, After}
+use Rattle.tree.proofs.TakenPages.{After, Allocates}
 
 module _ (used : TreeUse) where
-  -- As the functions reckon them that test a page, take one, and say the use afterwards
+  -- As the code reckons them: cited by the functions that test a page, take one, and say the use afterwards, and by the laws below
   pub in-use-is : (x : ℕ) → inUse used x ≡ ltb x (used .pages)
   unfolding inUse
   in-use-is x = refl
@@ -34,14 +35,11 @@ module _ (used : TreeUse) where
   below : (x : ℕ) → InUse used x → x < used .pages
   below x h = ltb-true x (used .pages) (sym (in-use-is x) ∙ h)
 
-  pub is-below : (x : ℕ) → x < used .pages → InUse used x
-  is-below x h = in-use-is x ∙ lt-ltb x (used .pages) h
-
   -- A page in use lies in the table
   pub in-use-inside : (x : ℕ) (table : List ℕ) → InUse used x → used .pages * pageWords ≤ length table → x * pageWords + pageWords ≤ length table
   in-use-inside x table h inside = omega (arith, below x h)
 
-  -- The pages that a call takes were not in use, are different, and lie in a table that has them
+  -- The pages that a call takes were not in use, are different, and lie in a table that has them; in use afterwards are these and those from before
   module _ (takes : Takes used) where
     pub taken-new : (x i : ℕ) → InUse used x → x ≡ takenPage used i → ⊥
     taken-new x i h e = omega (arith, below x h, taken-is i, e)
@@ -49,9 +47,28 @@ module _ (used : TreeUse) where
     pub taken-once : (i j : ℕ) → takenPage used i ≡ takenPage used j → i ≡ j
     taken-once i j e = omega (arith, taken-is i, taken-is j, e)
 
+    pub used-allocates : Allocates (InUse used) (takenPage used)
+    used-allocates = record { new = taken-new; once = taken-once }
+
     pub taken-inside : (i made : ℕ) (table : List ℕ) → HasPages table used made → i < made
         → takenPage used i * pageWords + pageWords ≤ length table
     taken-inside i made table has h = omega (arith, has .inside, taken-is i, after-is made)
+
+    pub in-after : (made : ℕ) (change : RootChange) (x : ℕ) → After (InUse used) (takenPage used) made x → InUse (useAfter used made change) x
+    unfolding inUse pagesAfter takenPage
+    in-after made change x (inl h) = lt-ltb x (used .pages + made) (omega (arith, below x h))
+    in-after made change x (inr t) = lt-ltb x (used .pages + made) (omega (arith, t .early, t .is))
+
+    pub after-in : (made : ℕ) (change : RootChange) (x : ℕ) → InUse (useAfter used made change) x → After (InUse used) (takenPage used) made x
+    unfolding inUse pagesAfter takenPage
+    after-in made change x h = go (decLe (used .pages) x)
+      where
+        early : x < used .pages + made
+        early = ltb-true x (used .pages + made) h
+
+        go : Dec (used .pages ≤ x) → After (InUse used) (takenPage used) made x
+        go (yes l) = inr (record { place = x - used .pages; early = omega (arith, early); is = omega arith })
+        go (no l) = inl (lt-ltb x (used .pages) (omega arith))
 
   -- A table that has pages has fewer, and those in use
   pub fewer : (less made : ℕ) (table : List ℕ) → less ≤ made → HasPages table used made → HasPages table used less
@@ -60,35 +77,18 @@ module _ (used : TreeUse) where
   pub has-used : (made : ℕ) (table : List ℕ) → HasPages table used made → used .pages * pageWords ≤ length table
   has-used made table has = omega (arith, has .inside, after-is made)
 
-  pub has-none : (table : List ℕ) → used .pages * pageWords ≤ length table → HasPages table used 0
-  has-none table h = record { inside = omega (arith, h, after-is 0) }
-
   -- Its length alone matters
   pub has-same : (made : ℕ) (table other : List ℕ) → length other ≡ length table → HasPages table used made → HasPages other used made
   has-same made table other e has = record { inside = omega (arith, has .inside, e) }
 
-  -- The pages in use afterwards are those from before and those taken
-  pub in-after : (made : ℕ) (change : RootChange) (x : ℕ) → After (InUse used) (takenPage used) made x → InUse (useAfter used made change) x
-  unfolding inUse pagesAfter takenPage
-  in-after made change x (inl h) = lt-ltb x (used .pages + made) (omega (arith, below x h))
-  in-after made change x (inr t) = lt-ltb x (used .pages + made) (omega (arith, t .early, t .is))
-
-  pub after-in : (made : ℕ) (change : RootChange) (x : ℕ) → InUse (useAfter used made change) x → After (InUse used) (takenPage used) made x
-  unfolding inUse pagesAfter takenPage
-  after-in made change x h = go (split (used .pages) x)
-    where
-      early : x < used .pages + made
-      early = ltb-true x (used .pages + made) h
-
-      go : (used .pages ≤ x) ⊎ (x < used .pages) → After (InUse used) (takenPage used) made x
-      go (inr l) = inl (lt-ltb x (used .pages) l)
-      go (inl l) = inr (record { place = x - used .pages; early = omega (arith, early); is = omega arith })
-
   -- Pages used afterwards: no fewer than before, and more by the pages taken at most
+  abbrev pub pagesAtMost : ℕ → ℕ
+  pagesAtMost made = used .pages + made
+
   pub after-least : (made : ℕ) → used .pages ≤ pagesAfter used made
   after-least made = omega (arith, after-is made)
 
-  pub after-most : (made : ℕ) → pagesAfter used made ≤ used .pages + made
+  pub after-most : (made : ℕ) → pagesAfter used made ≤ pagesAtMost made
   after-most made = omega (arith, after-is made)
 
   -- A root list of as many places as pages are used then has one for an entry that comes with a page
@@ -109,6 +109,23 @@ module _ (tree : Tree) (takes : Takes (tree .used)) (held : tree .used .pages �
 -- The pages of a table suffice where the pages used afterwards do not outnumber them
 pub enough-left : (tree : Tree) (made : ℕ) → pagesAfter (tree .used) made ≤ min (wholePages (tree .table)) pageLimit → made ≤ pagesLeft tree
 enough-left tree made h = omega (arith, h, after-is (tree .used) made)
+
+-- What a use says of pages, the root entries left out
+abbrev pub pagesOnly : TreeUse → TreeUse
+pagesOnly used = record { pages = used .pages; roots = 0 }
+
+module _ (used : TreeUse) where
+  pub in-pages : (x : ℕ) → inUse (pagesOnly used) x ≡ inUse used x
+  unfolding inUse
+  in-pages x = refl
+
+  pub taken-pages : (i : ℕ) → takenPage (pagesOnly used) i ≡ takenPage used i
+  unfolding takenPage
+  taken-pages i = refl
+
+  pub pages-after : (made : ℕ) (change : RootChange) → pagesOnly (useAfter used made change) ≡ useAfter (pagesOnly used) made Kept
+  unfolding pagesAfter
+  pages-after made change = refl
 
 -- Opening uses page 0 alone
 pub opened-in : InUse openedUse 0

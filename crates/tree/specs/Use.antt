@@ -1,5 +1,5 @@
 -- What a tree uses: the pages in use, the pages that a call takes, and the use afterwards. The definitions that reckon with page numbers are
--- shut; proofs/UseLaws alone opens them, and says what may be relied on.
+-- shut: proofs/UseLaws says what may be relied on, and only trials that compute open them besides.
 use Prim.Native.Nat.{ℕ, _+_}
 use mathlib.Core.Bool.{Bool}
 use lib.Dec.{ltb}

@@ -8,8 +8,7 @@ use Rattle.tree.specs.Tree.{Tree}
 use Rattle.tree.specs.RowSteps.{Point}
 use Rattle.tree.specs.Plan.{plan}
 use Rattle.tree.specs.Grown.{Room}
-use Rattle.tree.specs.Taking.{Takes}
-use Rattle.tree.proofs.Main.{UseFits}
+use Rattle.tree.proofs.Main.{UseFits, fits-takes}
 use Rattle.tree.proofs.UseLaws.{left-has}
 use Rattle.enter.specs.EnterRoot.{Planned}
 use Rattle.store.specs.Refusals.{firstMet}
@@ -19,20 +18,17 @@ use Rattle.store.proofs.Entering.{room-for}
 use Rattle.refusals.specs.Grounds.{planGrounds}
 
 module _ (tree : Tree) (p : Point) (fit : UseFits tree) where
-  takes : Takes (tree .used)
-  takes = record { used-few = fit .pages-limit }
-
   with-room : Room tree p → Planned tree p
   with-room room =
       record {
         made = room .made;
         change = room .root;
         plan-is = room .planned;
-        room = left-has tree takes (fit .pages-held) (room .made) (room .pages);
+        room = left-has tree (fits-takes fit) (fit .pages-held) (room .made) (room .pages);
         place = room .place;
         some = fit .some-roots;
         inside = fit .roots-listed;
-        takes = takes;
+        takes = fits-takes fit;
         roots-few = fit .roots-pages;
       }
 
