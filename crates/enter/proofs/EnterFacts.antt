@@ -5,7 +5,6 @@ use mathlib.Core.Path.{_≡_, refl, sym, ap, _∙_}
 use mathlib.Core.Bool.{Bool, true, and-eq-true-iff}
 use mathlib.Core.List.{List}
 use lib.ListN.{length}
-use borrow.Author.Tests.{ltb-true}
 use Rattle.tree.specs.declared.types.Row.{Row}
 use Rattle.tree.specs.Row.{word, rowStart, rowsOf, pageWords, rowLimit}
 use Rattle.tree.specs.Limits.{mostRows, mostAppended}
@@ -19,25 +18,28 @@ use Rattle.tree.specs.Overflow.{Written, finishPage}
 use Rattle.tree.specs.Enter.{unwritten, enterBelow, enterFrom}
 use Rattle.tree.specs.Plan.{soundBelow, descentSound}
 use Rattle.tree.specs.Fresh.{zeros}
+use Rattle.tree.specs.Use.{inUse}
+use Rattle.tree.specs.Taking.{InUse, HasPages, Takes}
 use Rattle.enter.specs.EnterWords.{loaded, appendedWords}
 use Rattle.enter.proofs.SettleLaws.{rows-of-front, loaded-count, loaded-length}
 use Rattle.tree.proofs.TableLaws.{page-length}
+use Rattle.tree.proofs.UseLaws.{in-use-inside, fewer, has-same}
 use Rattle.enter.proofs.StepRows.{RowsFit, ChildrenFit, gain-fits, leaf-fits, link-fits}
 use Rattle.enter.proofs.FinishFacts.{Finished, finish-facts, finish-least}
 use Rattle.split.specs.SplitWords.{scratchWords}
 
 -- What a page that is met says
 pub record Met (tree : Tree) (level page : ℕ) : Type 0 where
-  pub in-use : page < tree .used .pages
+  pub in-use : InUse (tree .used) page
   pub level-is : levelOf (tree .table) page ≡ level
   pub few-rows : word (pageAt (tree .table) page) 1 ≤ rowLimit
 
 pub met-facts : (tree : Tree) (t level low high page : ℕ) → metAt tree t level low high page ≡ true → Met tree level page
 met-facts tree t level low high page e =
-    let a = and-eq-true-iff _ _ .0 e in
+    let a = and-eq-true-iff (inUse (tree .used) page) _ .0 e in
     let b = and-eq-true-iff _ _ .0 (a .1) in
     let h = header-facts level low high (pageAt (tree .table) page) (b .0) in
-    record { in-use = ltb-true _ _ (a .0); level-is = h .level-is; few-rows = h .few-rows }
+    record { in-use = a .0; level-is = h .level-is; few-rows = h .few-rows }
 
 -- The pages in use lie in the table
 abbrev pub InTable : Tree → Type 0
@@ -45,7 +47,7 @@ InTable tree = tree .used .pages * pageWords ≤ length (tree .table)
 
 pub record Entered (tree : Tree) (level : ℕ) (o : Written) : Type 0 where
   pub same-length : length (o .table) ≡ length (tree .table)
-  pub other : (q : ℕ) → q < tree .used .pages → level < levelOf (tree .table) q → pageAt (o .table) q ≡ pageAt (tree .table) q
+  pub other : (q : ℕ) → InUse (tree .used) q → level < levelOf (tree .table) q → pageAt (o .table) q ≡ pageAt (tree .table) q
   pub children : ChildrenFit (o .became)
 
 -- The descent's rows and what lies below them
@@ -67,24 +69,24 @@ module _ (tree : Tree) (p : Point) (small : p .tick < 4294967296) (narrow : p .k
   -- a page that is met lies in the table, and its rows leave room for three more in its copy
   module _ (level page : ℕ) (m : Met tree level page) where
     pub page-inside : page * pageWords + pageWords ≤ length (tree .table)
-    page-inside = omega (arith, m .in-use)
+    page-inside = in-use-inside (tree .used) page (tree .table) (m .in-use) in-table
 
     pub page-whole : length (pageAt (tree .table) page) ≡ pageWords
     page-whole = page-length (tree .table) page page-inside
 
   -- the other pages after one page was finished
-  finished-other : (level page : ℕ) → Met tree level page → (so o : Written) → Finished tree so page o → (q : ℕ) → q < tree .used .pages →
+  finished-other : (level page : ℕ) → Met tree level page → (so o : Written) → Finished tree so page o → (q : ℕ) → InUse (tree .used) q →
       level < levelOf (tree .table) q → pageAt (so .table) q ≡ pageAt (tree .table) q → pageAt (o .table) q ≡ pageAt (tree .table) q
   finished-other level page m so o f q l h e = f .other q l apart ∙ e
     where
       apart : q ≡ page → ⊥
       apart same = omega (arith, m .level-is, ap (levelOf (tree .table)) same)
 
-  lowest-facts : (level page : ℕ) → Met tree level page → (rows : List Row) → RowsFit mostRows rows →
-      (tree .used .pages + finishPage tree (p .tick) (unwritten tree) page rows .made) * pageWords ≤ length (tree .table) →
+  lowest-facts : Takes (tree .used) → (level page : ℕ) → Met tree level page → (rows : List Row) → RowsFit mostRows rows →
+      HasPages (tree .table) (tree .used) (finishPage tree (p .tick) (unwritten tree) page rows .made) →
       Entered tree level (finishPage tree (p .tick) (unwritten tree) page rows)
-  lowest-facts level page m rows fit room =
-      let f = finish-facts tree (p .tick) small (unwritten tree) page rows (fit .fit) (fit .few) (page-whole level page m) (page-inside level page m) room in
+  lowest-facts takes level page m rows fit room =
+      let f = finish-facts tree takes (p .tick) small (unwritten tree) page rows (fit .fit) (fit .few) (page-whole level page m) (page-inside level page m) room in
       record {
         same-length = f .same-length;
         other = λ q l h. finished-other level page m (unwritten tree) _ f q l h refl;
@@ -127,37 +129,37 @@ module _ (tree : Tree) (p : Point) (small : p .tick < 4294967296) (narrow : p .k
         rw copy-rows at g
 
   -- by the level: each page's level is one less than its parent's
-  pub enter-facts : (level low high page : ℕ) → descentSound tree p level low high page ≡ true →
-      (tree .used .pages + enterFrom tree p level page .made) * pageWords ≤ length (tree .table) → Entered tree level (enterFrom tree p level page)
+  pub enter-facts : Takes (tree .used) → (level low high page : ℕ) → descentSound tree p level low high page ≡ true →
+      HasPages (tree .table) (tree .used) (enterFrom tree p level page .made) → Entered tree level (enterFrom tree p level page)
   unfolding enterFrom
-  enter-facts zero low high page sound room =
+  enter-facts takes zero low high page sound room =
       let m = met-facts tree (p .tick) 0 low high page (descent-here tree p 0 low high page sound) in
-      lowest-facts 0 page m (leafRows p (rowsOf (pageAt (tree .table) page))) (leaf-rows-fit 0 page m) room
-  enter-facts (suc l) low high page sound room =
+      lowest-facts takes 0 page m (leafRows p (rowsOf (pageAt (tree .table) page))) (leaf-rows-fit 0 page m) room
+  enter-facts takes (suc l) low high page sound room =
       go (rowAround p (rowsOf (pageAt (tree .table) page))) refl
-      (λ (x : Placed) (f : rowAround p (rowsOf (pageAt (tree .table) page)) ≡ one x) r. enter-facts l (x .row .low) (x .row .high) (x .row .child) (descent-below tree p l low high page sound f) r) room
+      (λ (x : Placed) (f : rowAround p (rowsOf (pageAt (tree .table) page)) ≡ one x) r. enter-facts takes l (x .row .low) (x .row .high) (x .row .child) (descent-below tree p l low high page sound f) r) room
     where
       below : ℕ → Written
       below child = enterFrom tree p l child
 
       go : (s : Search Placed) → rowAround p (rowsOf (pageAt (tree .table) page)) ≡ s →
           ((x : Placed) → rowAround p (rowsOf (pageAt (tree .table) page)) ≡ one x →
-          (tree .used .pages + enterFrom tree p l (x .row .child) .made) * pageWords ≤ length (tree .table) → Entered tree l (enterFrom tree p l (x .row .child))) →
-          (tree .used .pages + enterBelow tree p page below s .made) * pageWords ≤ length (tree .table) →
+          HasPages (tree .table) (tree .used) (enterFrom tree p l (x .row .child) .made) → Entered tree l (enterFrom tree p l (x .row .child))) →
+          HasPages (tree .table) (tree .used) (enterBelow tree p page below s .made) →
           Entered tree (suc l) (enterBelow tree p page below s)
       go none e ih r =
           let m = met-facts tree (p .tick) (suc l) low high page (descent-here tree p (suc l) low high page sound) in
-          lowest-facts (suc l) page m (gainRows p (rowsOf (pageAt (tree .table) page))) (gain-rows-fit (suc l) page m) r
+          lowest-facts takes (suc l) page m (gainRows p (rowsOf (pageAt (tree .table) page))) (gain-rows-fit (suc l) page m) r
       go (one x) e ih r =
           let m = met-facts tree (p .tick) (suc l) low high page (descent-here tree p (suc l) low high page sound) in
           let child : Written = enterFrom tree p l (x .row .child) in
           let rows : List Row = relinkRow (p .tick) x (child .became) (gainRows p (rowsOf (pageAt (tree .table) page))) in
           let less : child .made ≤ finishPage tree (p .tick) child page rows .made = finish-least tree (p .tick) child page rows in
-          let c = ih x e (omega arith) in
+          let c = ih x e (fewer (tree .used) (child .made) _ (tree .table) less r) in
           let fit = link-rows-fit (suc l) page m x e (child .became) (c .children) in
           let f =
-          finish-facts tree (p .tick) small child page rows (fit .fit) (fit .few) (page-whole (suc l) page m)
-          (omega (arith, c .same-length, page-inside (suc l) page m)) (omega (arith, c .same-length)) in
+          finish-facts tree takes (p .tick) small child page rows (fit .fit) (fit .few) (page-whole (suc l) page m)
+          (omega (arith, c .same-length, page-inside (suc l) page m)) (has-same (tree .used) _ (tree .table) (child .table) (c .same-length) r) in
           record {
             same-length = f .same-length ∙ c .same-length;
             other = λ q i h. finished-other (suc l) page m child _ f q i h (c .other q i (omega arith));

@@ -16,6 +16,7 @@ use Rattle.tree.specs.Edit.{withRows}
 use Rattle.tree.specs.Fresh.{zeros}
 use Rattle.tree.proofs.MostMade.{made-below, new-few}
 use Rattle.tree.proofs.PageCodec.{with-length, with-count}
+use Rattle.tree.proofs.UseLaws.{fewer, has-same}
 use Rattle.split.specs.SplitWords.{scratchWords}
 use Rattle.split.specs.declared.done.Done.{Done}
 use Rattle.tree.specs.Tree.{Tree, pageAt}
@@ -23,6 +24,7 @@ use Rattle.tree.specs.RowSteps.{Point, rowAround, rowFrom, gainRows, leafRows, 
 use Rattle.tree.specs.declared.types.Became.{Became}
 use Rattle.tree.specs.Overflow.{Written, finishPage}
 use Rattle.tree.specs.Enter.{unwritten, enterFrom}
+use Rattle.tree.specs.Taking.{HasPages}
 use Rattle.row_steps.specs.PageEdits.{leafWords, gainWords, linkWords}
 use Rattle.enter.specs.EnterWords.{loaded, madeSo, settled, CanSettle, CanEnter, DoneAs, leafEdited, gainEdited, linkEdited, appendedWords}
 use Rattle.enter.proofs.SettleLaws.{settled-is-finished}
@@ -43,7 +45,7 @@ module _ (tree : Tree) (p : Point) (small : p .tick < 4294967296) (narrow : p .k
   -- an edited copy that holds these rows can be settled, and settling it finishes the page
   module _ (level page : ℕ) (can : CanEnter tree p level page) (so : Written) (same : length (so .table) ≡ length (tree .table)) (few : so .made < mostMade)
       (rows : List Row) (fit : RowsFit mostRows rows) (words : List ℕ) (is : words ≡ withRows (loaded (tree .table) page) rows)
-      (room : (tree .used .pages + finishPage tree (p .tick) so page rows .made) * pageWords ≤ length (tree .table)) where
+      (room : HasPages (tree .table) (tree .used) (finishPage tree (p .tick) so page rows .made)) where
     m : Met tree level page
     m = met level page can
 
@@ -63,8 +65,8 @@ module _ (tree : Tree) (p : Point) (small : p .tick < 4294967296) (narrow : p .k
           rows = omega (arith, ap (λ (w : List ℕ). word w 1) is, with-count (loaded (tree .table) page) rows fits, fit .few);
           few = few;
           inside = omega (arith, same, inside level page can);
-          used-few = can .used-few;
-          room = rw settles (omega (arith, same));
+          takes = can .takes;
+          room = rw settles (has-same (tree .used) _ (tree .table) (so .table) same room);
         }
 
   module _ (page : ℕ) where
@@ -77,7 +79,8 @@ module _ (tree : Tree) (p : Point) (small : p .tick < 4294967296) (narrow : p .k
         ∙ leaf-is-with p small narrow (loaded (tree .table) page) (copy-room tree p small narrow (can .in-table) 0 page m' 2 (omega arith))
         ∙ ap (λ (rs : List Row). withRows (loaded (tree .table) page) (leafRows p rs)) rows
 
-    pub leaf-room : CanEnter tree p 0 page → (tree .used .pages + finishPage tree (p .tick) (unwritten tree) page (leafRows p (rowsOf (pageAt (tree .table) page))) .made) * pageWords ≤ length (tree .table)
+    pub leaf-room : CanEnter tree p 0 page
+        → HasPages (tree .table) (tree .used) (finishPage tree (p .tick) (unwritten tree) page (leafRows p (rowsOf (pageAt (tree .table) page))) .made)
     unfolding enterFrom
     leaf-room can = can .room
 
@@ -111,7 +114,7 @@ module _ (tree : Tree) (p : Point) (small : p .tick < 4294967296) (narrow : p .k
         unfolding enterFrom
         entered-none = rw found
 
-        none-room : (tree .used .pages + finishPage tree (p .tick) (unwritten tree) page (gainRows p (rowsOf (pageAt (tree .table) page))) .made) * pageWords ≤ length (tree .table)
+        none-room : HasPages (tree .table) (tree .used) (finishPage tree (p .tick) (unwritten tree) page (gainRows p (rowsOf (pageAt (tree .table) page))) .made)
         none-room = rw entered-none at (can .room)
 
         gain-edited : gainEdited (p .tick) (p .value) (tree .table) page (placeFound (rowFrom p (rowsOf (pageAt (tree .table) page))))
@@ -144,7 +147,7 @@ module _ (tree : Tree) (p : Point) (small : p .tick < 4294967296) (narrow : p .k
         unfolding enterFrom child rows-after
         entered-one = rw found
 
-        one-room : (tree .used .pages + finishPage tree (p .tick) child page rows-after .made) * pageWords ≤ length (tree .table)
+        one-room : HasPages (tree .table) (tree .used) (finishPage tree (p .tick) child page rows-after .made)
         one-room = rw entered-one at (can .room)
 
         -- the call on the child is allowed
@@ -153,15 +156,15 @@ module _ (tree : Tree) (p : Point) (small : p .tick < 4294967296) (narrow : p .k
         child-can =
             record {
               sound = (x .row .low, (x .row .high, descent-below tree p l (can .sound .0) (can .sound .1 .0) page (can .sound .1 .1) found));
-              room = omega (arith, one-room, finish-least tree (p .tick) child page rows-after);
+              room = fewer (tree .used) (child .made) _ (tree .table) (finish-least tree (p .tick) child page rows-after) one-room;
               in-table = can .in-table;
-              used-few = can .used-few;
+              takes = can .takes;
               low-level = omega (arith, can .low-level);
             }
 
         facts : Entered tree l child
         unfolding child child-can
-        facts = enter-facts tree p small narrow (can .in-table) l (x .row .low) (x .row .high) (x .row .child) (child-can .sound .1 .1) (child-can .room)
+        facts = enter-facts tree p small narrow (can .in-table) (can .takes) l (x .row .low) (x .row .high) (x .row .child) (child-can .sound .1 .1) (child-can .room)
 
         -- the page itself is as it was
         pub page-kept : pageAt (enterFrom tree p l (x .row .child) .table) page ≡ pageAt (tree .table) page
@@ -207,7 +210,7 @@ module _ (tree : Tree) (p : Point) (small : p .tick < 4294967296) (narrow : p .k
           unfolding child
           few-made = omega (arith, is .made-is, made-below tree p l (x .row .child), new-few (child .became), can .low-level)
 
-          so-room : (tree .used .pages + finishPage tree (p .tick) (madeSo now (done .made)) page rows-after .made) * pageWords ≤ length (tree .table)
+          so-room : HasPages (tree .table) (tree .used) (finishPage tree (p .tick) (madeSo now (done .made)) page rows-after .made)
           so-room = rw finish-so one-room
 
           pub above-can : CanSettle (tree .used) (p .tick) (madeSo now (done .made)) page

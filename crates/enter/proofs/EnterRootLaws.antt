@@ -4,9 +4,9 @@ use native.Mathlib.Omega.{arith}
 use mathlib.Core.Path.{_≡_, refl, sym, ap, ap₂, _∙_}
 use mathlib.Core.Bool.{Bool, true, false, cond, _&&_, not, and-eq-true-iff}
 use mathlib.Core.List.{List, []}
-use lib.Dec.{ltb, eqb}
+use lib.Dec.{eqb}
 use lib.ListN.{length}
-use borrow.Author.Tests.{leb-true, ltb-true, ne-eqb}
+use borrow.Author.Tests.{leb-true, ne-eqb}
 use Rattle.words.specs.Words.{rootBirth, keyLimit}
 use Rattle.tree.specs.declared.types.Row.{Row}
 use Rattle.tree.specs.Row.{rowsOf, pageWords}
@@ -18,20 +18,23 @@ use Rattle.tree.specs.declared.types.TreeUse.{TreeUse}
 use Rattle.tree.specs.declared.types.Root.{Root}
 use Rattle.tree.specs.declared.types.Root.the-variants.{At, Missing}
 use Rattle.tree.specs.declared.types.RootChange.{RootChange}
-use Rattle.tree.specs.declared.types.RootChange.the-variants.{Added}
+use Rattle.tree.specs.declared.types.RootChange.the-variants.{Kept, Added}
 use Rattle.tree.specs.declared.types.Plan.the-variants.{Spoiled, Ready}
 use Rattle.tree.specs.Tree.{Tree, pageAt, putPage, levelOf, rootAt, rootInUse, topLevel, lastRoot, metAt}
 use Rattle.tree.specs.RowSteps.{Point, rowAround}
 use Rattle.tree.specs.declared.types.Child.{Child}
 use Rattle.tree.specs.declared.types.Became.{Became}
 use Rattle.tree.specs.declared.types.Became.the-variants.{Stays, Copied, Halved}
-use Rattle.tree.specs.Overflow.{Written, takenPage, finishPage}
+use Rattle.tree.specs.Use.{inUse, takenPage, useAfter}
+use Rattle.tree.specs.Taking.{InUse}
+use Rattle.tree.specs.Overflow.{Written, finishPage}
 use Rattle.tree.specs.Enter.{Entered, enterAbove, enterBelow, enterFrom, withRoot, enteredAs, enterRoot}
 use Rattle.tree.specs.Plan.{soundBelow, descentSound, topMustSplit, planRoot, plan, enteredRoot, enter}
 use Rattle.tree.specs.Limits.{mostMade}
 use Rattle.split.specs.declared.done.Done.{Done}
 use Rattle.enter.specs.EnterWords.{useOf, CanEnter, DoneAs}
 use Rattle.tree.proofs.MostMade.{made-at-most}
+use Rattle.tree.proofs.UseLaws.{has-used, fewer, taken-inside}
 use Rattle.roots.specs.declared.top.Top.the-variants as top
 use Rattle.roots.specs.TopPage.{topOf}
 use Rattle.roots.proofs.TopLaws.{top-opens}
@@ -82,7 +85,7 @@ descent-roots table a b used p (suc l) low high page =
 -- What a plan that is Ready says
 pub record RootPlan (tree : Tree) (p : Point) (made : ℕ) (change : RootChange) (page : ℕ) : Type 0 where
   pub root-is : rootAt tree (p .tick) ≡ At page
-  pub in-use : page < tree .used .pages
+  pub in-use : InUse (tree .used) page
   pub low-level : levelOf (tree .table) page ≤ topLevel
   pub sound : descentSound tree p (levelOf (tree .table) page) 0 keyLimit page ≡ true
   pub made-is : enterRoot tree p page .made ≡ made
@@ -98,12 +101,12 @@ plan-facts tree p {made} {change} e = go (rootAt tree (p .tick)) refl e
     ready page r false b f = let z : _≡_ {A = ℕ} 0 1 = cc in absurd (omega arith)
     ready page r true b f =
         let x = and-eq-true-iff (rootInUse tree page) _ .0 b in
-        let y = and-eq-true-iff (ltb page (tree .used .pages)) _ .0 (x .0) in
+        let y = and-eq-true-iff (inUse (tree .used) page) _ .0 (x .0) in
         let z = and-eq-true-iff (descentSound tree p (levelOf (tree .table) page) 0 keyLimit page) _ .0 (x .1) in (
           page,
           record {
             root-is = r;
-            in-use = ltb-true _ _ (y .0);
+            in-use = y .0;
             low-level = leb-true _ _ (y .1);
             sound = z .0;
             made-is = cc;
@@ -180,16 +183,16 @@ module _ (tree : Tree) (p : Point) (pl : Planned tree p) where
 
   -- the pages in use lie in the table, and so do those that are made
   pub in-table : tree .used .pages * pageWords ≤ length (tree .table)
-  in-table = omega (arith, pl .room)
+  in-table = has-used (tree .used) (pl .made) (tree .table) (pl .room)
 
   pub can-enter : CanEnter (useOf (tree .table) (tree .used)) p level rootPage
   unfolding level
   can-enter =
       record {
         sound = (0, (keyLimit, descent-roots (tree .table) [] (tree .roots) (tree .used) p level 0 keyLimit rootPage ∙ facts .sound));
-        room = omega (arith, ap (λ (w : Written). w .made) so-same, made-by (so .became), made-all, pl .room);
+        room = fewer (tree .used) _ (pl .made) (tree .table) (omega (arith, ap (λ (w : Written). w .made) so-same, made-by (so .became), made-all)) (pl .room);
         in-table = in-table;
-        used-few = pl .used-few;
+        takes = pl .takes;
         low-level = facts .low-level;
       }
 
@@ -216,7 +219,7 @@ module _ (tree : Tree) (p : Point) (pl : Planned tree p) where
   pub same-size : p .tick < 4294967296 → p .key < 65536 → (done : Done) (now : List ℕ) →
       DoneAs (enterFrom (useOf (tree .table) (tree .used)) p level rootPage) now done → length now ≡ length (tree .table)
   same-size small narrow done now is =
-      let e = enter-facts (useOf (tree .table) (tree .used)) p small narrow in-table level (can-enter .sound .0) (can-enter .sound .1 .0) rootPage (can-enter .sound .1 .1) (can-enter .room) in
+      let e = enter-facts (useOf (tree .table) (tree .used)) p small narrow in-table (pl .takes) level (can-enter .sound .0) (can-enter .sound .1 .0) rootPage (can-enter .sound .1 .1) (can-enter .room) in
       ap length (is .table-is) ∙ e .same-length
 
   -- what came back from the root page
@@ -239,14 +242,14 @@ module _ (tree : Tree) (p : Point) (pl : Planned tree p) where
     change-as : (b : Became) → done .became ≡ b → enteredAs tree (p .tick) level so b .root ≡ pl .change
     change-as b e = ap (λ (x : Became). enteredAs tree (p .tick) level so x .root) (sym e ∙ became) ∙ change-all
 
-    pub stays-way : done .became ≡ Stays → (r : TreeUse) → r ≡ record { pages = tree .used .pages + done .made; roots = tree .used .roots } →
+    pub stays-way : done .became ≡ Stays → (r : TreeUse) → r ≡ useAfter (tree .used) (done .made) Kept →
         EnteredAs tree p now (tree .roots) r
     stays-way e r f =
         let w = enter-as Stays e in
         record {
           table-is = now-is ∙ ap (λ (x : Tree). x .table) (sym w);
           roots-are = ap (λ (x : Tree). x .roots) (sym w);
-          use-is = f ∙ ap (λ (n : ℕ). record { pages = tree .used .pages + n; roots = tree .used .roots }) done-made ∙ ap (λ (x : Tree). x .used) (sym w);
+          use-is = f ∙ ap (λ (n : ℕ). useAfter (tree .used) n Kept) done-made ∙ ap (λ (x : Tree). x .used) (sym w);
         }
 
     place-for : (page made : ℕ) (table : List ℕ) → withRoot tree (p .tick) page table made .root ≡ pl .change →
@@ -269,8 +272,8 @@ module _ (tree : Tree) (p : Point) (pl : Planned tree p) where
           some = pl .some;
           inside = pl .inside;
           place = place-for (c .page) (so .made) (so .table) (change-as (Copied c) e);
-          used-few = pl .used-few;
-          roots-few = omega (arith, pl .used-few, pl .roots-few);
+          takes = pl .takes;
+          roots-few = omega (arith, pl .takes .used-few, pl .roots-few);
           made-few = few-made;
         }
 
@@ -280,8 +283,8 @@ module _ (tree : Tree) (p : Point) (pl : Planned tree p) where
           some = pl .some;
           inside = pl .inside;
           place = place-for _ _ _ (change-as (Halved c d) e);
-          used-few = pl .used-few;
-          roots-few = omega (arith, pl .used-few, pl .roots-few);
+          takes = pl .takes;
+          roots-few = omega (arith, pl .takes .used-few, pl .roots-few);
           made-few = omega (arith, halved-made c d e, made-at-most tree p (pl .plan-is));
         }
 
@@ -298,23 +301,23 @@ module _ (tree : Tree) (p : Point) (pl : Planned tree p) where
         }
 
     -- two halves: the new root takes the next page
-    pub halved-room : (c d : Child) → done .became ≡ Halved c d → (tree .used .pages + done .made + 1) * pageWords ≤ length (tree .table)
-    halved-room c d e = omega (arith, pl .room, halved-made c d e)
+    pub halved-room : (c d : Child) → done .became ≡ Halved c d → takenPage (tree .used) (done .made) * pageWords + pageWords ≤ length (tree .table)
+    halved-room c d e = taken-inside (tree .used) (pl .takes) (done .made) (pl .made) (tree .table) (pl .room) (omega (arith, halved-made c d e))
 
     pub halved-way : (c d : Child) → done .became ≡ Halved c d → (top : List ℕ) (after : List ℕ) (r : TreeUse) →
-        top ≡ putPage now (tree .used .pages + done .made) (encodePage (twoRowRoot (level + 1) (p .tick) (c .high) (c .page) (d .page))) →
-        RootPut (tree .roots) (tree .used) (done .made + 1) (tree .used .pages + done .made) (p .tick) after r → EnteredAs tree p top after r
+        top ≡ putPage now (takenPage (tree .used) (done .made)) (encodePage (twoRowRoot (level + 1) (p .tick) (c .high) (c .page) (d .page))) →
+        RootPut (tree .roots) (tree .used) (done .made + 1) (takenPage (tree .used) (done .made)) (p .tick) after r → EnteredAs tree p top after r
     halved-way c d e top after r is-top put =
         let w = enter-as (Halved c d) e in
         let new : List ℕ = freshPage (level + 1) 0 keyLimit (p .tick) (twoRows (p .tick) (c .high) (c .page) (d .page)) in
         let number : ℕ = takenPage (tree .used) (so .made) in
         let parts = put-parts tree (p .tick) number (so .made + 1) (putPage (so .table) number new) in
-        let root : ℕ → Tree = λ (n : ℕ). withRoot (rootTree (tree .roots) (tree .used)) (p .tick) (tree .used .pages + n) [] (n + 1) .tree in
+        let root : ℕ → Tree = λ (n : ℕ). withRoot (rootTree (tree .roots) (tree .used)) (p .tick) (takenPage (tree .used) n) [] (n + 1) .tree in
         record {
           table-is =
               is-top
-              ∙ ap (putPage now (tree .used .pages + done .made)) (two-rows-are (level + 1) (p .tick) (c .high) (c .page) (d .page))
-              ∙ ap₂ (λ (x : List ℕ) (n : ℕ). putPage x (tree .used .pages + n) new) now-is done-made
+              ∙ ap (putPage now (takenPage (tree .used) (done .made))) (two-rows-are (level + 1) (p .tick) (c .high) (c .page) (d .page))
+              ∙ ap₂ (λ (x : List ℕ) (n : ℕ). putPage x (takenPage (tree .used) n) new) now-is done-made
               ∙ sym (parts .0)
               ∙ ap (λ (x : Tree). x .table) (sym w);
           roots-are = put .list ∙ ap (λ (n : ℕ). root n .roots) done-made ∙ sym (parts .1) ∙ ap (λ (x : Tree). x .roots) (sym w);

@@ -18,18 +18,21 @@ use Rattle.tree.proofs.PageCodec.{Fits, with-length, fresh-length}
 use Rattle.tree.proofs.RowBounds.{copied-length, copied-fits, first-length, lowest-fits}
 use Rattle.tree.specs.Tree.{Tree, pageAt, putPage}
 use Rattle.tree.specs.declared.types.Became.the-variants.{Stays}
-use Rattle.tree.specs.Overflow.{Written, takenPage, copiedRows, lowerCount, lowestKey, gainFirst, totalOf, copyPage, halvePage, splitPage, finishPage}
+use Rattle.tree.specs.Use.{takenPage}
+use Rattle.tree.specs.Taking.{InUse, HasPages, Takes}
+use Rattle.tree.specs.Overflow.{Written, copiedRows, lowerCount, lowestKey, gainFirst, totalOf, copyPage, halvePage, splitPage, finishPage}
 use Rattle.tree.proofs.TableLaws.{put-length, put-other}
+use Rattle.tree.proofs.UseLaws.{taken-new, taken-inside}
 use Rattle.enter.proofs.StepRows.{ChildrenFit}
 use Rattle.enter.proofs.SettleLaws.{finish-stays, finish-splits}
 
 pub record Finished (tree : Tree) (so : Written) (page : ℕ) (o : Written) : Type 0 where
   pub same-length : length (o .table) ≡ length (so .table)
-  pub other : (q : ℕ) → q < tree .used .pages → (q ≡ page → ⊥) → pageAt (o .table) q ≡ pageAt (so .table) q
+  pub other : (q : ℕ) → InUse (tree .used) q → (q ≡ page → ⊥) → pageAt (o .table) q ≡ pageAt (so .table) q
   pub children : ChildrenFit (o .became)
   pub least : so .made ≤ o .made
 
-module _ (tree : Tree) (t : ℕ) (small : t < 4294967296) (so : Written) (page : ℕ) (rows : List Row) (fit : All Fits rows) (few : length rows ≤ mostRows)
+module _ (tree : Tree) (takes : Takes (tree .used)) (t : ℕ) (small : t < 4294967296) (so : Written) (page : ℕ) (rows : List Row) (fit : All Fits rows) (few : length rows ≤ mostRows)
     (whole : length (pageAt (tree .table) page) ≡ pageWords) (inside : page * pageWords + pageWords ≤ length (so .table)) where
   old : List ℕ
   old = pageAt (tree .table) page
@@ -48,17 +51,17 @@ module _ (tree : Tree) (t : ℕ) (small : t < 4294967296) (so : Written) (page :
         least = omega arith;
       }
 
-  copy-facts : length moved ≤ copyLimit → (tree .used .pages + (so .made + 1)) * pageWords ≤ length (so .table) →
+  copy-facts : length moved ≤ copyLimit → HasPages (so .table) (tree .used) (so .made + 1) →
       Finished tree so page (copyPage tree t so old moved)
   unfolding old moved
-  copy-facts h room =
+  copy-facts h has =
       let n : ℕ = takenPage (tree .used) (so .made) in
       let new : List ℕ = freshPage (word old 0) (lowKey (word old 2)) (highKey (word old 2)) t moved in
       let size : length new ≡ pageWords = fresh-length (word old 0) (lowKey (word old 2)) (highKey (word old 2)) t moved (omega arith) in
-      let fits : n * pageWords + pageWords ≤ length (so .table) = omega arith in
+      let fits : n * pageWords + pageWords ≤ length (so .table) = taken-inside (tree .used) takes (so .made) (so .made + 1) (so .table) has (omega arith) in
       record {
         same-length = put-length (so .table) n new fits size;
-        other = λ q l a. put-other (so .table) n new fits size q (omega arith);
+        other = λ q l a. put-other (so .table) n new fits size q (taken-new (tree .used) takes q (so .made) l);
         children = (omega arith, omega arith);
         least = omega arith;
       }
@@ -69,10 +72,10 @@ module _ (tree : Tree) (t : ℕ) (small : t < 4294967296) (so : Written) (page :
   upper : List Row
   upper = drop (lowerCount moved) moved
 
-  halve-facts : (tree .used .pages + (so .made + 2)) * pageWords ≤ length (so .table) →
+  halve-facts : HasPages (so .table) (tree .used) (so .made + 2) →
       Finished tree so page (halvePage tree t so old lower upper (lowestKey (highKey (word old 2)) upper))
   unfolding old moved lower upper
-  halve-facts room =
+  halve-facts has =
       let many : length (copiedRows t rows) ≤ length rows = copied-length t rows in
       let middle : ℕ = lowestKey (highKey (word old 2)) upper in
       let n : ℕ = takenPage (tree .used) (so .made) in
@@ -84,23 +87,26 @@ module _ (tree : Tree) (t : ℕ) (small : t < 4294967296) (so : Written) (page :
       omega (arith, first-length (totalOf lower) upper, length-drop (lowerCount moved) moved) in
       let first-size : length first ≡ pageWords = fresh-length (word old 0) (lowKey (word old 2)) middle t lower a in
       let second-size : length second ≡ pageWords = fresh-length (word old 0) middle (highKey (word old 2)) t (gainFirst (totalOf lower) upper) b in
-      let first-fits : n * pageWords + pageWords ≤ length (so .table) = omega arith in
+      let first-fits : n * pageWords + pageWords ≤ length (so .table) = taken-inside (tree .used) takes (so .made) (so .made + 2) (so .table) has (omega arith) in
       let between : List ℕ = putPage (so .table) n first in
       let long : length between ≡ length (so .table) = put-length (so .table) n first first-fits first-size in
-      let second-fits : m * pageWords + pageWords ≤ length between = omega arith in
+      let second-fits : m * pageWords + pageWords ≤ length between =
+      omega (arith, long, taken-inside (tree .used) takes (so .made + 1) (so .made + 2) (so .table) has (omega arith)) in
       let mid : middle < 65536 = lowest-fits (highKey (word old 2)) upper (omega arith) (all-drop Fits (lowerCount moved) moved (copied-fits t rows small fit)) in
       record {
         same-length = put-length between m second second-fits second-size ∙ long;
-        other = λ q l a. put-other between m second second-fits second-size q (omega arith) ∙ put-other (so .table) n first first-fits first-size q (omega arith);
+        other =
+            λ q l a. put-other between m second second-fits second-size q (taken-new (tree .used) takes q (so .made + 1) l)
+            ∙ put-other (so .table) n first first-fits first-size q (taken-new (tree .used) takes q (so .made) l);
         children = ((omega arith, mid), (mid, omega arith));
         least = omega arith;
       }
 
-  split-facts : (tree .used .pages + splitPage tree t so old moved .made) * pageWords ≤ length (so .table) → Finished tree so page (splitPage tree t so old moved)
+  split-facts : HasPages (so .table) (tree .used) (splitPage tree t so old moved .made) → Finished tree so page (splitPage tree t so old moved)
   unfolding old moved lower upper
   split-facts room = go (decLe (length moved) copyLimit) room
     where
-      go : Dec (length moved ≤ copyLimit) → (tree .used .pages + splitPage tree t so old moved .made) * pageWords ≤ length (so .table) →
+      go : Dec (length moved ≤ copyLimit) → HasPages (so .table) (tree .used) (splitPage tree t so old moved .made) →
           Finished tree so page (splitPage tree t so old moved)
       go (yes h) r =
           let e : splitPage tree t so old moved ≡ copyPage tree t so old moved = rw (le-leb _ _ h) in
@@ -110,7 +116,7 @@ module _ (tree : Tree) (t : ℕ) (small : t < 4294967296) (so : Written) (page :
           let e : splitPage tree t so old moved ≡ halvePage tree t so old lower upper (lowestKey (highKey (word old 2)) upper) = rw (lt-leb _ _ over) in
           rw e (halve-facts (rw e at r))
 
-  pub finish-facts : (tree .used .pages + finishPage tree t so page rows .made) * pageWords ≤ length (so .table) → Finished tree so page (finishPage tree t so page rows)
+  pub finish-facts : HasPages (so .table) (tree .used) (finishPage tree t so page rows .made) → Finished tree so page (finishPage tree t so page rows)
   unfolding old moved
   finish-facts room = go (decLe (length rows) rowLimit)
     where

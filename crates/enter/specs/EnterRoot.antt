@@ -1,14 +1,15 @@
 -- The whole entry as the code does it: what it asks of a plan, and what it answers and leaves.
-use Prim.Native.Nat.{ℕ, _+_, _*_, _≤_, _<_}
+use Prim.Native.Nat.{ℕ, _≤_, _<_}
 use mathlib.Core.Path.{_≡_}
 use mathlib.Core.List.{List, []}
 use lib.ListN.{length}
-use Rattle.tree.specs.Row.{pageWords}
 use Rattle.tree.specs.declared.types.TreeUse.{TreeUse}
 use Rattle.tree.specs.declared.types.RootChange.{RootChange}
 use Rattle.tree.specs.declared.types.RootChange.the-variants.{Added}
 use Rattle.tree.specs.declared.types.Plan.the-variants.{Ready}
-use Rattle.tree.specs.Tree.{Tree, lastRoot, pageLimit}
+use Rattle.tree.specs.Use.{pageLimit}
+use Rattle.tree.specs.Taking.{HasPages, Takes}
+use Rattle.tree.specs.Tree.{Tree, lastRoot}
 use Rattle.tree.specs.RowSteps.{Point}
 use Rattle.tree.specs.Enter.{withRoot}
 use Rattle.tree.specs.Plan.{plan, enter}
@@ -24,7 +25,7 @@ pub record CanPut (roots : List ℕ) (used : TreeUse) (made t : ℕ) : Type 0 wh
   pub some : 1 ≤ used .roots
   pub inside : used .roots ≤ length roots
   pub place : (rootBirth (lastRoot (rootTree roots used)) ≡ t → ⊥) → used .roots < length roots
-  pub used-few : used .pages ≤ pageLimit
+  pub takes : Takes used
   pub roots-few : used .roots ≤ pageLimit
   pub made-few : made ≤ mostMade
 
@@ -37,11 +38,11 @@ pub record Planned (tree : Tree) (p : Point) : Type 0 where
   pub made : ℕ
   pub change : RootChange
   pub plan-is : plan tree p ≡ Ready made change
-  pub room : (tree .used .pages + made) * pageWords ≤ length (tree .table)
+  pub room : HasPages (tree .table) (tree .used) made
   pub place : change ≡ Added → tree .used .roots < length (tree .roots)
   pub some : 1 ≤ tree .used .roots
   pub inside : tree .used .roots ≤ length (tree .roots)
-  pub used-few : tree .used .pages ≤ pageLimit
+  pub takes : Takes (tree .used)
   pub roots-few : tree .used .roots ≤ tree .used .pages
 
 -- The table, the root list and the use afterwards

@@ -13,7 +13,8 @@ use Rattle.live.specs.Survey.{surveyOf}
 use Rattle.tree.specs.Fresh.{zeros}
 use Rattle.tree.specs.declared.types.TreeUse.{TreeUse}
 use Rattle.split.specs.declared.done.Done.{Done}
-use Rattle.tree.specs.Tree.{Tree, pageAt, putPage, topLevel, pageLimit}
+use Rattle.tree.specs.Taking.{HasPages, Takes}
+use Rattle.tree.specs.Tree.{Tree, pageAt, putPage, topLevel}
 use Rattle.tree.specs.RowSteps.{Point}
 use Rattle.tree.specs.declared.types.Became.{Became}
 use Rattle.tree.specs.declared.types.Became.the-variants.{Stays}
@@ -62,15 +63,15 @@ pub record CanSettle (used : TreeUse) (t : ℕ) (so : Written) (page : ℕ) (wor
   pub rows : word words 1 ≤ mostRows
   pub few : so .made < mostMade
   pub inside : page * pageWords + pageWords ≤ length (so .table)
-  pub used-few : used .pages ≤ pageLimit
-  pub room : (used .pages + settled used t so page words .made) * pageWords ≤ length (so .table)
+  pub takes : Takes used
+  pub room : HasPages (so .table) used (settled used t so page words .made)
 
 -- An entry from a page down that the plan found sound and that has room
 pub record CanEnter (tree : Tree) (p : Point) (level page : ℕ) : Type 0 where
   pub sound : (low : ℕ) × ((high : ℕ) × (descentSound tree p level low high page ≡ true))
-  pub room : (tree .used .pages + enterFrom tree p level page .made) * pageWords ≤ length (tree .table)
+  pub room : HasPages (tree .table) (tree .used) (enterFrom tree p level page .made)
   pub in-table : tree .used .pages * pageWords ≤ length (tree .table)
-  pub used-few : tree .used .pages ≤ pageLimit
+  pub takes : Takes (tree .used)
   pub low-level : level ≤ topLevel
 
 abbrev pub pointAt : ℕ → ℕ → Value → Point

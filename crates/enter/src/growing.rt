@@ -7,14 +7,43 @@ use roots::find_top;
 use split::put_page;
 use split::taken_page;
 use tree::Became;
+use tree::RootChange;
 use tree::TreeUse;
 use words::Value;
 ghost use mathlib.Core.Path.{_≡_};
 ghost use Prim.Native.Nat.{_+_, _≤_, _<_};
 ghost use lib.ListN.{length};
 ghost use Rattle.tree.specs.Tree.{Tree};
+ghost use Rattle.tree.specs.Use.{pageLimit, rootsAfter, useAfter};
+ghost use Rattle.tree.specs.Taking.{Takes};
+ghost use Rattle.tree.specs.Limits.{mostMade};
 ghost use Rattle.enter.specs.EnterRoot.{rootTree, RootPut, CanPut, Planned, EnteredAs};
 ghost use Rattle.enter.specs.EnterWords.{pointAt};
+
+// How many root entries are in use after such a change.
+fn roots_after(roots: u32, change: RootChange) -> u32
+    requires { ⌜ roots ≤ pageLimit ⌝ }
+    ensures { λ r. ⌜ r ≡ rootsAfter change roots ⌝ }
+{
+    match change {
+        RootChange::Kept => roots,
+        RootChange::Added => roots + 1,
+        RootChange::Replaced => roots,
+    }
+}
+
+// What the tree uses after a call that took so many pages and changed the root list so.
+fn use_after(used: TreeUse, made: u32, change: RootChange) -> TreeUse
+    requires { ⌜ Takes used ⌝ }
+    requires { ⌜ used .roots ≤ pageLimit ⌝ }
+    requires { ⌜ made ≤ mostMade ⌝ }
+    ensures { λ r. ⌜ r ≡ useAfter used made change ⌝ }
+{
+    TreeUse {
+        pages: used.pages + made,
+        roots: roots_after(used.roots, change),
+    }
+}
 
 // Puts a root born at t into the list: over the last entry where that was born at t, else behind it. Returns what the tree uses then.
 fn put_root(roots: &mut [u64], used: TreeUse, made: u32, page: u32, t: u32) -> TreeUse
@@ -26,16 +55,10 @@ fn put_root(roots: &mut [u64], used: TreeUse, made: u32, page: u32, t: u32) -> T
     let last = roots[count - 1];
     if words::root_birth(last) == t {
         roots[count - 1] = entry;
-        return TreeUse {
-            pages: used.pages + made,
-            roots: used.roots,
-        };
+        return use_after(used, made, RootChange::Replaced);
     }
     roots[count] = entry;
-    TreeUse {
-        pages: used.pages + made,
-        roots: used.roots + 1,
-    }
+    use_after(used, made, RootChange::Added)
 }
 
 // Enters a point that was planned and has room; it cannot refuse. Returns what the tree uses then.
@@ -59,10 +82,7 @@ pub fn enter(
     let done = enter_from(table, &mut scratch, used, level, page, k, value, t);
     let became = done.became;
     match became {
-        Became::Stays => TreeUse {
-            pages: used.pages + done.made,
-            roots: used.roots,
-        },
+        Became::Stays => use_after(used, done.made, RootChange::Kept),
         Became::Copied(child) => put_root(roots, used, done.made, child.page, t),
         Became::Halved(lower, upper) => {
             let number = taken_page(used, done.made);

@@ -7,18 +7,21 @@ use mathlib.Core.Bool.{Bool, true, false, cond, _&&_, and-eq-true-iff}
 use mathlib.Core.List.{List, [], _∷_, map}
 use lib.Dec.{leb, ltb}
 use lib.ListN.{length, getD, take, length-map}
-use borrow.Author.Tests.{leb-false, le-leb, lt-leb, lt-ltb, le-ltb, ltb-true}
+use borrow.Author.Tests.{leb-false, le-leb, lt-leb, lt-ltb, le-ltb}
 use Rattle.words.specs.declared.value.Value.{Value}
 use Rattle.words.specs.Value as value
 use Rattle.words.specs.Value.{plus, valueAt}
 use Rattle.words.proofs.ValueLaws.{Stored, plus-stored, plus-zero, zero-plus, plus-assoc}
 use Rattle.tree.specs.declared.types.Row.{Row}
 use Rattle.tree.specs.declared.types.Held.the-variants.{Found}
+use Rattle.tree.specs.declared.types.TreeUse.{TreeUse}
 use Rattle.tree.specs.Row.{word, pageWords, rowAt, rowStart, rowWords, rowsFrom, rowsOf, headerWords, holds, rowLimit, live, valueStart}
-use Rattle.tree.specs.KeyOrder.{Placed, placedLow, placedHigh, keepIf, livePlaced, sortBy, keyOrder}
+use Rattle.tree.specs.KeyOrder.{Placed, placedLow, placedHigh, keepIf, livePlaced, keyOrder}
 use Rattle.tree.specs.PageTest.{headerFits, rowsTile, soundAt}
 use Rattle.tree.specs.TrueValue.{Search, none, one, first, totalWhere, rowValue, holdingRow, heldAs}
 use Rattle.tree.specs.Tree.{pageAt, metAt}
+use Rattle.tree.specs.Use.{inUse}
+use Rattle.tree.specs.Taking.{InUse}
 use Rattle.tree.proofs.TableLaws.{page-length}
 use Rattle.tree.proofs.Lists as lists
 use Rattle.tree.proofs.Lists.{All, all-map, all-at}
@@ -40,6 +43,7 @@ use Rattle.live.specs.LiveHeld.{addBelow, heldAtPlace, heldAmong, survey
 use Rattle.page.proofs.EntryLaws.{Seated, low-fits, high-fits, live-more, live-seated, liveFrom, order-seated}
 use Rattle.tree.proofs.Searches.{first-has}
 use Rattle.tree.proofs.Sorted.{sort-length}
+use Rattle.tree.proofs.UseLaws.{in-use-inside}
 use Rattle.page.proofs.PageReadings.{header-facts, sound-few}
 use Rattle.ranges.proofs.NearestLaws.{Short, range-low-is, range-high-is, rowFits, least-inside, place-is-first}
 use Rattle.ranges.proofs.RangeTiles.{tiles-once, once-tiles}
@@ -270,11 +274,11 @@ module _ (sound : Bool) (t : ℕ) (page ranges places : List ℕ) {r : Tested} w
   tested-sound e h = subst (λ (s : Tested). TestedAs sound t page ranges places s) e h
 
 -- In the table: the page is tested on its own words, where its number is one in use
-pub met-tested : (table : List ℕ) (pages t level low high page : ℕ) (words ranges places : List ℕ) (r : Tested) → page < pages → words ≡ pageAt table page
+pub met-tested : (table : List ℕ) (used : TreeUse) (t level low high page : ℕ) (words ranges places : List ℕ) (r : Tested) → InUse used page → words ≡ pageAt table page
     → TestedAs (soundAt t level low high words) t words ranges places r
-    → TestedAs (metAt (pagesIn table pages) t level low high page) t (pageAt table page) ranges places r
-met-tested table pages t level low high page words ranges places r used is h =
-    rw (lt-ltb page pages used) (subst (λ (w : List ℕ). TestedAs (soundAt t level low high w) t w ranges places r) is h)
+    → TestedAs (metAt (pagesIn table used) t level low high page) t (pageAt table page) ranges places r
+met-tested table used t level low high page words ranges places r in-use is h =
+    rw in-use (subst (λ (w : List ℕ). TestedAs (soundAt t level low high w) t w ranges places r) is h)
 
 -- The lists, said of the parts of the arrays that are lent on
 module _ (t : ℕ) (page : List ℕ) (rows : ℕ) (ranges places : List ℕ) (n : ℕ) (l : Listed t page rows ranges places n) where
@@ -301,13 +305,13 @@ module _ (t : ℕ) (page ranges places : List ℕ) (n : ℕ) (few : word page 1 
   survey-listed k = rw (l .ranges-are, l .places-are) (survey-says t k page few)
 
 -- A page of the table that passed its test: it lies in the table, and its live rows are listed
-module _ (table : List ℕ) (pages t level low high page : ℕ) (in-table : pages * pageWords ≤ length table)
-    (met : metAt (pagesIn table pages) t level low high page ≡ true) where
+module _ (table : List ℕ) (used : TreeUse) (t level low high page : ℕ) (in-table : used .pages * pageWords ≤ length table)
+    (met : metAt (pagesIn table used) t level low high page ≡ true) where
   pub met-inside : page * pageWords + pageWords ≤ length table
-  met-inside = omega (arith, ltb-true page pages (and-eq-true-iff (ltb page pages) (soundAt t level low high (pageAt table page)) .0 met .0))
+  met-inside = in-use-inside used page table (and-eq-true-iff (inUse used page) (soundAt t level low high (pageAt table page)) .0 met .0) in-table
 
   pub met-few : word (pageAt table page) 1 ≤ rowLimit
-  met-few = sound-few t level low high (pageAt table page) (and-eq-true-iff (ltb page pages) (soundAt t level low high (pageAt table page)) .0 met .1)
+  met-few = sound-few t level low high (pageAt table page) (and-eq-true-iff (inUse used page) (soundAt t level low high (pageAt table page)) .0 met .1)
 
   met-places : (ranges places : List ℕ) (n : ℕ) → Listed t (pageAt table page) (word (pageAt table page) 1) ranges places n → AllIn (pageAt table page) (take n places)
   met-places ranges places n l =
@@ -323,20 +327,20 @@ pub lists-sound : (table : List ℕ) (page : ℕ) (ranges places : List ℕ) {r 
     → ListsFit table page ranges places (Sound n)
 lists-sound table page ranges places e h = subst (λ (s : Tested). ListsFit table page ranges places s) e h
 
-module _ (table : List ℕ) (pages t level low high page : ℕ) (in-table : pages * pageWords ≤ length table) (ranges places : List ℕ) where
-  pub opened-fits : (r : Tested) → TestedAs (metAt (pagesIn table pages) t level low high page) t (pageAt table page) ranges places r
+module _ (table : List ℕ) (used : TreeUse) (t level low high page : ℕ) (in-table : used .pages * pageWords ≤ length table) (ranges places : List ℕ) where
+  pub opened-fits : (r : Tested) → TestedAs (metAt (pagesIn table used) t level low high page) t (pageAt table page) ranges places r
       → ListsFit table page ranges places r
   opened-fits Spoiled h = tt
   opened-fits (Sound n) h = (
-    met-inside table pages t level low high page in-table (h .0),
+    met-inside table used t level low high page in-table (h .0),
     h .1 .bounded,
     ranges-length _ _ _ _ _ _ (h .1),
     places-length _ _ _ _ _ _ (h .1),
-    met-places table pages t level low high page in-table (h .0) ranges places n (h .1),
+    met-places table used t level low high page in-table (h .0) ranges places n (h .1),
   )
 
-  pub opened-held : (k : ℕ) (r : Tested) → TestedAs (metAt (pagesIn table pages) t level low high page) t (pageAt table page) ranges places r
-      → heldTested table page ranges places k r ≡ opened (pagesIn table pages) t k level low high page
+  pub opened-held : (k : ℕ) (r : Tested) → TestedAs (metAt (pagesIn table used) t level low high page) t (pageAt table page) ranges places r
+      → heldTested table page ranges places k r ≡ opened (pagesIn table used) t k level low high page
   opened-held k Spoiled h = rw h
   opened-held k (Sound n) h =
-      rw (h .0) (held-listed t (pageAt table page) ranges places n (met-few table pages t level low high page in-table (h .0)) (h .1) k)
+      rw (h .0) (held-listed t (pageAt table page) ranges places n (met-few table used t level low high page in-table (h .0)) (h .1) k)

@@ -10,6 +10,7 @@ use ranges::find_holder;
 use ranges::range_low;
 use tree::Held;
 use tree::Row;
+use tree::TreeUse;
 use words::Value;
 ghost use mathlib.Core.Path.{_≡_};
 ghost use mathlib.Core.Bool.{cond};
@@ -112,7 +113,7 @@ fn held_tested(
 // What a page of the table has for (t, k), where it is one of the expected level and key range: the row that holds (t, k), and its true value.
 pub fn read_page(
     table: &[u64],
-    pages: u32,
+    used: TreeUse,
     page: u32,
     level: u64,
     low: u16,
@@ -120,15 +121,15 @@ pub fn read_page(
     t: u32,
     k: u16,
 ) -> Held
-    requires { ⌜ pages * pageWords ≤ length (now table) ⌝ }
+    requires { ⌜ used .pages * pageWords ≤ length (now table) ⌝ }
     requires { ⌜ low < high ⌝ }
-    ensures { λ r. ⌜ r ≡ opened (pagesIn (now (table .entry)) pages) t k level low high page ⌝ }
+    ensures { λ r. ⌜ r ≡ opened (pagesIn (now (table .entry)) used) t k level low high page ⌝ }
 {
     let mut ranges = [0u32; Page::ROWS];
     let mut places = [0u8; Page::ROWS];
     let tested = open_page(
         table,
-        pages,
+        used,
         page,
         level,
         low,
@@ -143,7 +144,7 @@ pub fn read_page(
 // The same for two keys: the test, the dear part, is made once.
 pub fn read_page_for_two(
     table: &[u64],
-    pages: u32,
+    used: TreeUse,
     page: u32,
     level: u64,
     low: u16,
@@ -152,16 +153,16 @@ pub fn read_page_for_two(
     lower_key: u16,
     upper_key: u16,
 ) -> HeldTwo
-    requires { ⌜ pages * pageWords ≤ length (now table) ⌝ }
+    requires { ⌜ used .pages * pageWords ≤ length (now table) ⌝ }
     requires { ⌜ low < high ⌝ }
-    ensures { λ r. ⌜ r .lower ≡ opened (pagesIn (now (table .entry)) pages) t «lower_key» level low high page ⌝ }
-    ensures { λ r. ⌜ r .upper ≡ opened (pagesIn (now (table .entry)) pages) t «upper_key» level low high page ⌝ }
+    ensures { λ r. ⌜ r .lower ≡ opened (pagesIn (now (table .entry)) used) t «lower_key» level low high page ⌝ }
+    ensures { λ r. ⌜ r .upper ≡ opened (pagesIn (now (table .entry)) used) t «upper_key» level low high page ⌝ }
 {
     let mut ranges = [0u32; Page::ROWS];
     let mut places = [0u8; Page::ROWS];
     let tested = open_page(
         table,
-        pages,
+        used,
         page,
         level,
         low,

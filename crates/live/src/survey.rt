@@ -6,6 +6,7 @@ use page::Page;
 use page::page_at;
 use ranges::Place;
 use ranges::find_place;
+use tree::TreeUse;
 ghost use mathlib.Core.Path.{_≡_};
 ghost use mathlib.Core.Bool.{cond};
 ghost use Prim.Native.Nat.{_*_, _≤_, _<_};
@@ -64,7 +65,7 @@ pub fn survey_page(page: &[u64], t: u32, k: u16) -> Survey
 // The survey of a page of the table that is one of the expected level and key range.
 pub fn survey_sound(
     table: &[u64],
-    pages: u32,
+    used: TreeUse,
     page: u32,
     level: u64,
     low: u16,
@@ -72,15 +73,15 @@ pub fn survey_sound(
     t: u32,
     k: u16,
 ) -> Surveyed
-    requires { ⌜ pages * pageWords ≤ length (now table) ⌝ }
+    requires { ⌜ used .pages * pageWords ≤ length (now table) ⌝ }
     requires { ⌜ low < high ⌝ }
-    ensures { λ r. ⌜ r ≡ cond (metAt (pagesIn (now (table .entry)) pages) t level low high page) (Sound (surveyOf t k (pageAt (now (table .entry)) page))) Spoiled ⌝ }
+    ensures { λ r. ⌜ r ≡ cond (metAt (pagesIn (now (table .entry)) used) t level low high page) (Sound (surveyOf t k (pageAt (now (table .entry)) page))) Spoiled ⌝ }
 {
     let mut ranges = [0u32; Page::ROWS];
     let mut places = [0u8; Page::ROWS];
     let tested = open_page(
         table,
-        pages,
+        used,
         page,
         level,
         low,

@@ -1,8 +1,10 @@
 // Refusal 26: the test of a page, on its own words and in the table.
 use crate::live::list_live;
 use page::Page;
+use page::in_use;
 use page::page_at;
 use ranges::tiles;
+use tree::TreeUse;
 ghost use mathlib.Core.Path.{_≡_};
 ghost use Prim.Native.Nat.{_*_, _≤_, _<_};
 ghost use lib.ListN.{length};
@@ -61,11 +63,11 @@ fn list_tested(
     Tested::Spoiled
 }
 
-// Opens a page of the table: its number must be below the pages used, and its words those of a page of this level and key range. Every page that
+// Opens a page of the table: it must be in use, and its words those of a page of this level and key range. Every page that
 // a lookup or a plan meets is opened here. Leaves the live rows of a sound page at the front of `ranges` and `places`.
 pub fn open_page(
     table: &[u64],
-    pages: u32,
+    used: TreeUse,
     page: u32,
     level: u64,
     low: u16,
@@ -74,13 +76,13 @@ pub fn open_page(
     ranges: &mut [u32],
     places: &mut [u8],
 ) -> Tested
-    requires { ⌜ pages * pageWords ≤ length (now table) ⌝ }
+    requires { ⌜ used .pages * pageWords ≤ length (now table) ⌝ }
     requires { ⌜ low < high ⌝ }
     requires { ⌜ length (now ranges) ≡ rowLimit ⌝ }
     requires { ⌜ length (now places) ≡ rowLimit ⌝ }
-    ensures { λ r. ⌜ TestedAs (metAt (pagesIn (now (table .entry)) pages) t level low high page) t (pageAt (now (table .entry)) page) (now (ranges .exit)) (now (places .exit)) r ⌝ }
+    ensures { λ r. ⌜ TestedAs (metAt (pagesIn (now (table .entry)) used) t level low high page) t (pageAt (now (table .entry)) page) (now (ranges .exit)) (now (places .exit)) r ⌝ }
 {
-    if page < pages {
+    if in_use(used, page) {
         return list_tested(page_at(table, page), level, low, high, t, ranges, places);
     }
     Tested::Spoiled

@@ -6,7 +6,6 @@ use native.Mathlib.Omega.{arith}
 use mathlib.Core.Path.{_≡_, refl, ap, sym, _∙_}
 use mathlib.Core.Bool.{Bool, true, false, cond, _&&_}
 use mathlib.Core.List.{List, []}
-use lib.Dec.{ltb}
 use Rattle.words.specs.Words.{keyLimit}
 use Rattle.words.specs.declared.value.Value.{Value}
 use Rattle.words.specs.Value.{plus}
@@ -23,6 +22,7 @@ use Rattle.tree.specs.declared.types.Lookup.{Lookup}
 use Rattle.tree.specs.declared.types.Lookup.the-variants.{Spoiled, Found}
 use Rattle.tree.specs.Tree.{Tree, pageAt, levelOf, rootAt, rootInUse}
 use Rattle.tree.specs.Lookup.{plusPage, withBelow, lookupPage, lookupFrom, lookupRoot, lookup}
+use Rattle.tree.specs.Use.{inUse}
 use Rattle.live.specs.Tested.{opened}
 use Rattle.roots.specs.declared.top.Top.{Top}
 use Rattle.roots.specs.declared.top.Top.the-variants as top
@@ -58,9 +58,9 @@ module _ (tree : Tree) (t k : ℕ) where
   from-opened : (level low high page : ℕ) → lookupHeld tree t k level (opened tree t k level low high page) ≡ lookupFrom tree t k level low high page
   unfolding lookupFrom
   from-opened zero low high page =
-      test-inside (below tree t k zero) (ltb page (tree .used .pages)) (soundAt t zero low high (pageAt (tree .table) page)) _
+      test-inside (below tree t k zero) (inUse (tree .used) page) (soundAt t zero low high (pageAt (tree .table) page)) _
   from-opened (suc l) low high page =
-      test-inside (below tree t k (suc l)) (ltb page (tree .used .pages)) (soundAt t (suc l) low high (pageAt (tree .table) page)) _
+      test-inside (below tree t k (suc l)) (inUse (tree .used) page) (soundAt t (suc l) low high (pageAt (tree .table) page)) _
 
   -- At the root
   pub way-start : (level low high page : ℕ) {h : Held} {v : Value} → v ≡ value.zero → h ≡ opened tree t k level low high page

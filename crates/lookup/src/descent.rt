@@ -47,7 +47,7 @@ pub fn descend_from(
             };
         }
         level -= 1;
-        held = read_page(table, used.pages, row.child, level, row.low, row.high, t, k);
+        held = read_page(table, used, row.child, level, row.low, row.high, t, k);
     }
 }
 
@@ -57,7 +57,7 @@ fn descend(table: &[u64], used: TreeUse, root: u32, top: u64, t: u32, k: u16) ->
     requires { ⌜ top ≤ topLevel ⌝ }
     ensures { λ r. ⌜ r ≡ lookupFrom (record { table = now (table .entry); roots = []; used = used }) t k top 0 keyLimit root ⌝ }
 {
-    let held = read_page(table, used.pages, root, top, 0, words::KEY_LIMIT, t, k);
+    let held = read_page(table, used, root, top, 0, words::KEY_LIMIT, t, k);
     descend_from(table, used, held, top, Value::zero(), 0, t, k)
 }
 

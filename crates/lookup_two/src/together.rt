@@ -94,7 +94,7 @@ fn descend_together(
 {
     let mut held = read_page_for_two(
         table,
-        used.pages,
+        used,
         root,
         top,
         0,
@@ -123,7 +123,7 @@ fn descend_together(
         level -= 1;
         held = read_page_for_two(
             table,
-            used.pages,
+            used,
             row.child,
             level,
             row.low,

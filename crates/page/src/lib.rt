@@ -1,5 +1,6 @@
 // One page, on its own words: its rows, edits of rows, key order, fresh pages.
 // A function here is lent the words of one page and sees no other page; only `page_at`, which cuts these words out of the table, is lent the table.
+// `in_use` tells beforehand whether the page is one to be met.
 mod edit;
 mod fresh;
 mod order;
@@ -17,4 +18,5 @@ pub use row::gained_row;
 pub use row::new_row;
 pub use row::row_at;
 pub use row::row_start;
+pub use table::in_use;
 pub use table::page_at;

@@ -8,6 +8,7 @@ use lib.Dec.{leb, ltb, eqb}
 use lib.ListN.{length}
 use borrow.Author.Tests.{ltb-true}
 use Rattle.tree.specs.declared.types.Row.{Row}
+use Rattle.tree.specs.declared.types.TreeUse.{TreeUse}
 use Rattle.ranges.specs.declared.search.Place.{Place}
 use Rattle.ranges.specs.declared.search.Place.the-variants as place
 use Rattle.tree.specs.Row.{word, rowAt, rowStart, rowsOf, headerWords, live, rowLimit, copyLimit}
@@ -25,6 +26,7 @@ use Rattle.plan.specs.declared.planning.Met.the-variants as met
 use Rattle.plan.specs.declared.planning.PagePlan.{PagePlan}
 use Rattle.plan.specs.declared.planning.PagePlan.the-variants as planned
 use Rattle.tree.specs.Tree.{pageAt}
+use Rattle.tree.specs.Use.{inUse}
 use Rattle.plan.specs.PlanSteps.{appended, countsOf, metAround, metSurvey, metWords, metPage, Few, FewMet, FewParts}
 use Rattle.plan.specs.PlanSteps.{partsOf, planPage, planAbove, planCut, planMet, planFrom}
 use Rattle.plan.proofs.RowCounts.{live-count, rows-count, count-at-most}
@@ -84,10 +86,10 @@ parts-few rows live = go (leb rows rowLimit) (leb live copyLimit)
     go false true = omega arith
     go false false = omega arith
 
-module _ (table : List ℕ) (pages t k : ℕ) where
-  pub met-few : (level low high page : ℕ) → FewMet (metPage table pages t k level low high page)
+module _ (table : List ℕ) (used : TreeUse) (t k : ℕ) where
+  pub met-few : (level low high page : ℕ) → FewMet (metPage table used t k level low high page)
   unfolding metPage
-  met-few level low high page = go (ltb page pages)
+  met-few level low high page = go (inUse used page)
     where
       go : (b : Bool) → FewMet (cond b (metWords t k level low high (pageAt table page)) met.Spoiled)
       go true = words-few t (pageAt table page) k level low high
@@ -118,18 +120,18 @@ module _ (table : List ℕ) (pages t k : ℕ) where
   met-plan-few limit around h f (met.Around counts row) = f counts row
 
   -- Each page on the way makes two pages at most
-  plan-few : (level low high page : ℕ) → FewParts (2 * level + 2) (planFrom table pages t k level low high page)
+  plan-few : (level low high page : ℕ) → FewParts (2 * level + 2) (planFrom table used t k level low high page)
   unfolding planFrom
   plan-few zero low high page =
       met-plan-few 2 (λ (counts : Counts) (row : Row). planCut counts) (omega arith)
       (λ c r. page-few 0 (c .rows + c .inner + 1) (c .live + 1) 2 (omega arith))
-      (metPage table pages t k 0 low high page)
+      (metPage table used t k 0 low high page)
   plan-few (suc l) low high page =
-      subst (λ (n : ℕ). FewParts n (planFrom table pages t k (suc l) low high page)) (limit-next l)
+      subst (λ (n : ℕ). FewParts n (planFrom table used t k (suc l) low high page)) (limit-next l)
       (met-plan-few (2 * l + 2 + 2)
-      (λ (counts : Counts) (row : Row). planAbove counts (planFrom table pages t k l (row .low) (row .high) (row .child))) (omega arith)
-      (λ c r. above-few c (2 * l + 2) (planFrom table pages t k l (r .low) (r .high) (r .child)) (plan-few l (r .low) (r .high) (r .child)))
-      (metPage table pages t k (suc l) low high page))
+      (λ (counts : Counts) (row : Row). planAbove counts (planFrom table used t k l (row .low) (row .high) (row .child))) (omega arith)
+      (λ c r. above-few c (2 * l + 2) (planFrom table used t k l (r .low) (r .high) (r .child)) (plan-few l (r .low) (r .high) (r .child)))
+      (metPage table used t k (suc l) low high page))
     where
       limit-next : (n : ℕ) → 2 * n + 2 + 2 ≡ 2 * suc n + 2
       limit-next n = omega arith
@@ -139,11 +141,11 @@ module _ (table : List ℕ) (pages t k : ℕ) where
   few-more a b (planned.Made made parts) h f = (omega (arith, f .0), f .1)
 
   pub plan-within : (limit level low high page : ℕ) → 2 * level + 2 ≤ limit → {r : PagePlan}
-      → r ≡ planFrom table pages t k level low high page →
+      → r ≡ planFrom table used t k level low high page →
       FewParts limit r
   plan-within limit level low high page h e =
       subst (λ (q : PagePlan). FewParts limit q) (sym e)
-      (few-more (2 * level + 2) limit (planFrom table pages t k level low high page) h (plan-few level low high page))
+      (few-more (2 * level + 2) limit (planFrom table used t k level low high page) h (plan-few level low high page))
 
 -- The row that a plan goes on from has its key inside, so its key range has one
 abbrev Wide : Met → Type 0
@@ -167,9 +169,9 @@ words-wide t k level low high words = go (soundAt t level low high words)
     go true = found (first (isAround k) (keyOrder t (rowsOf words))) refl
     go false = tt
 
-pub met-wide : (table : List ℕ) (pages t k level low high page : ℕ) → Wide (metPage table pages t k level low high page)
+pub met-wide : (table : List ℕ) (used : TreeUse) (t k level low high page : ℕ) → Wide (metPage table used t k level low high page)
 unfolding metPage
-met-wide table pages t k level low high page = go (ltb page pages)
+met-wide table used t k level low high page = go (inUse used page)
   where
     go : (b : Bool) → Wide (cond b (metWords t k level low high (pageAt table page)) met.Spoiled)
     go true = words-wide t k level low high (pageAt table page)

@@ -4,7 +4,7 @@ use native.Mathlib.Omega.{arith}
 use mathlib.Core.Path.{_≡_, refl, sym, ap, ap₂, _∙_}
 use mathlib.Core.Bool.{Bool, true, false, cond, _&&_}
 use mathlib.Core.List.{List}
-use lib.Dec.{leb, ltb, eqb}
+use lib.Dec.{leb, eqb}
 use lib.ListN.{length}
 use Rattle.words.specs.Words.{openEnd}
 use Rattle.tree.specs.declared.types.Row.{Row}
@@ -29,6 +29,7 @@ use Rattle.tree.specs.declared.types.Became.the-variants.{Stays, Copied, Halved
 use Rattle.tree.specs.Overflow.{Written, finishPage, copiedRows}
 use Rattle.tree.specs.Enter.{unwritten, enterBelow, enterFrom}
 use Rattle.tree.specs.Plan.{soundBelow, descentSound}
+use Rattle.tree.specs.Use.{inUse}
 use Rattle.plan.specs.PlanSteps.{appended, countsOf, metAround, metSurvey, metWords, metPage}
 use Rattle.plan.specs.PlanSteps.{planPage, planAbove, planLowest, planCut, planMet, planFrom}
 use Rattle.plan.proofs.RowCounts.{live-count, copied-count, rows-count}
@@ -171,11 +172,11 @@ module _ (tree : Tree) (p : Point) (small : p .tick < openEnd) where
 
   -- What the plan says of the page below a row
   abbrev below : ℕ → Row → PagePlan
-  below l row = planFrom (tree .table) (tree .used .pages) (p .tick) (p .key) l (row .low) (row .high) (row .child)
+  below l row = planFrom (tree .table) (tree .used) (p .tick) (p .key) l (row .low) (row .high) (row .child)
 
   abbrev IsPlan : ℕ → Type 0
   IsPlan l = (low high page : ℕ) →
-      planFrom (tree .table) (tree .used .pages) (p .tick) (p .key) l low high page
+      planFrom (tree .table) (tree .used) (p .tick) (p .key) l low high page
       ≡ cond (descentSound tree p l low high page) (outcome (enterFrom tree p l page)) Spoiled
 
   above-is : (l page : ℕ) → IsPlan l →
@@ -209,12 +210,12 @@ module _ (tree : Tree) (p : Point) (small : p .tick < openEnd) where
   pub plan-from-is : (level : ℕ) → IsPlan level
   unfolding planFrom metPage metWords descentSound enterFrom
   plan-from-is zero low high page =
-      met-tests (λ (counts : Counts) (row : Row). planCut counts) (ltb page (tree .used .pages))
+      met-tests (λ (counts : Counts) (row : Row). planCut counts) (inUse (tree .used) page)
       (soundAt (p .tick) 0 low high (pageAt (tree .table) page))
       (metSurvey (p .tick) (pageAt (tree .table) page) (surveyOf (p .tick) (p .key) (pageAt (tree .table) page)))
       ∙ ap (λ (y : PagePlan). cond (metAt tree (p .tick) 0 low high page) y Spoiled) (leaf-is page)
   plan-from-is (suc l) low high page =
-      met-tests (λ (counts : Counts) (row : Row). planAbove counts (below l row)) (ltb page (tree .used .pages))
+      met-tests (λ (counts : Counts) (row : Row). planAbove counts (below l row)) (inUse (tree .used) page)
       (soundAt (p .tick) (suc l) low high (pageAt (tree .table) page))
       (metSurvey (p .tick) (pageAt (tree .table) page) (surveyOf (p .tick) (p .key) (pageAt (tree .table) page)))
       ∙ ap (λ (y : PagePlan). cond (metAt tree (p .tick) (suc l) low high page) y Spoiled) (above-is l page (plan-from-is l))

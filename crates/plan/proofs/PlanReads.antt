@@ -4,10 +4,10 @@ use native.Mathlib.Omega.{arith}
 use mathlib.Core.Path.{_≡_, refl, sym, ap, subst, _∙_}
 use mathlib.Core.Bool.{Bool, true, false, cond, _&&_, and-eq-true-iff}
 use mathlib.Core.List.{List}
-use lib.Dec.{ltb}
 use lib.ListN.{length}
 use borrow.Author.Tests.{eq-eqb, ne-eqb}
 use Rattle.tree.specs.declared.types.Row.{Row}
+use Rattle.tree.specs.declared.types.TreeUse.{TreeUse}
 use Rattle.ranges.specs.declared.search.Place.{Place}
 use Rattle.ranges.specs.declared.search.Place.the-variants as place
 use Rattle.live.specs.declared.survey.Survey.{Survey}
@@ -20,6 +20,7 @@ use Rattle.tree.specs.PageTest.{soundAt}
 use Rattle.ranges.specs.Nearest.{placeFound}
 use Rattle.live.specs.Survey.{startsFrom, isAround, surveyOf}
 use Rattle.tree.specs.Tree.{pageAt, metAt}
+use Rattle.tree.specs.Use.{inUse}
 use Rattle.tree.proofs.TableLaws.{page-length}
 use Rattle.live.specs.Tested.{pagesIn}
 use Rattle.live.proofs.LiveReadings.{met-inside, met-few}
@@ -52,45 +53,45 @@ module _ (t : ℕ) (words : List ℕ) where
       go (one x) e = omega (arith, found-seated t words test e .within)
 
 -- The answer of a survey in the table, taken apart
-module _ (table : List ℕ) (pages t k level low high page : ℕ) where
+module _ (table : List ℕ) (used : TreeUse) (t k level low high page : ℕ) where
   abbrev words : List ℕ
   words = pageAt table page
 
   abbrev met-by : Bool → Surveyed
   met-by b = cond b (surveyed.Sound (surveyOf t k words)) surveyed.Spoiled
 
-  pub met-spoiled : met-by (metAt (pagesIn table pages) t level low high page) ≡ surveyed.Spoiled → metPage table pages t k level low high page ≡ met.Spoiled
+  pub met-spoiled : met-by (metAt (pagesIn table used) t level low high page) ≡ surveyed.Spoiled → metPage table used t k level low high page ≡ met.Spoiled
   unfolding metPage metWords
-  met-spoiled e = go (ltb page pages) (soundAt t level low high words) e
+  met-spoiled e = go (inUse used page) (soundAt t level low high words) e
     where
       go : (a b : Bool) → met-by (a && b) ≡ surveyed.Spoiled → cond a (cond b (metSurvey t words (surveyOf t k words)) met.Spoiled) met.Spoiled ≡ met.Spoiled
       go true true f = let z : _≡_ {A = ℕ} 0 1 = cc in absurd (omega arith)
       go true false f = refl
       go false b f = refl
 
-  module _ {s : Survey} (e : met-by (metAt (pagesIn table pages) t level low high page) ≡ surveyed.Sound s) where
-    sound-of : (metAt (pagesIn table pages) t level low high page ≡ true) × (surveyOf t k words ≡ s)
-    sound-of = go (metAt (pagesIn table pages) t level low high page) refl e
+  module _ {s : Survey} (e : met-by (metAt (pagesIn table used) t level low high page) ≡ surveyed.Sound s) where
+    sound-of : (metAt (pagesIn table used) t level low high page ≡ true) × (surveyOf t k words ≡ s)
+    sound-of = go (metAt (pagesIn table used) t level low high page) refl e
       where
-        go : (b : Bool) → metAt (pagesIn table pages) t level low high page ≡ b → met-by b ≡ surveyed.Sound s
-            → (metAt (pagesIn table pages) t level low high page ≡ true) × (surveyOf t k words ≡ s)
+        go : (b : Bool) → metAt (pagesIn table used) t level low high page ≡ b → met-by b ≡ surveyed.Sound s
+            → (metAt (pagesIn table used) t level low high page ≡ true) × (surveyOf t k words ≡ s)
         go true f g = (f, cc)
         go false f g = let z : _≡_ {A = ℕ} 0 1 = cc in absurd (omega arith)
 
-    pub met-sound : metSurvey t words s ≡ metPage table pages t k level low high page
+    pub met-sound : metSurvey t words s ≡ metPage table used t k level low high page
     unfolding metPage metWords
     met-sound =
         let f = sound-of in
-        let tests = and-eq-true-iff (ltb page pages) (soundAt t level low high words) .0 (f .0) in
+        let tests = and-eq-true-iff (inUse used page) (soundAt t level low high words) .0 (f .0) in
         ap (metSurvey t words) (sym (f .1)) ∙ rw (tests .0, tests .1)
 
     -- The page lies in the table, and the rows that were found lie in the page
-    module _ (in-table : pages * pageWords ≤ length table) where
+    module _ (in-table : used .pages * pageWords ≤ length table) where
       pub sound-inside : page * pageWords + pageWords ≤ length table
-      sound-inside = met-inside table pages t level low high page in-table (sound-of .0)
+      sound-inside = met-inside table used t level low high page in-table (sound-of .0)
 
       found-inside : (test : Placed → Bool) → InWords words (placeFound (first test (keyOrder t (rowsOf words))))
-      found-inside = found-in t words (met-few table pages t level low high page in-table (sound-of .0)) (page-length table page sound-inside)
+      found-inside = found-in t words (met-few table used t level low high page in-table (sound-of .0)) (page-length table page sound-inside)
 
       pub gain-in : InWords words (s .gain)
       gain-in = subst (λ (q : Survey). InWords words (q .gain)) (sound-of .1) (found-inside (startsFrom k))

@@ -90,7 +90,7 @@ module _ (tree : Tree) (p : Point) where
 
   module _ (root : Root) (found : root ≡ rootAt tree (p .tick)) (page level : ℕ) (start : Starts tree root page level) (small : p .tick < openEnd) where
     abbrev fromLevel : ℕ → Plan
-    fromLevel l = planEnd l (lastRoot tree) (p .tick) (planFrom (tree .table) (tree .used .pages) (p .tick) (p .key) l 0 keyLimit page)
+    fromLevel l = planEnd l (lastRoot tree) (p .tick) (planFrom (tree .table) (tree .used) (p .tick) (p .key) l 0 keyLimit page)
 
     pub opened-plan : plan tree p ≡ fromLevel level
     unfolding plan enterRoot

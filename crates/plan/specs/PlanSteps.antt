@@ -4,12 +4,14 @@ use Prim.Native.Nat.{ℕ, zero, suc, _+_, _-_, _≤_}
 use mathlib.Core.List.{List}
 use mathlib.Core.Bool.{cond}
 use lib.ListN.{length}
-use lib.Dec.{leb, ltb, eqb}
+use lib.Dec.{leb, eqb}
 use Rattle.words.specs.Words.{rootBirth}
 use Rattle.tree.specs.declared.types.Row.{Row}
 use Rattle.ranges.specs.declared.search.Place.{Place}
 use Rattle.ranges.specs.declared.search.Place.the-variants as place
 use Rattle.live.specs.declared.survey.Survey.{Survey}
+use Rattle.tree.specs.declared.types.TreeUse.{TreeUse}
+use Rattle.tree.specs.Use.{inUse}
 use Rattle.tree.specs.Row.{rowAt, rowStart, rowWords, rowLimit, copyLimit}
 use Rattle.tree.specs.PageTest.{soundAt}
 use Rattle.live.specs.Survey.{surveyOf}
@@ -46,8 +48,8 @@ metSurvey t words s = metAround words (countsOf t words s) (s .inner)
 unfoldable pub metWords : (t k level low high : ℕ) → (words : List ℕ) → Met
 metWords t k level low high words = cond (soundAt t level low high words) (metSurvey t words (surveyOf t k words)) met.Spoiled
 
-unfoldable pub metPage : (table : List ℕ) → (pages t k level low high page : ℕ) → Met
-metPage table pages t k level low high page = cond (ltb page pages) (metWords t k level low high (pageAt table page)) met.Spoiled
+unfoldable pub metPage : (table : List ℕ) → TreeUse → (t k level low high page : ℕ) → Met
+metPage table used t k level low high page = cond (inUse used page) (metWords t k level low high (pageAt table page)) met.Spoiled
 
 -- "Over 64 rows, the page overflows"; "Over 40 of them go to two pages"
 abbrev pub partsOf : ℕ → ℕ → ℕ
@@ -77,12 +79,12 @@ planMet around met.Spoiled = planned.Spoiled
 planMet around (met.Lowest counts) = planLowest counts
 planMet around (met.Around counts row) = around counts row
 
-unfoldable pub planFrom : (table : List ℕ) → (pages t k level low high page : ℕ) → PagePlan
-planFrom table pages t k zero low high page = planMet (λ (counts : Counts) (row : Row). planCut counts)
-    (metPage table pages t k 0 low high page)
-planFrom table pages t k (suc l) low high page =
-    planMet (λ (counts : Counts) (row : Row). planAbove counts (planFrom table pages t k l (row .low) (row .high) (row .child)))
-    (metPage table pages t k (suc l) low high page)
+unfoldable pub planFrom : (table : List ℕ) → TreeUse → (t k level low high page : ℕ) → PagePlan
+planFrom table used t k zero low high page = planMet (λ (counts : Counts) (row : Row). planCut counts)
+    (metPage table used t k 0 low high page)
+planFrom table used t k (suc l) low high page =
+    planMet (λ (counts : Counts) (row : Row). planAbove counts (planFrom table used t k l (row .low) (row .high) (row .child)))
+    (metPage table used t k (suc l) low high page)
 
 -- Step 8, and "a level 3 root whose rows must go to two pages"
 unfoldable pub planTop : (made parts top last t : ℕ) → Plan

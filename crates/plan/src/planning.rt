@@ -90,7 +90,7 @@ fn meet_words(words: &[u64], survey: Survey, t: u32) -> Met
 // One page of the descent, as one of this level and key range.
 fn meet_page(
     table: &[u64],
-    pages: u32,
+    used: TreeUse,
     page: u32,
     level: u64,
     low: u16,
@@ -98,11 +98,11 @@ fn meet_page(
     t: u32,
     k: u16,
 ) -> Met
-    requires { ⌜ pages * pageWords ≤ length (now table) ⌝ }
+    requires { ⌜ used .pages * pageWords ≤ length (now table) ⌝ }
     requires { ⌜ low < high ⌝ }
-    ensures { λ r. ⌜ r ≡ metPage (now (table .entry)) pages t k level low high page ⌝ }
+    ensures { λ r. ⌜ r ≡ metPage (now (table .entry)) used t k level low high page ⌝ }
 {
-    let surveyed = live::survey_sound(table, pages, page, level, low, high, t, k);
+    let surveyed = live::survey_sound(table, used, page, level, low, high, t, k);
     let Surveyed::Sound(survey) = surveyed else {
         return Met::Spoiled;
     };
@@ -154,7 +154,7 @@ fn plan_above(counts: Counts, below: PagePlan) -> PagePlan
 // What the entry does from a page of a level down: steps 1 to 7.
 fn plan_from(
     table: &[u64],
-    pages: u32,
+    used: TreeUse,
     page: u32,
     level: u64,
     low: u16,
@@ -162,12 +162,12 @@ fn plan_from(
     t: u32,
     k: u16,
 ) -> PagePlan
-    requires { ⌜ pages * pageWords ≤ length (now table) ⌝ }
+    requires { ⌜ used .pages * pageWords ≤ length (now table) ⌝ }
     requires { ⌜ level ≤ topLevel ⌝ }
     requires { ⌜ low < high ⌝ }
-    ensures { λ r. ⌜ r ≡ planFrom (now (table .entry)) pages t k level low high page ⌝ }
+    ensures { λ r. ⌜ r ≡ planFrom (now (table .entry)) used t k level low high page ⌝ }
 {
-    let met = meet_page(table, pages, page, level, low, high, t, k);
+    let met = meet_page(table, used, page, level, low, high, t, k);
     match met {
         Met::Spoiled => PagePlan::Spoiled,
         Met::Lowest(counts) => plan_page(0, counts.rows + counts.gain, counts.live),
@@ -175,7 +175,7 @@ fn plan_from(
             if level == 0 {
                 return plan_page(0, counts.rows + counts.inner + 1, counts.live + 1);
             }
-            let below = plan_from(table, pages, row.child, level - 1, row.low, row.high, t, k);
+            let below = plan_from(table, used, row.child, level - 1, row.low, row.high, t, k);
             plan_above(counts, below)
         }
     }
@@ -228,7 +228,7 @@ pub fn plan(table: &[u64], roots: &[u64], used: TreeUse, t: u32, k: u16) -> Plan
     let Top::At { page, level } = top else {
         return Plan::Spoiled;
     };
-    let planned = plan_from(table, used.pages, page, level, 0, words::KEY_LIMIT, t, k);
+    let planned = plan_from(table, used, page, level, 0, words::KEY_LIMIT, t, k);
     let PagePlan::Made { made, parts } = planned else {
         return Plan::Spoiled;
     };

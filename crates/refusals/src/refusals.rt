@@ -15,7 +15,8 @@ ghost use mathlib.Core.Path.{_≡_};
 ghost use mathlib.Core.List.{[], _∷_};
 ghost use lib.Dec.{leb};
 ghost use Prim.Native.Nat.{_≤_};
-ghost use Rattle.tree.specs.Tree.{wholePages, pagesLeft, pageLimit};
+ghost use Rattle.tree.specs.Taking.{Takes};
+ghost use Rattle.tree.specs.Tree.{wholePages, pagesLeft};
 ghost use Rattle.store.specs.Trees.{Lent, lentOf, Store, storeOf};
 ghost use Rattle.store.specs.declared.types.Head.{Head};
 ghost use Rattle.store.specs.Calls.{opening, start, end};
@@ -79,7 +80,7 @@ pub fn head_refusal(
 // The pages that are left to a tree: the whole pages of its table, at most 1,000,000 of them, less those in use.
 fn pages_left(table: &[u64], used: TreeUse) -> usize
     requires { ⌜ used .pages ≤ wholePages (now table) ⌝ }
-    requires { ⌜ used .pages ≤ pageLimit ⌝ }
+    requires { ⌜ Takes used ⌝ }
     ensures { λ r. ⌜ r ≡ pagesLeft (record { table = now (table .entry); roots = []; used = used }) ⌝ }
 {
     let most = TreeUse::PAGE_LIMIT as usize;
@@ -103,7 +104,7 @@ fn list_refusal(places: usize, used: u32) -> u8
 // 26, 27 and 28: what the plan of an entry says of the pages met, of the pages left and of the root list.
 fn entry_refusal(table: &[u64], roots: &[u64], used: TreeUse, plan: Plan) -> u8
     requires { ⌜ used .pages ≤ wholePages (now table) ⌝ }
-    requires { ⌜ used .pages ≤ pageLimit ⌝ }
+    requires { ⌜ Takes used ⌝ }
     ensures { λ r. ⌜ r ≡ firstMet (planGrounds (record { table = now (table .entry); roots = now (roots .entry); used = used }) plan) ⌝ }
 {
     let Plan::Ready { made, root } = plan else {

@@ -4,26 +4,28 @@ use native.Mathlib.Omega.{arith}
 use mathlib.Core.Path.{_≡_, refl, sym, ap, subst, _∙_}
 use mathlib.Core.Bool.{Bool, true, false, cond, and-eq-true-iff}
 use mathlib.Core.List.{List}
-use lib.Dec.{leb, ltb}
-use borrow.Author.Tests.{le-ltb, lt-ltb, le-leb, lt-leb, leb-true}
+use lib.Dec.{leb}
+use borrow.Author.Tests.{le-leb, lt-leb, leb-true}
 use Rattle.tree.specs.declared.types.TreeUse.{TreeUse}
 use Rattle.tree.specs.declared.types.Root.{Root}
 use Rattle.tree.specs.declared.types.Root.the-variants.{At, Missing}
 use Rattle.tree.specs.Tree.{Tree, levelOf, topLevel, rootInUse}
+use Rattle.tree.specs.Use.{inUse}
+use Rattle.tree.specs.Taking.{InUse}
 use Rattle.roots.specs.declared.top.Top.{Top}
 use Rattle.roots.specs.declared.top.Top.the-variants as top
 use Rattle.roots.specs.TopPage.{topOf, TopFits}
 
 module _ (tree : Tree) (page : ℕ) where
-  pub top-unused : tree .used .pages ≤ page → topOf tree (At page) ≡ top.Missing
-  top-unused h = rw (le-ltb page (tree .used .pages) h)
+  pub top-unused : inUse (tree .used) page ≡ false → topOf tree (At page) ≡ top.Missing
+  top-unused h = rw h
 
-  module _ (h : page < tree .used .pages) (level : ℕ) (is : level ≡ levelOf (tree .table) page) where
+  module _ (h : InUse (tree .used) page) (level : ℕ) (is : level ≡ levelOf (tree .table) page) where
     pub top-too-high : topLevel < level → topOf tree (At page) ≡ top.Missing
-    top-too-high high = rw (lt-ltb page (tree .used .pages) h, ← is, lt-leb level topLevel high)
+    top-too-high high = rw (h, ← is, lt-leb level topLevel high)
 
     pub top-opens : level ≤ topLevel → topOf tree (At page) ≡ top.At page level
-    top-opens fits = rw (lt-ltb page (tree .used .pages) h, ← is, le-leb level topLevel fits)
+    top-opens fits = rw (h, ← is, le-leb level topLevel fits)
 
 -- The root list does not matter once the root is known
 pub top-roots : (table a b : List ℕ) (used : TreeUse) (root : Root)
@@ -38,7 +40,7 @@ top-fits tree root is = subst TopFits (sym is) (go root)
     either : (page : ℕ) (b : Bool) → rootInUse tree page ≡ b → TopFits (cond b (top.At page (levelOf (tree .table) page)) top.Missing)
     either page true e =
         leb-true (levelOf (tree .table) page) topLevel
-        (and-eq-true-iff (ltb page (tree .used .pages)) (leb (levelOf (tree .table) page) topLevel) .0 e .1)
+        (and-eq-true-iff (inUse (tree .used) page) (leb (levelOf (tree .table) page) topLevel) .0 e .1)
     either page false e = tt
 
     go : (r : Root) → TopFits (topOf tree r)

@@ -1,4 +1,5 @@
 // The test of a root: whether a descent may start at its page.
+use page::in_use;
 use page::page_at;
 use tree::Root;
 use tree::TreeUse;
@@ -23,7 +24,7 @@ pub fn find_top(table: &[u64], used: TreeUse, root: Root) -> Top
     let Root::At(page) = root else {
         return Top::Missing;
     };
-    if used.pages <= page {
+    if !in_use(used, page) {
         return Top::Missing;
     }
     let words = page_at(table, page);

@@ -26,6 +26,7 @@ use Rattle.tree.specs.declared.types.TreeUse.{TreeUse}
 use Rattle.tree.specs.Tree.{putPage}
 use Rattle.tree.specs.declared.types.Became.the-variants.{Copied, Halved}
 use Rattle.tree.specs.Overflow.{lowerCount, lowestKey, gainFirst, totalOf, lowerHalf}
+use Rattle.tree.specs.Use.{takenPage}
 use Rattle.split.specs.SplitWords.{scratchWords, Sourced, between, entryRow, copyOf, fillPage, addRows, gainPage}
 use Rattle.split.specs.SplitWords.{liveCopies, copiedTable, middleKey, halvedTable, splitWords}
 use Rattle.split.proofs.SplitLaws.{filled-fresh, filled-gained, added-from-zero}
@@ -158,9 +159,9 @@ module _ (table : List ℕ) (used : TreeUse) (made : ℕ) (words : List ℕ) (t 
   pub split-copied : length (liveCopies words t) ≤ copyLimit →
       splitWords table used made words t
       ≡ record {
-        table = copiedTable table (used .pages + made) words t;
+        table = copiedTable table (takenPage used made) words t;
         made = made + 1;
-        became = Copied (record { page = used .pages + made; low = lowKey (word words 2); high = highKey (word words 2) });
+        became = Copied (record { page = takenPage used made; low = lowKey (word words 2); high = highKey (word words 2) });
       }
   unfolding copiedTable
   split-copied h = rw (le-leb _ _ h)
@@ -168,11 +169,11 @@ module _ (table : List ℕ) (used : TreeUse) (made : ℕ) (words : List ℕ) (t 
   pub split-halved : copyLimit < length (liveCopies words t) →
       splitWords table used made words t
       ≡ record {
-        table = halvedTable table (used .pages + made) (used .pages + made + 1) words t;
+        table = halvedTable table (takenPage used made) (takenPage used (made + 1)) words t;
         made = made + 2;
         became =
-            Halved (record { page = used .pages + made; low = lowKey (word words 2); high = middleKey words t })
-            (record { page = used .pages + made + 1; low = middleKey words t; high = highKey (word words 2) });
+            Halved (record { page = takenPage used made; low = lowKey (word words 2); high = middleKey words t })
+            (record { page = takenPage used (made + 1); low = middleKey words t; high = highKey (word words 2) });
       }
   unfolding halvedTable middleKey
-  split-halved h = let e : used .pages + (made + 1) ≡ used .pages + made + 1 = omega arith in rw (lt-leb _ _ h, e)
+  split-halved h = rw (lt-leb _ _ h)

@@ -15,8 +15,10 @@ ghost use Rattle.tree.specs.Row.{word, headerWords, pageWords, rowLimit, copyLi
 ghost use Rattle.tree.specs.Limits.{mostRows, mostMade};
 ghost use Rattle.page.specs.PageValue.{encodePage, emptyPage};
 ghost use Rattle.page.specs.Entries.{InPage};
-ghost use Rattle.tree.specs.Tree.{putPage, pageLimit};
-ghost use Rattle.tree.specs.Overflow.{takenPage, lowerHalf};
+ghost use Rattle.tree.specs.Use.{takenPage};
+ghost use Rattle.tree.specs.Taking.{HasPages, Takes};
+ghost use Rattle.tree.specs.Tree.{putPage};
+ghost use Rattle.tree.specs.Overflow.{lowerHalf};
 ghost use Rattle.split.specs.SplitWords.{scratchWords, Sourced, between, fillPage, addRows, gainPage, copiedTable, middleKey, halvedTable, splitWords};
 
 // A new page of the old page's level, with the rows of the entries from one place of the order up to another, each born at t and open, and a
@@ -202,20 +204,20 @@ fn halve_rows(
 
 // The number of the i-th page that a call takes, counted from 0.
 pub fn taken_page(used: TreeUse, i: u32) -> u32
-    requires { ⌜ used .pages ≤ pageLimit ⌝ }
+    requires { ⌜ Takes used ⌝ }
     requires { ⌜ i ≤ mostMade ⌝ }
     ensures { λ r. ⌜ r ≡ takenPage used i ⌝ }
 {
     used.pages + i
 }
 
-// Step 5: the live rows of a page that has too many go to one new page, or to two, which take the next free numbers.
+// Step 5: the live rows of a page that has too many go to one new page, or to two, which are taken.
 pub fn split_page(table: &mut [u64], used: TreeUse, made: u32, words: &[u64], t: u32) -> Done
     requires { ⌜ length (now words) ≡ scratchWords ⌝ }
     requires { ⌜ word (now words) 1 ≤ mostRows ⌝ }
     requires { ⌜ made < mostMade ⌝ }
-    requires { ⌜ used .pages ≤ pageLimit ⌝ }
-    requires { ⌜ (used .pages + splitWords (now table) used made (now words) t .made) * pageWords ≤ length (now table) ⌝ }
+    requires { ⌜ Takes used ⌝ }
+    requires { ⌜ HasPages (now table) used (splitWords (now table) used made (now words) t .made) ⌝ }
     ensures { λ _. ⌜ now (table .exit) ≡ splitWords (now (table .entry)) used made (now (words .entry)) t .table ⌝ }
     ensures { λ r. ⌜ r .made ≡ splitWords (now (table .entry)) used made (now (words .entry)) t .made ⌝ }
     ensures { λ r. ⌜ r .became ≡ splitWords (now (table .entry)) used made (now (words .entry)) t .became ⌝ }

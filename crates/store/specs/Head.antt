@@ -7,7 +7,8 @@ use lib.Dec.{leb, ltb, eqb}
 use Rattle.words.specs.Words.{keyLimit}
 use Rattle.tree.specs.declared.types.TreeUse.{TreeUse}
 use Rattle.tree.specs.Row.{pageWords}
-use Rattle.tree.specs.Tree.{Tree, pageLimit}
+use Rattle.tree.specs.Use.{pageLimit, openedUse}
+use Rattle.tree.specs.Tree.{Tree}
 use Rattle.store.specs.declared.types.OpenPass.{OpenPass}
 use Rattle.store.specs.declared.types.FoundPass.{FoundPass}
 use Rattle.store.specs.declared.types.FoundPass.the-variants.{Missing, At}
@@ -89,6 +90,6 @@ openedHead =
       started = 0;
       count = 0;
       passes = replicate openLimit noPass;
-      starts = record { pages = 1; roots = 1 };
-      ends = record { pages = 1; roots = 1 };
+      starts = openedUse;
+      ends = openedUse;
     }

@@ -1,12 +1,12 @@
 -- What holds of every grown tree: after opening, and after each point that found room.
-use Prim.Native.Nat.{ℕ, suc, _+_, _*_, _/_, _%_, _^_, _≤_, _<_, min}
+use Prim.Native.Nat.{ℕ, suc, _+_, _*_, _%_, _^_, _≤_, _<_}
 use native.Mathlib.Omega.{arith}
-use mathlib.Core.Path.{_≡_, refl, sym, ap, _∙_, subst}
+use mathlib.Core.Path.{_≡_, refl, sym, ap, _∙_, subst, subst₂}
 use mathlib.Core.Bool.{Bool, true, false, cond, _&&_, _||_, not, and-eq-true-iff, false≢true}
 use mathlib.Core.List.{List, [], _∷_}
 use lib.Dec.{leb, eqb}
 use lib.ListN.{length, take}
-use borrow.Author.Tests.{le-leb, lt-ltb, eq-eqb, eqb-true}
+use borrow.Author.Tests.{le-leb, eq-eqb, eqb-true}
 use Rattle.words.specs.Words.{keyLimit, rootEntry}
 use Rattle.words.specs.declared.value.Value.{Value}
 use Rattle.words.specs.Value as value
@@ -19,30 +19,35 @@ use Rattle.tree.proofs.TrueValueSums.{numberIf, total-measure}
 use Rattle.tree.specs.declared.types.Root.the-variants.{At}
 use Rattle.tree.specs.declared.types.RootChange.the-variants.{Added}
 use Rattle.tree.specs.declared.types.Plan.the-variants.{Spoiled, Ready}
-use Rattle.tree.specs.Tree.{Tree, pageAt, levelOf, rootAt, rootFor, topLevel, pageLimit}
+use Rattle.tree.specs.Use.{takenPage, openedUse}
+use Rattle.tree.specs.Tree.{Tree, pageAt, levelOf, rootAt, rootFor, topLevel, wholePages, pagesLeft}
 use Rattle.tree.specs.RowSteps.{Point}
 use Rattle.tree.specs.declared.types.Became.{Became}
 use Rattle.tree.specs.declared.types.Became.the-variants.{Stays, Copied, Halved}
+use Rattle.tree.specs.declared.types.TreeUse.{TreeUse}
 use Rattle.tree.specs.Enter.{enterFrom, enterRoot}
 use Rattle.tree.specs.Plan.{isHalved, topMustSplit, descentSound, planRoot, plan, enteredRoot, enter}
 use Rattle.tree.specs.Grown.{grow, lastTick, InTime, Room, Admitted}
 use Rattle.tree.specs.Opened.{firstPage, openedTree}
 use Rattle.tree.specs.PointSums.{dominated, isTaken}
 use Rattle.tree.specs.PointTotals.{pointValue, sumOfPoints}
+use Rattle.tree.specs.Taking.{InUse, HasPages}
 use Rattle.tree.proofs.ModelSteps as modelSteps
 use Rattle.tree.proofs.ModelPages.{Page, onlyIf}
-use Rattle.tree.proofs.ModelSteps.{State, Outcome, Parts, two, putAt, newPage, topRows, grown, entering, opened}
+use Rattle.tree.proofs.ModelSteps.{Grown, Outcome, Parts, two, putAt, newPage, topRows, grown, entering, opened}
 use Rattle.tree.proofs.ModelPromise.{Full}
-use Rattle.tree.proofs.GrownStates.{Paid, Invariant, low, holds-used, full-more, entering-keeps, opened-keeps}
+use Rattle.tree.proofs.GrownStates.{Paid, Invariant, low, holds-used, full-more, entering-keeps, opened-keeps, invariant-same}
 use Rattle.tree.proofs.TableLaws.{put-same, put-length}
 use Rattle.tree.proofs.PageCodec.{fresh-length, fresh-rows}
 use Rattle.tree.proofs.View.{viewTable, view-put, view-fresh}
 use Rattle.tree.proofs.RowViews.{partsOf}
 use Rattle.tree.proofs.RootLaws.{take-written, written-word, root-behind}
 use Rattle.tree.proofs.PageViews.{Agrees}
-use Rattle.tree.proofs.TreeViews.{pageOf, stateOf, WordsKept, state-path, modelOut, root-agrees, grew, grew-words}
-use Rattle.tree.proofs.TreeViews.{entered-state}
+use Rattle.tree.proofs.TreeViews.{pageOf, rootsOf, grownOf, WordsKept, modelOut, root-agrees, grew, used-after, in-used, used-in, grew-words}
+use Rattle.tree.proofs.TreeViews.{entered-model}
 use Rattle.tree.proofs.Descent.{descent-sound}
+use Rattle.tree.proofs.UseLaws.{used-allocates, left-has, left-takes, after-most, opened-in, in-opened, opened-takes, pagesAtMost}
+use Rattle.tree.proofs.TakenPages.{After}
 
 -- A key that is zero or that some point has: each leaf row starts at such a key
 abbrev pub isKnown : List Point → ℕ → Bool
@@ -90,7 +95,8 @@ numbers-sum measure m t k points = total-measure measure m pointValue (dominated
 -- The tree, read by a measure, has the model's invariant for these points
 abbrev pub Tells : (Value → ℕ) → Tree → List Point → Type 0
 Tells measure tree points =
-    Invariant (Known points) (lastTick points) (stateOf measure tree) (λ t k. numbers measure t k points) (72 + 8 * length points)
+    Invariant (Known points) (lastTick points) (viewTable measure (tree .table)) (InUse (tree .used)) (tree .used .pages) (rootsOf tree)
+    (λ t k. numbers measure t k points) (72 + 8 * length points)
 
 -- What every grown tree keeps: its words make sense, and each measure of values reads these points from it
 pub record TreeKept (tree : Tree) (points : List Point) : Type 0 where
@@ -105,11 +111,11 @@ counts k = k .tells countOf count-measure
 module _ (measure : Value → ℕ) (m : Measure measure) (tree : Tree) (points : List Point) (p : Point)
     (words : WordsKept tree (lastTick points)) (tells : Tells measure tree points) (time : InTime (lastTick points) p)
     (page : ℕ) (is-root : rootAt tree (p .tick) ≡ At page) where
-  pub now-paid : Paid (Known points) (viewTable measure (tree .table)) (tree .used .pages) (p .tick)
+  pub now-paid : Paid (Known points) (viewTable measure (tree .table)) (InUse (tree .used)) (tree .used .pages) (p .tick)
       (λ k. numbers measure (p .tick) k points) page (72 + 8 * length points)
   now-paid =
       subst
-      (λ (x : ℕ). Paid (Known points) (viewTable measure (tree .table)) (tree .used .pages) (p .tick)
+      (λ (x : ℕ). Paid (Known points) (viewTable measure (tree .table)) (InUse (tree .used)) (tree .used .pages) (p .tick)
       (λ k. numbers measure (p .tick) k points) x
       (72 + 8 * length points))
       (ap pageOf is-root) (tells .current (p .tick) (time .later) (time .tick))
@@ -130,47 +136,61 @@ module _ (measure : Value → ℕ) (m : Measure measure) (tree : Tree) (points :
       (known-new p points)
       (now-paid .tree) (now-paid .held) now-full
 
-  pub next-inv : Invariant (Known (p ∷ points)) (p .tick) (entering (p .tick) (p .key) (measure (p .value)) (stateOf measure tree))
-      (λ t k. numbers measure t k (p ∷ points)) (72 + 8 * length points + 8)
+  -- The model's entry, from the page of the root for the tick
+  abbrev pub next : Grown
+  next =
+      entering (p .tick) (p .key) (measure (p .value)) (viewTable measure (tree .table)) (takenPage (tree .used)) (rootsOf tree)
+      (rootsOf tree (p .tick))
+
+  abbrev Told : Grown → ℕ → Type 0
+  Told st =
+      Invariant (Known (p ∷ points)) (p .tick) (st .store) (After (InUse (tree .used)) (takenPage (tree .used)) (st .made))
+      (pagesAtMost (tree .used) (st .made)) (st .root) (λ t k. numbers measure t k (p ∷ points))
+
+  pub next-inv : Told next (72 + 8 * length points + 8)
   next-inv =
-      entering-keeps (lastTick points) (p .tick) (p .key) (measure (p .value)) (stateOf measure tree) (λ t k. numbers measure t k points)
+      entering-keeps (lastTick points) (p .tick) (p .key) (measure (p .value)) (viewTable measure (tree .table)) (InUse (tree .used))
+      (takenPage (tree .used)) (used-allocates (tree .used) (words .takes)) (tree .used .pages) (rootsOf tree) (λ t k. numbers measure t k points)
       (72 + 8 * length points) (Known points) (Known (p ∷ points)) (known-more p points) (known-new p points) tells (time .later)
       (time .tick) (time .key)
 
   level-low : levelOf (tree .table) page ≤ topLevel
   level-low =
-      low (Known points) (viewTable measure (tree .table)) (tree .used .pages) (p .tick) (λ k. numbers measure (p .tick) k points) page
+      low (Known points) (viewTable measure (tree .table)) (InUse (tree .used)) (tree .used .pages) (p .tick) (λ k. numbers measure (p .tick) k points) page
       (72 + 8 * length points) now-paid
 
   -- "a level 3 root whose rows must go to two pages": it would give a root of level 4
   halved-low : (lower upper middle : ℕ) → out .parts ≡ two lower upper middle → suc (levelOf (tree .table) page) ≤ topLevel
   halved-low lower upper middle e =
-      let after : LevelNow (grown (p .tick) (levelOf (tree .table) page) root (out .store) (out .used) (two lower upper middle)) =
-      subst (λ (parts : Parts). LevelNow (grown (p .tick) (levelOf (tree .table) page) root (out .store) (out .used) parts)) e
-      (subst (λ (x : ℕ). LevelNow (from-page x)) (ap pageOf is-root) (next-inv .levels (p .tick) (time .tick))) in
-      let there : cond (leb (p .tick) (p .tick)) (out .used) (root (p .tick)) ≡ out .used = rw (le-leb (p .tick) (p .tick) (omega arith)) in
+      let after : LevelNow (from-page page (two lower upper middle)) =
+      subst (λ (parts : Parts). LevelNow (from-page page parts)) e
+      (subst (λ (x : ℕ). LevelNow (from-page x (out-of x .parts))) (ap pageOf is-root) (next-inv .levels (p .tick) (time .tick))) in
+      let there : cond (leb (p .tick) (p .tick)) new (rootsOf tree (p .tick)) ≡ new = rw (le-leb (p .tick) (p .tick) (omega arith)) in
       omega (arith, ap level-at there, top-level, after)
     where
-      root : ℕ → ℕ
-      root w = pageOf (rootAt tree w)
-
-      LevelNow : State → Type 0
+      LevelNow : Grown → Type 0
       LevelNow st = (st .store (st .root (p .tick))) .level ≤ topLevel
 
-      from-page : ℕ → State
-      from-page x =
-          let n = levelOf (tree .table) x in
-          let o = modelSteps.enter n (p .tick) (p .key) (measure (p .value)) (viewTable measure (tree .table)) (tree .used .pages) x in
-          grown (p .tick) n root (o .store) (o .used) (o .parts)
+      out-of : ℕ → Outcome
+      out-of x =
+          modelSteps.enter (levelOf (tree .table) x) (p .tick) (p .key) (measure (p .value)) (viewTable measure (tree .table)) (takenPage (tree .used)) x
+
+      from-page : ℕ → Parts → Grown
+      from-page x parts =
+          grown (p .tick) (levelOf (tree .table) x) (rootsOf tree) (out-of x .store) (takenPage (tree .used)) (out-of x .made) parts
+
+      new : ℕ
+      new = takenPage (tree .used) (out .made)
 
       top : Page
       top = newPage (p .tick) (suc (levelOf (tree .table) page)) 0 keyLimit (topRows lower upper middle)
 
       level-at : ℕ → ℕ
-      level-at x = (putAt (out .store) (out .used) top x) .level
+      level-at x = (putAt (out .store) (takenPage (tree .used) (out .made)) top x) .level
 
-      top-level : (putAt (out .store) (out .used) top (out .used)) .level ≡ suc (levelOf (tree .table) page)
-      top-level = rw (eq-eqb (out .used) (out .used) refl)
+      top-level : (putAt (out .store) (takenPage (tree .used) (out .made)) top (takenPage (tree .used) (out .made))) .level
+          ≡ suc (levelOf (tree .table) page)
+      top-level = rw (eq-eqb (takenPage (tree .used) (out .made)) (takenPage (tree .used) (out .made)) refl)
 
   no-split : topMustSplit tree p page ≡ false
   no-split =
@@ -190,13 +210,13 @@ module _ (measure : Value → ℕ) (m : Measure measure) (tree : Tree) (points :
       ap (planRoot tree p) is-root
       ∙ ap (λ (b : Bool). cond b (Ready (enterRoot tree p page .made) (enterRoot tree p page .root)) Spoiled)
       (and-eq-true-iff _ _ .1 (
-        and-eq-true-iff _ _ .1 (lt-ltb page (tree .used .pages) in-use, le-leb (levelOf (tree .table) page) topLevel level-low),
+        and-eq-true-iff _ _ .1 (in-use, le-leb (levelOf (tree .table) page) topLevel level-low),
         and-eq-true-iff _ _ .1 (descent, ap not no-split),
       ))
     where
-      in-use : page < tree .used .pages
+      in-use : InUse (tree .used) page
       in-use =
-          holds-used (levelOf (tree .table) page) (viewTable measure (tree .table)) (tree .used .pages) (p .tick) 0 keyLimit page
+          holds-used (levelOf (tree .table) page) (viewTable measure (tree .table)) (InUse (tree .used)) (p .tick) 0 keyLimit page
           (now-paid .tree) (now-paid .held)
 
       descent : descentSound tree p (levelOf (tree .table) page) 0 keyLimit page ≡ true
@@ -222,11 +242,14 @@ module _ (measure : Value → ℕ) (m : Measure measure) (tree : Tree) (points :
         sym plan-ready ∙ room .planned in
         cc
 
-    pages-left : tree .used .pages + enterRoot tree p page .made ≤ min (length (tree .table) / pageWords) pageLimit
-    pages-left = omega (arith, is-made, room .pages, words .pages, words .limit)
+    held : tree .used .pages ≤ wholePages (tree .table)
+    held = omega (arith, words .pages)
 
-    pub table-room : (tree .used .pages + enterRoot tree p page .made) * pageWords ≤ length (tree .table)
-    table-room = omega (arith, pages-left)
+    are-left : enterRoot tree p page .made ≤ pagesLeft tree
+    are-left = omega (arith, is-made, room .pages)
+
+    pub table-room : HasPages (tree .table) (tree .used) (enterRoot tree p page .made)
+    table-room = left-has tree (words .takes) held (enterRoot tree p page .made) are-left
 
     list-room : enterRoot tree p page .root ≡ Added → tree .used .roots < length (tree .roots)
     list-room e = room .place (sym is-change ∙ e)
@@ -236,7 +259,8 @@ module _ (measure : Value → ℕ) (m : Measure measure) (tree : Tree) (points :
         subst (λ (new : Tree). WordsKept new (p .tick)) (sym enter-is)
         (grew-words measure m tree p (lastTick points) words (time .later) (time .tick) (time .key) page is-root (Known (p ∷ points))
         (known-new p points)
-        (now-paid .tree) (now-paid .held) now-full table-room (omega (arith, pages-left)) list-room)
+        (now-paid .tree) (now-paid .held) now-full table-room
+        (left-takes tree (words .takes) held (enterRoot tree p page .made) (enterRoot tree p page .root) are-left) list-room)
 
     -- The table and the list keep their lengths
     pub next-lengths : (length (enter tree p .table) ≡ length (tree .table)) × (length (enter tree p .roots) ≡ length (tree .roots))
@@ -247,23 +271,27 @@ module _ (measure : Value → ℕ) (m : Measure measure) (tree : Tree) (points :
         (now-paid .tree) (now-paid .held) now-full table-room list-room in
         (ap (λ (new : Tree). length (new .table)) enter-is ∙ g .table, ap (λ (new : Tree). length (new .roots)) enter-is ∙ g .list)
 
-    pub next-state : stateOf measure (enter tree p) ≡ entering (p .tick) (p .key) (measure (p .value)) (stateOf measure tree)
-    next-state =
-        ap (stateOf measure) enter-is
-        ∙ entered-state measure m tree p (lastTick points) words (time .later) (time .tick) (time .key) page is-root
-        (Known (p ∷ points)) (known-new p points)
+    -- The tree afterwards is the model's
+    pub next-model : grownOf measure (enterRoot tree p page) ≡ next
+    next-model =
+        entered-model measure m tree p (lastTick points) words (time .later) (time .tick) (time .key) page is-root (Known (p ∷ points))
+        (known-new p points)
         (now-paid .tree) (now-paid .held) now-full table-room list-room
 
     pub next-tells : Tells measure (enter tree p) (p ∷ points)
     next-tells =
-        subst
-        (λ (st : State). Invariant (Known (p ∷ points)) (p .tick) st (λ t k. numbers measure t k (p ∷ points))
-        (72 + 8 * length (p ∷ points)))
-        (sym next-state)
-        (subst
-        (λ (c : ℕ). Invariant (Known (p ∷ points)) (p .tick) (entering (p .tick) (p .key) (measure (p .value)) (stateOf measure tree))
-        (λ t k. numbers measure t k (p ∷ points)) c)
-        (omega arith) next-inv)
+        subst (λ (new : Tree). Tells measure new (p ∷ points)) (sym enter-is)
+        (invariant-same (Known (p ∷ points)) (p .tick) (viewTable measure (enterRoot tree p page .tree .table))
+        (After (InUse (tree .used)) (takenPage (tree .used)) (enterRoot tree p page .made)) (InUse (enterRoot tree p page .tree .used))
+        (pagesAtMost (tree .used) (enterRoot tree p page .made)) (enterRoot tree p page .tree .used .pages) (rootsOf (enterRoot tree p page .tree))
+        (λ t k. numbers measure t k (p ∷ points)) (72 + 8 * length (p ∷ points))
+        (used-in tree p page (words .takes)) (in-used tree p page (words .takes)) few-pages
+        (subst (λ (c : ℕ). Told (grownOf measure (enterRoot tree p page)) c) (omega arith)
+        (subst (λ (st : Grown). Told st (72 + 8 * length points + 8)) (sym next-model) next-inv)))
+      where
+        few-pages : enterRoot tree p page .tree .used .pages ≤ pagesAtMost (tree .used) (enterRoot tree p page .made)
+        few-pages =
+            omega (arith, ap (λ (u : TreeUse). u .pages) (used-after tree p page), after-most (tree .used) (enterRoot tree p page .made))
 
 -- A tree just opened
 module _ (table roots : List ℕ) (room : pageWords ≤ length table) (list : 1 ≤ length roots) where
@@ -288,9 +316,9 @@ module _ (table roots : List ℕ) (room : pageWords ≤ length table) (list : 1 
   pub opened-words : WordsKept (openedTree table roots) 0
   opened-words =
       record {
-        small = λ x l. few x (omega arith);
+        small = λ x l. few x (in-opened x l);
         pages = omega (arith, put-length table 0 firstPage (omega arith) first-whole);
-        limit = omega arith;
+        takes = opened-takes;
         roots =
             record {
               some = omega arith;
@@ -309,20 +337,22 @@ module _ (table roots : List ℕ) (room : pageWords ≤ length table) (list : 1 
           rw e (rw opened-table (omega (arith, ap length back)))
 
   module _ (measure : Value → ℕ) (m : Measure measure) where
-    opened-state : stateOf measure (openedTree table roots) ≡ opened (viewTable measure table)
-    opened-state =
-        state-path
-        (view-put measure table 0 firstPage (omega arith) first-whole
+    opened-store : viewTable measure (openedTree table roots .table) ≡ opened (viewTable measure table)
+    opened-store =
+        view-put measure table 0 firstPage (omega arith) first-whole
         ∙ ap (putAt (viewTable measure table) 0)
         (view-fresh measure 0 0 keyLimit 0 (newRow 0 0 keyLimit 0 value.zero ∷ []) (omega arith) (omega arith)
         (record { low = omega arith; high = omega arith; birth = omega arith }, tt)
-        ∙ (λ i. newPage 0 0 0 keyLimit (record { low = 0; high = keyLimit; amount = m .of-zero i; page = 0 } ∷ []))))
-        refl (λ i w. ap pageOf (opened-root w) i)
+        ∙ (λ i. newPage 0 0 0 keyLimit (record { low = 0; high = keyLimit; amount = m .of-zero i; page = 0 } ∷ [])))
+
+    opened-roots : rootsOf (openedTree table roots) ≡ (λ (w : ℕ). 0)
+    opened-roots = λ i w. ap pageOf (opened-root w) i
 
     pub opened-tells : Tells measure (openedTree table roots) []
     opened-tells =
-        subst (λ (st : State). Invariant (Known []) 0 st (λ t k. 0) 72) (sym opened-state)
-        (opened-keeps (viewTable measure table) (Known []) refl)
+        subst₂ (λ (s : ℕ → Page) (root : ℕ → ℕ). Invariant (Known []) 0 s (InUse openedUse) 1 root (λ t k. 0) 72) (sym opened-store)
+        (sym opened-roots)
+        (opened-keeps (viewTable measure table) (InUse openedUse) opened-in in-opened (Known []) refl)
 
 -- Every grown tree
 pub kept : (table roots : List ℕ) (points : List Point) → Admitted table roots points → TreeKept (grow table roots points) points

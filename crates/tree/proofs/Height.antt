@@ -13,6 +13,7 @@ use Rattle.tree.specs.Tree as ours
 use Rattle.tree.specs.RowSteps.{Point}
 use Rattle.tree.specs.Grown.{lastTick}
 use Rattle.tree.specs.PointSums.{isTaken, howMany, differentKeys}
+use Rattle.tree.specs.Taking.{InUse}
 use Rattle.tree.proofs.ModelTrees.{Tree, Holds}
 use Rattle.tree.proofs.ModelPromise.{Full, slotCount}
 use Rattle.tree.proofs.GrownStates.{Paid, low}
@@ -45,13 +46,13 @@ module _ (tree : ours.Tree) (points : List Point) (kept : TreeKept tree points) 
   abbrev page : ℕ
   page = pageOf (rootAt tree (lastTick points))
 
-  paid : Paid (Known points) (viewTable countOf (tree .table)) (tree .used .pages) (lastTick points)
+  paid : Paid (Known points) (viewTable countOf (tree .table)) (InUse (tree .used)) (tree .used .pages) (lastTick points)
       (λ k. numbers countOf (lastTick points) k points) page (72 + 8 * length points)
   paid = counts kept .current (lastTick points) (omega arith) now
 
   level-low : levelOf (tree .table) (pageOf (rootAt tree (lastTick points))) ≤ topLevel
   level-low =
-      low (Known points) (viewTable countOf (tree .table)) (tree .used .pages) (lastTick points)
+      low (Known points) (viewTable countOf (tree .table)) (InUse (tree .used)) (tree .used .pages) (lastTick points)
       (λ k. numbers countOf (lastTick points) k points) page
       (72 + 8 * length points) paid
 
@@ -76,7 +77,7 @@ module _ (tree : ours.Tree) (points : List Point) (kept : TreeKept tree points) 
       ap-le e h = omega arith
 
       go : (n : ℕ) → 0 < n → (tr : Tree n)
-          → Holds n (viewTable countOf (tree .table)) (tree .used .pages) (lastTick points) 0 keyLimit
+          → Holds n (viewTable countOf (tree .table)) (InUse (tree .used)) (lastTick points) 0 keyLimit
           (pageOf (rootAt tree (lastTick points))) tr
           → Full (Known points) n tr → (0 < n → 2 ≤ slotCount n tr) → 2 * 20 ^ n ≤ differentKeys points + 1
       go zero h tr held full two = absurd (omega arith)
@@ -84,7 +85,7 @@ module _ (tree : ours.Tree) (points : List Point) (kept : TreeKept tree points) 
           omega (
             arith,
             rows-root (Known points) n tr full (two (omega arith)),
-            rows-known (isKnown points) (suc n) (viewTable countOf (tree .table)) (tree .used .pages) (lastTick points) 0 keyLimit
+            rows-known (isKnown points) (suc n) (viewTable countOf (tree .table)) (InUse (tree .used)) (lastTick points) 0 keyLimit
                 (pageOf (rootAt tree (lastTick points))) 30000 tr held full (omega arith),
             known-keys points,
           )

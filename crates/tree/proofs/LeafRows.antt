@@ -34,10 +34,10 @@ length-under : {A : Type 0} (P : ℕ → ℕ → ℕ → A → Type 0) (lo hi : 
 length-under P lo hi [] c = omega arith
 length-under P lo hi (y ∷ ys) c = omega (arith, length-under P (y .entry .high) hi ys (c .rest))
 
-rows-under : (n : ℕ) (s : ℕ → Page) (u t lo hi p : ℕ) (tr : Tree n) → Holds n s u t lo hi p tr → leafRows n tr + lo ≤ hi
-rows-under zero s u t lo hi p tr h = length-under _ lo hi tr (h .chain)
-rows-under (suc n) s u t lo hi p tr h =
-    sum-under (Holds n s u t) (leafRows n) (λ a b c x w. rows-under n s u t a b c x w) lo hi tr (h .chain)
+rows-under : (n : ℕ) (s : ℕ → Page) (In : ℕ → Type 0) (t lo hi p : ℕ) (tr : Tree n) → Holds n s In t lo hi p tr → leafRows n tr + lo ≤ hi
+rows-under zero s In t lo hi p tr h = length-under _ lo hi tr (h .chain)
+rows-under (suc n) s In t lo hi p tr h =
+    sum-under (Holds n s In t) (leafRows n) (λ a b c x w. rows-under n s In t a b c x w) lo hi tr (h .chain)
 
 -- A tree of level n whose pages are full has many leaf rows.
 sum-ge : {A : Type 0} (F : Slot A → Type 0) (f : A → ℕ) (x : ℕ) → ((a : Slot A) → F a → x ≤ f (a .below)) → (tr : List (Slot A))
@@ -64,15 +64,15 @@ pow-least zero = omega arith
 pow-least (suc m) = rw pow-suc (omega (arith, pow-least m))
 
 -- So it is of level 3 at most.
-pub level-low : (IsKnown : ℕ → Type 0) (n : ℕ) (s : ℕ → Page) (u t p : ℕ) (tr : Tree n) → Holds n s u t 0 keyLimit p tr
+pub level-low : (IsKnown : ℕ → Type 0) (n : ℕ) (s : ℕ → Page) (In : ℕ → Type 0) (t p : ℕ) (tr : Tree n) → Holds n s In t 0 keyLimit p tr
     → Full IsKnown n tr → (0 < n → 2 ≤ slotCount n tr) → n ≤ topLevel
-level-low IsKnown zero s u t p tr h f r = omega arith
-level-low IsKnown (suc zero) s u t p tr h f r = omega arith
-level-low IsKnown (suc (suc zero)) s u t p tr h f r = omega arith
-level-low IsKnown (suc (suc (suc zero))) s u t p tr h f r = omega arith
-level-low IsKnown (suc (suc (suc (suc n)))) s u t p tr h f r =
+level-low IsKnown zero s In t p tr h f r = omega arith
+level-low IsKnown (suc zero) s In t p tr h f r = omega arith
+level-low IsKnown (suc (suc zero)) s In t p tr h f r = omega arith
+level-low IsKnown (suc (suc (suc zero))) s In t p tr h f r = omega arith
+level-low IsKnown (suc (suc (suc (suc n)))) s In t p tr h f r =
     let a = rows-root IsKnown (suc (suc (suc n))) tr f (r (omega arith)) in
-    let b = rows-under (suc (suc (suc (suc n)))) s u t 0 keyLimit p tr h in
+    let b = rows-under (suc (suc (suc (suc n)))) s In t 0 keyLimit p tr h in
     absurd (omega (arith, simp pow-suc at a, pow-least n))
 
 pub many-append : (f : ℕ → Bool) (lo a b : ℕ) → howMany f lo (a + b) ≡ howMany f lo a + howMany f (lo + a) b
@@ -122,9 +122,9 @@ module _ (f : ℕ → Bool) where
       (λ d′ e′. index-known P F r k (y .entry .high) hi d′ ys (c .rest) (h .1) e′) in
       omega (arith, k lo (y .entry .high) (y .entry .page) (y .entry .high - lo) y (c .under) (h .0) (omega arith))
 
-  pub rows-known : (n : ℕ) (s : ℕ → Page) (u t lo hi p d : ℕ) (tr : Tree n) → Holds n s u t lo hi p tr → Full (λ x. f x ≡ true) n tr
+  pub rows-known : (n : ℕ) (s : ℕ → Page) (In : ℕ → Type 0) (t lo hi p d : ℕ) (tr : Tree n) → Holds n s In t lo hi p tr → Full (λ x. f x ≡ true) n tr
       → lo + d ≡ hi → leafRows n tr ≤ howMany f lo d
-  rows-known zero s u t lo hi p d tr h g e = leaf-known lo hi d tr (h .chain) g e
-  rows-known (suc n) s u t lo hi p d tr h g e =
-      index-known (Holds n s u t) (λ y. Full (λ x. f x ≡ true) n (y .below) × (20 ≤ slotCount n (y .below))) (leafRows n)
-      (λ a b c d′ y w i e′. rows-known n s u t a b c d′ (y .below) w (i .0) e′) lo hi d tr (h .chain) g e
+  rows-known zero s In t lo hi p d tr h g e = leaf-known lo hi d tr (h .chain) g e
+  rows-known (suc n) s In t lo hi p d tr h g e =
+      index-known (Holds n s In t) (λ y. Full (λ x. f x ≡ true) n (y .below) × (20 ≤ slotCount n (y .below))) (leafRows n)
+      (λ a b c d′ y w i e′. rows-known n s In t a b c d′ (y .below) w (i .0) e′) lo hi d tr (h .chain) g e

@@ -17,6 +17,9 @@ pub mod Halves
 -- Words written are read back
 pub mod PageCodec
 pub mod TableLaws
+-- Pages in use and pages that a call takes
+pub mod TakenPages
+pub mod UseLaws
 -- A model: pages that are functions of their number, rows whose value is a plain number
 pub mod ModelPages
 pub mod ModelTrees
@@ -47,6 +50,7 @@ pub mod RowBounds
 pub mod PageViews
 pub mod EnterViews
 pub mod RootLaws
+pub mod AsPlanned
 pub mod TreeViews
 -- Reading and planning in a tree that the pages hold
 pub mod SoundPages
@@ -59,10 +63,10 @@ pub mod Sums
 pub mod SeenRows
 pub mod SeenPages
 pub mod Past
+pub mod PastPages
 pub mod Height
 pub mod Lives
 pub mod Shape
-pub mod AsPlanned
 pub mod MostMade
 pub mod Enough
 pub mod Main

@@ -13,6 +13,14 @@ module _ {A : Type 0} where
   all-map P Q f [] h = tt
   all-map P Q f (x ∷ xs) h = (f x (h .0), all-map P Q f xs (h .1))
 
+  pub all-same : (P : A → Type 0) → ((x : A) → P x) → (xs : List A) → All P xs
+  all-same P h [] = tt
+  all-same P h (x ∷ xs) = (h x, all-same P h xs)
+
+  pub all-both : (P Q R : A → Type 0) → ((x : A) → P x → Q x → R x) → (xs : List A) → All P xs → All Q xs → All R xs
+  all-both P Q R f [] p q = tt
+  all-both P Q R f (x ∷ xs) p q = (f x (p .0) (q .0), all-both P Q R f xs (p .1) (q .1))
+
   -- The item at a place has it
   pub all-at : (P : A → Type 0) (xs : List A) (i : ℕ) (d : A) → All P xs → i < length xs → P (getD xs i d)
   all-at P [] i d h p = absurd (omega arith)

@@ -3,7 +3,7 @@
 -- and that values never decide the shape.
 use Prim.Native.Nat.{ℕ, _+_, _*_, _-_, _/_, _^_, _≤_, _<_, min}
 use native.Mathlib.Omega.{arith}
-use mathlib.Core.Path.{_≡_, refl, sym, ap, ap₂, _∙_}
+use mathlib.Core.Path.{_≡_, refl, sym, ap, ap₂, _∙_, subst}
 use mathlib.Core.List.{List, [], _∷_, _++_}
 use lib.ListN.{length}
 use Rattle.words.specs.Lists.{All}
@@ -11,10 +11,12 @@ use Rattle.words.specs.Words.{keyLimit, openEnd}
 use Rattle.words.proofs.Measure.{countOf, count-measure}
 use Rattle.tree.specs.declared.types.Row.{Row}
 use Rattle.tree.specs.declared.types.RootChange.{RootChange}
+use Rattle.tree.specs.declared.types.RootChange.the-variants.{Added}
 use Rattle.tree.specs.declared.types.Lookup.the-variants.{Found}
 use Rattle.tree.specs.declared.types.Plan.the-variants.{Ready}
-use Rattle.tree.specs.Row.{rowsOf}
-use Rattle.tree.specs.Tree.{Tree, pageAt, height, wholePages, pageLimit, topLevel}
+use Rattle.tree.specs.Row.{rowsOf, word}
+use Rattle.tree.specs.Use.{pageLimit}
+use Rattle.tree.specs.Tree.{Tree, pageAt, height, wholePages, topLevel, pagesLeft}
 use Rattle.tree.specs.RowSteps.{Point}
 use Rattle.tree.specs.Lookup.{lookup}
 use Rattle.tree.specs.Path.{path}
@@ -25,6 +27,7 @@ use Rattle.tree.specs.Grown.{grow, lastTick, InTime, InOrder, Admitted}
 use Rattle.tree.specs.PointSums.{differentKeys}
 use Rattle.tree.specs.PointTotals.{sumOfPoints, SameShape}
 use Rattle.tree.specs.Alike.{LookAlike}
+use Rattle.tree.specs.Taking.{InUse, Takes}
 use Rattle.tree.proofs.Growth.{kept, plan-ready, opened-lengths, next-lengths, counts}
 use Rattle.tree.proofs.Sums.{lookup-sum}
 use Rattle.tree.proofs.Past.{past-path, past-looks, later-sum}
@@ -33,6 +36,10 @@ use Rattle.tree.proofs.Shape.{same-pages, same-path}
 use Rattle.tree.proofs.Enough.{has-room}
 use Rattle.tree.proofs.AsPlanned.{Does, as-planned}
 use Rattle.tree.proofs.Height as height-laws
+use Rattle.tree.proofs.PastPages.{path-used, look-same, look-on}
+use Rattle.tree.proofs.UseLaws.{place-found, left-after}
+use Rattle.tree.proofs.MostMade.{added-some}
+use Rattle.tree.proofs.Lists.{all-same, all-both}
 
 last-in-time : (table roots : List ℕ) (points : List Point) → Admitted table roots points → lastTick points < openEnd
 last-in-time table roots [] h = omega arith
@@ -87,9 +94,9 @@ past-stays table roots (p ∷ later) points h t k early key =
       past-lookup-stays table roots p (later ++ points) h t k (early .0) key ∙ rest .1,
     )
 
--- Page by page: each page then in use shows a reader at an earlier tick the same level, key range and live rows
-pub past-page-stays : (table roots : List ℕ) (p : Point) (points : List Point) → Admitted table roots (p ∷ points)
-    → (t x : ℕ) → t < p .tick → x < grow table roots points .used .pages
+-- Page by page, after one point: each page then in use shows a reader at an earlier tick the same level, key range and live rows
+past-page-stays : (table roots : List ℕ) (p : Point) (points : List Point) → Admitted table roots (p ∷ points)
+    → (t x : ℕ) → t < p .tick → InUse (grow table roots points .used) x
     → LookAlike t (pageAt (grow table roots (p ∷ points) .table) x) (pageAt (grow table roots points .table) x)
 unfolding grow
 past-page-stays table roots p points h t x early in-use =
@@ -97,6 +104,24 @@ past-page-stays table roots p points h t x early in-use =
     let root = k₀ .words .roots .found (p .tick) in
     past-looks countOf count-measure (grow table roots points) points p (k₀ .words) (counts k₀) (h .0) (root .0) (root .1) (h .1) t
     early x in-use
+
+-- After any number of later points: each page on the path of a lookup
+pub past-pages-stay : (table roots : List ℕ) (later points : List Point) → Admitted table roots (later ++ points) → (t k : ℕ)
+    → All (λ (p : Point). t < p .tick) later → k < keyLimit
+    → All (λ (x : ℕ). LookAlike t (pageAt (grow table roots (later ++ points) .table) x) (pageAt (grow table roots points .table) x))
+    (path (grow table roots points) t k)
+past-pages-stay table roots [] points h t k early key =
+    all-same _ (λ x. look-same t (pageAt (grow table roots points .table) x)) (path (grow table roots points) t k)
+past-pages-stay table roots (p ∷ later) points h t k early key =
+    all-both _ _ _ (λ x held. look-on t (past-page-stays table roots p (later ++ points) h t x (early .0) (held .0)))
+    (path (grow table roots points) t k)
+    (subst (All OnPath) (past-stays table roots later points (h .2) t k (early .1) key .0)
+    (path-used (grow table roots (later ++ points)) (later ++ points) (kept table roots (later ++ points) (h .2)) t k (omega (arith, early .0, h .0 .tick))
+    key))
+    (past-pages-stay table roots later points (h .2) t k (early .1) key)
+  where
+    OnPath : ℕ → Type 0
+    OnPath x = InUse (grow table roots (later ++ points) .used) x × (word (pageAt (grow table roots (later ++ points) .table) x) 3 ≤ t)
 
 -- 3. Height. A tree h > 1 pages high took at least 2 × 20^(h - 1) - 1 different keys above zero; no tree is over 4 pages high.
 pub height-took : (table roots : List ℕ) (points : List Point) → Admitted table roots points → 1 < height (grow table roots points)
@@ -140,17 +165,28 @@ pub record UseFits (tree : Tree) : Type 0 where
   pub roots-pages : tree .used .roots ≤ tree .used .pages
   pub roots-listed : tree .used .roots ≤ length (tree .roots)
 
+pub fits-takes : {tree : Tree} → UseFits tree → Takes (tree .used)
+fits-takes fit = record { used-few = fit .pages-limit }
+
 pub use-fits : (table roots : List ℕ) (points : List Point) → Admitted table roots points → UseFits (grow table roots points)
 use-fits table roots points h =
     let w = kept table roots points h .words in
     record {
       some-pages = omega (arith, w .roots .some, w .roots .fewer);
       some-roots = w .roots .some;
-      pages-limit = w .limit;
+      pages-limit = w .takes .used-few;
       pages-held = omega (arith, w .pages);
       roots-pages = w .roots .fewer;
       roots-listed = w .roots .listed;
     }
+
+-- A root list of as many words as its tree has whole pages, at most 1,000,000, always has a place for a new root entry: of every tree whose use
+-- fits, a spoiled one too
+pub added-place : (tree : Tree) (p : Point) {made : ℕ} → UseFits tree → min (wholePages (tree .table)) pageLimit ≤ length (tree .roots)
+    → plan tree p ≡ Ready made Added → made ≤ pagesLeft tree → tree .used .roots < length (tree .roots)
+added-place tree p {made} fit long e left =
+    place-found (tree .used) made (length (tree .roots)) (fit .roots-pages) (added-some tree p e)
+    (omega (arith, left-after tree (fits-takes fit) (fit .pages-held) made left, long))
 
 -- The table and the list keep their lengths
 pub lengths-stay : (table roots : List ℕ) (points : List Point) → Admitted table roots points
@@ -168,7 +204,7 @@ lengths-stay table roots (p ∷ points) h =
 
 -- Lives: "A row born at t is altered where it is, not ended", so no row of a page in use ends at its own tick of birth.
 pub rows-live : (table roots : List ℕ) (points : List Point) → Admitted table roots points → (x : ℕ)
-    → x < grow table roots points .used .pages → All (λ (r : Row). r .birth < r .end) (rowsOf (pageAt (grow table roots points .table) x))
+    → InUse (grow table roots points .used) x → All (λ (r : Row). r .birth < r .end) (rowsOf (pageAt (grow table roots points .table) x))
 rows-live table roots points h x in-use =
     settled-lives countOf (lastTick points) (last-in-time table roots points h) (rowsOf (pageAt (grow table roots points .table) x))
     (counts (kept table roots points h) .settled x in-use)

@@ -34,6 +34,7 @@ pub record Page : Type 0 where
   pub level : ℕ
   pub low : ℕ
   pub high : ℕ
+  pub birth : ℕ
   pub rows : List Row
 
 abbrev pub live : ℕ → Row → Bool

@@ -11,6 +11,7 @@ pub use Rattle.words.specs.Lists.{All}
 use Rattle.tree.proofs.ModelPages.{_≈_, Row, Page}
 use Rattle.tree.proofs.ModelTrees.{Slot, Tree, Alike}
 use Rattle.tree.proofs.ModelSteps.{Parts, stay, copy, two, Outcome}
+use Rattle.tree.proofs.TakenPages.{After}
 
 -- Page x holds over keys lo up to hi, as H says, a tree whose lookups W are L, and for which G holds
 abbrev pub Made : {X : Type 0} → (ℕ → ℕ → ℕ → X → Type 0) → (X → ℕ → ℕ) → (ℕ → ℕ) → (X → Type 0) → ℕ → ℕ → ℕ → Type 0
@@ -69,12 +70,15 @@ Settled t (r ∷ rs) = (r .birth ≤ t) × (Over t r ⊎ (r .end ≡ openEnd)) �
 abbrev pub Apart : ℕ → ℕ → ℕ → Page → Type 0
 Apart n lo hi g = (n < g .level) ⊎ ((g .low < lo) ⊎ (hi ≤ g .low))
 
--- Entering a point at tick t into page p of the store s, of which u pages were in use
-pub record EnterResult {X : Type 0} (H : (s : ℕ → Page) → (u lo hi p : ℕ) → X → Type 0) (W : X → ℕ → ℕ) (R : (ℕ → Page) → ℕ → X → ℕ)
-    (n t : ℕ) (s : ℕ → Page) (u lo hi p : ℕ) (L : ℕ → ℕ) (G : Bool → X → Type 0) (B : ℕ) (o : Outcome) : Type 0 where
-  pub yields : Yields (H (o .store) (o .used)) W L G lo hi p (o .parts)
-  pub spent : Cost (H (o .store) (o .used)) W L G lo hi p (R (o .store)) (o .used) B (o .parts) yields
-  pub grows : u ≤ o .used
-  pub frame : (x : ℕ) → x < u → Apart n lo hi (s x) → o .store x ≡ s x
-  pub past : (w x : ℕ) → w < t → x < u → Alike w (o .store x) (s x)
-  pub settled : ((x : ℕ) → x < u → Settled t ((s x) .rows)) → (x : ℕ) → x < o .used → Settled t ((o .store x) .rows)
+-- Entering a point at tick t into page p of the store s, of which the pages In were in use, u of them counted; `alloc` allocates. Those that are
+-- left alone stay in use, and those that are older than t.
+pub record EnterResult {X : Type 0} (H : (s : ℕ → Page) → (In : ℕ → Type 0) → (lo hi p : ℕ) → X → Type 0) (W : X → ℕ → ℕ)
+    (R : (ℕ → Page) → ℕ → X → ℕ) (n t : ℕ) (s : ℕ → Page) (In : ℕ → Type 0) (alloc : ℕ → ℕ) (u lo hi p : ℕ) (L : ℕ → ℕ) (G : Bool → X → Type 0)
+    (B : ℕ) (o : Outcome) : Type 0 where
+  pub yields : Yields (H (o .store) (After In alloc (o .made))) W L G lo hi p (o .parts)
+  pub spent : Cost (H (o .store) (After In alloc (o .made))) W L G lo hi p (R (o .store)) (u + o .made) B (o .parts) yields
+  pub stays : (x : ℕ) → In x → Apart n lo hi (s x) → After In alloc (o .made) x
+  pub older : (x : ℕ) → In x → (s x) .birth < t → After In alloc (o .made) x
+  pub frame : (x : ℕ) → In x → Apart n lo hi (s x) → o .store x ≡ s x
+  pub past : (w x : ℕ) → w < t → In x → Alike w (o .store x) (s x)
+  pub settled : ((x : ℕ) → In x → Settled t ((s x) .rows)) → (x : ℕ) → After In alloc (o .made) x → Settled t ((o .store x) .rows)

@@ -15,10 +15,10 @@ pub data Parts : Type 0 where
   copy : ℕ → Parts
   two : ℕ → ℕ → ℕ → Parts
 
--- The pages, how many are in use, and what the page at hand became
+-- The pages, how many of them the call took so far, and what the page at hand became
 pub record Outcome : Type 0 where
   pub store : ℕ → Page
-  pub used : ℕ
+  pub made : ℕ
   pub parts : Parts
 
 abbrev pub putAt : (ℕ → Page) → ℕ → Page → ℕ → Page
@@ -43,39 +43,39 @@ lowestOf default [] = default
 lowestOf default (e ∷ es) = e .low
 
 abbrev pub newPage : (t n lo hi : ℕ) → List Entry → Page
-newPage t n lo hi es = record { level = n; low = lo; high = hi; rows = bornAll t es }
+newPage t n lo hi es = record { level = n; low = lo; high = hi; birth = t; rows = bornAll t es }
 
--- Step 5: the live rows of the page g go to two new pages, or to one
-abbrev pub halved : ℕ → (ℕ → Page) → ℕ → Page → List Entry → List Entry → Outcome
-halved t s u g lower upper =
+-- Step 5: the live rows of the page g go to two new pages, or to one. `alloc` allocates: the call has taken m pages before.
+abbrev pub halved : ℕ → (ℕ → Page) → (ℕ → ℕ) → ℕ → Page → List Entry → List Entry → Outcome
+halved t s alloc m g lower upper =
     record {
       store =
           putAt
-          (putAt s u (newPage t (g .level) (g .low) (lowestOf (g .high) upper) lower))
-          (suc u)
+          (putAt s (alloc m) (newPage t (g .level) (g .low) (lowestOf (g .high) upper) lower))
+          (alloc (suc m))
           (newPage t (g .level) (lowestOf (g .high) upper) (g .high) (plusFirst (totalAmount lower) upper));
-      used = suc (suc u);
-      parts = two u (suc u) (lowestOf (g .high) upper);
+      made = suc (suc m);
+      parts = two (alloc m) (alloc (suc m)) (lowestOf (g .high) upper);
     }
 
-abbrev pub moved : ℕ → (ℕ → Page) → ℕ → Page → List Entry → Outcome
-moved t s u g es =
+abbrev pub moved : ℕ → (ℕ → Page) → (ℕ → ℕ) → ℕ → Page → List Entry → Outcome
+moved t s alloc m g es =
     cond
     (leb (length es) copyLimit)
-    (record { store = putAt s u (newPage t (g .level) (g .low) (g .high) es); used = suc u; parts = copy u })
-    (halved t s u g (take (lowerHalf (length es)) es) (drop (lowerHalf (length es)) es))
+    (record { store = putAt s (alloc m) (newPage t (g .level) (g .low) (g .high) es); made = suc m; parts = copy (alloc m) })
+    (halved t s alloc m g (take (lowerHalf (length es)) es) (drop (lowerHalf (length es)) es))
 
 -- Step 5: the page p takes these rows, or its live rows go to new pages
-abbrev pub finish : ℕ → (ℕ → Page) → ℕ → ℕ → List Row → Outcome
-finish t s u p rs =
+abbrev pub finish : ℕ → (ℕ → Page) → (ℕ → ℕ) → (m p : ℕ) → List Row → Outcome
+finish t s alloc m p rs =
     cond
     (leb (length rs) rowLimit)
     (record {
-      store = putAt s p (record { level = (s p) .level; low = (s p) .low; high = (s p) .high; rows = rs });
-      used = u;
+      store = putAt s p (record { level = (s p) .level; low = (s p) .low; high = (s p) .high; birth = (s p) .birth; rows = rs });
+      made = m;
       parts = stay;
     })
-    (moved t s u (s p) (orderedEntries t rs))
+    (moved t s alloc m (s p) (orderedEntries t rs))
 
 -- A row that points to another page; the two rows for a page that went to two, the second of which is worth nothing
 abbrev pub pointedTo : ℕ → Entry → Entry
@@ -115,27 +115,21 @@ cutRow t k v rs =
     rs
 
 -- A page above the lowest one, after the call came back from its child
-abbrev pub upward : ℕ → ℕ → ℕ → (ℕ → Page) → ℕ → Outcome → Outcome
-upward t k v s p o =
-    finish t (o .store) (o .used) p
+abbrev pub upward : ℕ → ℕ → ℕ → (ℕ → Page) → (ℕ → ℕ) → ℕ → Outcome → Outcome
+upward t k v s alloc p o =
+    finish t (o .store) alloc (o .made) p
     (relink t (fieldHolding t k (λ e. e .low) ((s p) .rows)) (o .parts) (gained t k v ((s p) .rows)))
 
 -- Steps 1 to 7 from page p of level n down
-abbrev pub enter : (n : ℕ) → ℕ → ℕ → ℕ → (ℕ → Page) → ℕ → ℕ → Outcome
-enter zero t k v s u p =
-    finish t s u p
+abbrev pub enter : (n : ℕ) → ℕ → ℕ → ℕ → (ℕ → Page) → (ℕ → ℕ) → ℕ → Outcome
+enter zero t k v s alloc p =
+    finish t s alloc 0 p
     (cond (ltb (fieldHolding t k (λ e. e .low) ((s p) .rows)) k) (cutRow t k v ((s p) .rows)) (gained t k v ((s p) .rows)))
-enter (suc n) t k v s u p =
+enter (suc n) t k v s alloc p =
     cond
     (ltb (fieldHolding t k (λ e. e .low) ((s p) .rows)) k)
-    (upward t k v s p (enter n t k v s u (fieldHolding t k (λ e. e .page) ((s p) .rows))))
-    (finish t s u p (gained t k v ((s p) .rows)))
-
--- The whole tree: its pages, and the page of the root for each tick
-pub record State : Type 0 where
-  pub store : ℕ → Page
-  pub used : ℕ
-  pub root : ℕ → ℕ
+    (upward t k v s alloc p (enter n t k v s alloc (fieldHolding t k (λ e. e .page) ((s p) .rows))))
+    (finish t s alloc 0 p (gained t k v ((s p) .rows)))
 
 -- A root that counts from tick t on
 abbrev pub addRoot : ℕ → ℕ → (ℕ → ℕ) → ℕ → ℕ
@@ -146,25 +140,29 @@ abbrev pub topRows : ℕ → ℕ → ℕ → List Entry
 topRows lower upper middle =
     record { low = 0; high = middle; amount = 0; page = lower } ∷ (record { low = middle; high = keyLimit; amount = 0; page = upper } ∷ [])
 
-abbrev pub grown : ℕ → ℕ → (ℕ → ℕ) → (ℕ → Page) → ℕ → Parts → State
-grown t n root s u stay = record { store = s; used = u; root = root }
-grown t n root s u (copy x) = record { store = s; used = u; root = addRoot t x root }
-grown t n root s u (two x y m) =
-    record { store = putAt s u (newPage t (suc n) 0 keyLimit (topRows x y m)); used = suc u; root = addRoot t u root }
+-- The whole tree after an entry: its pages, how many of them the entry took, and the page of the root for each tick
+pub record Grown : Type 0 where
+  pub store : ℕ → Page
+  pub made : ℕ
+  pub root : ℕ → ℕ
 
--- The whole entry of the amount v at key k and tick t
-abbrev pub entering : ℕ → ℕ → ℕ → State → State
-entering t k v st =
-    let p = st .root t in
-    let n = (st .store p) .level in
-    let o = enter n t k v (st .store) (st .used) p in
-    grown t n (st .root) (o .store) (o .used) (o .parts)
-
--- A state just opened: page 0 is a leaf with one row
-abbrev pub opened : (ℕ → Page) → State
-opened s =
+abbrev pub grown : ℕ → ℕ → (ℕ → ℕ) → (ℕ → Page) → (ℕ → ℕ) → ℕ → Parts → Grown
+grown t n root s alloc m stay = record { store = s; made = m; root = root }
+grown t n root s alloc m (copy x) = record { store = s; made = m; root = addRoot t x root }
+grown t n root s alloc m (two x y middle) =
     record {
-      store = putAt s 0 (newPage 0 0 0 keyLimit (record { low = 0; high = keyLimit; amount = 0; page = 0 } ∷ []));
-      used = 1;
-      root = λ w. 0;
+      store = putAt s (alloc m) (newPage t (suc n) 0 keyLimit (topRows x y middle));
+      made = suc m;
+      root = addRoot t (alloc m) root;
     }
+
+-- The whole entry of the amount v at key k and tick t, from page p, the root for the tick
+abbrev pub entering : ℕ → ℕ → ℕ → (ℕ → Page) → (ℕ → ℕ) → (ℕ → ℕ) → ℕ → Grown
+entering t k v s alloc root p =
+    let n = (s p) .level in
+    let o = enter n t k v s alloc p in
+    grown t n root (o .store) alloc (o .made) (o .parts)
+
+-- The pages of a tree just opened: page 0 is a leaf with one row
+abbrev pub opened : (ℕ → Page) → ℕ → Page
+opened s = putAt s 0 (newPage 0 0 0 keyLimit (record { low = 0; high = keyLimit; amount = 0; page = 0 } ∷ []))

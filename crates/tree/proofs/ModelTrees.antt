@@ -1,5 +1,5 @@
 -- The tree that the model's pages hold at a tick: each page's live rows in key order, each with the tree under it.
-use Prim.Native.Nat.{ℕ, zero, suc, _+_, _<_}
+use Prim.Native.Nat.{ℕ, zero, suc, _+_, _<_, _≤_}
 use mathlib.Core.Path.{_≡_}
 use mathlib.Core.List.{List, [], _∷_}
 use lib.Dec.{leb, ltb}
@@ -38,10 +38,12 @@ module _ {A : Type 0} where
         rest : Chain P (y .entry .high) hi ys;
       }
 
-  -- Page p of the store s, of which u pages are in use, is of level n over keys lo up to hi, and its rows live at t are these slots
-  pub record Held (P : ℕ → ℕ → ℕ → A → Type 0) (n : ℕ) (s : ℕ → Page) (u t lo hi p : ℕ) (tr : List (Slot A)) : Type 0 where
+  -- Page p of the store s, of which the pages In are in use, is of level n over keys lo up to hi, was born by t, and its rows live at t are
+  -- these slots
+  pub record Held (P : ℕ → ℕ → ℕ → A → Type 0) (n : ℕ) (s : ℕ → Page) (In : ℕ → Type 0) (t lo hi p : ℕ) (tr : List (Slot A)) : Type 0 where
     pub wide : lo < hi
-    pub in-use : p < u
+    pub in-use : In p
+    pub born : (s p) .birth ≤ t
     pub level : (s p) .level ≡ n
     pub low : (s p) .low ≡ lo
     pub high : (s p) .high ≡ hi
@@ -53,15 +55,16 @@ lookupTree zero q tr = lookupSlots q (λ x. 0) tr
 lookupTree (suc n) q tr = lookupSlots q (lookupTree n q) tr
 
 -- Page p, and the pages under it, hold this tree at t
-abbrev pub Holds : (n : ℕ) → (s : ℕ → Page) → (u t lo hi p : ℕ) → Tree n → Type 0
-Holds zero s u t lo hi p tr = Held (λ a b c x. Unit {0}) 0 s u t lo hi p tr
-Holds (suc n) s u t lo hi p tr = Held (Holds n s u t) (suc n) s u t lo hi p tr
+abbrev pub Holds : (n : ℕ) → (s : ℕ → Page) → (In : ℕ → Type 0) → (t lo hi p : ℕ) → Tree n → Type 0
+Holds zero s In t lo hi p tr = Held (λ a b c x. Unit {0}) 0 s In t lo hi p tr
+Holds (suc n) s In t lo hi p tr = Held (Holds n s In t) (suc n) s In t lo hi p tr
 
 -- Page x is to a reader at tick t what page y is to one at tick w
 pub record Seen (t w : ℕ) (x y : Page) : Type 0 where
   pub level : x .level ≡ y .level
   pub low : x .low ≡ y .low
   pub high : x .high ≡ y .high
+  pub birth : x .birth ≡ y .birth
   pub rows : (f : Entry → ℕ) → sumLive t f (x .rows) ≡ sumLive w f (y .rows)
 
 abbrev pub Alike : ℕ → Page → Page → Type 0

@@ -1,11 +1,12 @@
--- How many pages an entry makes: two at most for each page below the root, and for the root a copy of it, or two halves and a new root over them.
+-- How many pages an entry makes, of every tree: two at most for each page below the root, and for the root a copy of it, or two halves and a new
+-- root over them. An entry that adds a root entry makes one at least.
 use Prim.Native.Nat.{ℕ, zero, suc, _+_, _*_, _≤_}
 use native.Mathlib.Omega.{arith}
 use native.Mathlib.Decide.{ℕ-discrete}
 use mathlib.Core.Path.{_≡_, refl, sym, ap, _∙_}
 use mathlib.Core.Bool.{Bool, true, false, true≢false, cond, _&&_, not, and-eq-true-iff}
 use mathlib.Core.List.{List}
-use lib.Dec.{leb, ltb, eqb}
+use lib.Dec.{leb, eqb}
 use lib.ListN.{length}
 use borrow.Author.Tests.{leb-true, eq-eqb}
 use Rattle.words.specs.Words.{keyLimit}
@@ -17,12 +18,14 @@ use Rattle.tree.specs.Fresh.{freshPage, twoRows}
 use Rattle.tree.specs.declared.types.Root.{Root}
 use Rattle.tree.specs.declared.types.Root.the-variants.{At, Missing}
 use Rattle.tree.specs.declared.types.RootChange.{RootChange}
+use Rattle.tree.specs.declared.types.RootChange.the-variants.{Added}
 use Rattle.tree.specs.declared.types.Plan.the-variants.{Spoiled, Ready}
 use Rattle.tree.specs.Tree.{Tree, pageAt, putPage, levelOf, rootAt, rootInUse, topLevel}
 use Rattle.tree.specs.RowSteps.{Point, rowAround, gainRows, leafRows, relinkRow}
 use Rattle.tree.specs.declared.types.Became.{Became}
 use Rattle.tree.specs.declared.types.Became.the-variants.{Stays, Copied, Halved}
-use Rattle.tree.specs.Overflow.{Written, takenPage, copiedRows, finishPage}
+use Rattle.tree.specs.Use.{inUse, takenPage}
+use Rattle.tree.specs.Overflow.{Written, copiedRows, finishPage}
 use Rattle.tree.specs.Enter.{unwritten, enterBelow, enterFrom, enteredAs, enterRoot}
 use Rattle.tree.specs.Plan.{descentSound, isHalved, topMustSplit, planRoot, plan}
 use Rattle.tree.specs.Limits.{mostMade}
@@ -104,7 +107,7 @@ made-at-most tree p {made} {root} e = go (rootAt tree (p .tick)) e
     at page false b f = spoiled-not-ready f
     at page true b f =
         let in-use = and-eq-true-iff (rootInUse tree page) _ .0 b in
-        let low = and-eq-true-iff (ltb page (tree .used .pages)) _ .0 (in-use .0) .1 in
+        let low = and-eq-true-iff (inUse (tree .used) page) _ .0 (in-use .0) .1 in
         let sound = and-eq-true-iff (descentSound tree p (levelOf (tree .table) page) 0 keyLimit page) _ .0 (in-use .1) in
         let is : enterRoot tree p page .made ≡ made = cc in
         omega (arith, root-few tree p page (leb-true (levelOf (tree .table) page) topLevel low) (sound .1), is)
@@ -112,3 +115,52 @@ made-at-most tree p {made} {root} e = go (rootAt tree (p .tick)) e
     go : (r : Root) → planRoot tree p r ≡ Ready made root → made ≤ mostMade
     go Missing f = spoiled-not-ready f
     go (At page) f = at page _ refl f
+
+-- The pages that took a page's rows are among those made
+made-least : (tree : Tree) (p : Point) (level page : ℕ) → newPages (enterFrom tree p level page .became) ≤ enterFrom tree p level page .made
+unfolding enterFrom
+made-least tree p zero page = omega (arith, finish-made tree (p .tick) (unwritten tree) page (leafRows p (rowsOf (pageAt (tree .table) page))))
+made-least tree p (suc l) page = go (rowAround p (rowsOf (pageAt (tree .table) page)))
+  where
+    below : ℕ → Written
+    below child = enterFrom tree p l child
+
+    go : (s : Search Placed) → newPages (enterBelow tree p page below s .became) ≤ enterBelow tree p page below s .made
+    go none = omega (arith, finish-made tree (p .tick) (unwritten tree) page (gainRows p (rowsOf (pageAt (tree .table) page))))
+    go (one x) =
+        let child : Written = below (x .row .child) in
+        let rows : List Row = relinkRow (p .tick) x (child .became) (gainRows p (rowsOf (pageAt (tree .table) page))) in
+        omega (arith, finish-made tree (p .tick) child page rows)
+
+root-some : (tree : Tree) (t level : ℕ) (so : Written) (b : Became) → newPages b ≤ so .made → enteredAs tree t level so b .root ≡ Added
+    → 1 ≤ enteredAs tree t level so b .made
+root-some tree t level so Stays h e = let z : _≡_ {A = ℕ} 0 1 = cc in absurd (omega arith)
+root-some tree t level so (Copied c) h e = omega (arith, root-made tree t (c .page) (so .table) (so .made))
+root-some tree t level so (Halved c d) h e =
+    let number : ℕ = takenPage (tree .used) (so .made) in
+    let new : List ℕ = freshPage (level + 1) 0 keyLimit t (twoRows t (c .high) (c .page) (d .page)) in
+    omega (arith, root-made tree t number (putPage (so .table) number new) (so .made + 1))
+
+pub entered-some : (tree : Tree) (p : Point) (page : ℕ) → enterRoot tree p page .root ≡ Added → 1 ≤ enterRoot tree p page .made
+unfolding enterRoot
+entered-some tree p page =
+    let level : ℕ = levelOf (tree .table) page in
+    let so : Written = enterFrom tree p level page in
+    root-some tree (p .tick) level so (so .became) (made-least tree p level page)
+
+pub added-some : (tree : Tree) (p : Point) {made : ℕ} → plan tree p ≡ Ready made Added → 1 ≤ made
+unfolding plan
+added-some tree p {made} e = go (rootAt tree (p .tick)) e
+  where
+    at : (page : ℕ) (b : Bool) → cond b (Ready (enterRoot tree p page .made) (enterRoot tree p page .root)) Spoiled ≡ Ready made Added → 1 ≤ made
+    at page false f = spoiled-not-ready f
+    at page true f =
+        let is : enterRoot tree p page .made ≡ made = cc in
+        let change : enterRoot tree p page .root ≡ Added = cc in
+        omega (arith, entered-some tree p page change, is)
+
+    go : (r : Root) → planRoot tree p r ≡ Ready made Added → 1 ≤ made
+    go Missing f = spoiled-not-ready f
+    go (At page) f =
+        at page
+        (rootInUse tree page && (descentSound tree p (levelOf (tree .table) page) 0 keyLimit page && not (topMustSplit tree p page))) f

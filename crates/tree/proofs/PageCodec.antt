@@ -163,6 +163,10 @@ module _ (level low high birth : ℕ) (rows : List Row) (few : length rows ≤ r
   unfolding freshPage
   fresh-range = refl
 
+  pub fresh-birth : word (freshPage level low high birth rows) 3 ≡ birth
+  unfolding freshPage
+  fresh-birth = refl
+
   fresh-holding : (i : ℕ) → i < length (encodeRows rows) → getD (freshPage level low high birth rows) (headerWords + i) 0 ≡ getD (encodeRows rows) i 0
   unfolding freshPage
   fresh-holding i h =

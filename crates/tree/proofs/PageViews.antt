@@ -25,6 +25,8 @@ use Rattle.tree.specs.declared.types.Became.{Became}
 use Rattle.tree.specs.declared.types.Became.the-variants.{Stays, Copied, Halved}
 use Rattle.tree.specs.Overflow.{Written, copiedRows, lowerCount, lowestKey, gainFirst, totalOf, copyPage, halvePage, splitPage, lowerHalf}
 use Rattle.tree.specs.Overflow.{finishPage}
+use Rattle.tree.specs.Use.{takenPage}
+use Rattle.tree.specs.Taking.{InUse, HasPages, Takes}
 use Rattle.tree.proofs.ModelPages as model
 use Rattle.tree.proofs.ModelSteps as modelSteps
 use Rattle.tree.proofs.ModelPages.{Entry, Page, orderedEntries, bornAll}
@@ -37,6 +39,8 @@ use Rattle.tree.proofs.View.{entryOf, viewRow, viewRows, viewPage, view
 use Rattle.tree.proofs.View.{view-fresh, view-put, lowest-view, total-view}
 use Rattle.tree.proofs.RowViews.{partsOf, Covers}
 use Rattle.tree.proofs.RowBounds.{copied-length, copied-fits, first-fits, first-length, lowest-fits}
+use Rattle.tree.proofs.TakenPages.{After, after-less}
+use Rattle.tree.proofs.UseLaws.{in-use-inside, taken-inside, fewer, has-used}
 
 -- A page that was split made at least one
 abbrev pub MadeSome : Became → ℕ → Type 0
@@ -48,26 +52,26 @@ MadeSome (Halved c d) made = 1 ≤ made
 -- `lo` and `hi` are the key range of the page at hand.
 pub record Matches (measure : Value → ℕ) (tree : Tree) (lo hi : ℕ) (so : Written) (o : Outcome) : Type 0 where
   pub parts : partsOf (so .became) ≡ o .parts
-  pub used : tree .used .pages + so .made ≡ o .used
+  pub made : so .made ≡ o .made
   pub covers : Covers lo hi (so .became)
   pub made-some : MadeSome (so .became) (so .made)
-  pub table : (tree .used .pages + so .made) * pageWords ≤ length (tree .table)
-      → (length (so .table) ≡ length (tree .table)) × (viewTable measure (so .table) ≡ o .store)
+  pub table : HasPages (tree .table) (tree .used) (so .made) → (length (so .table) ≡ length (tree .table)) × (viewTable measure (so .table) ≡ o .store)
 
 -- The model's pages have at most 64 rows each
-abbrev pub Small : (ℕ → Page) → ℕ → Type 0
-Small s u = (x : ℕ) → x < u → length ((s x) .rows) ≤ rowLimit
+abbrev pub Small : (ℕ → Page) → (ℕ → Type 0) → Type 0
+Small s In = (x : ℕ) → In x → length ((s x) .rows) ≤ rowLimit
 
 -- Both: what was written is what the model gives, and no page has too many rows
 abbrev pub Agrees : (Value → ℕ) → Tree → ℕ → ℕ → Written → Outcome → Type 0
-Agrees measure tree lo hi so o = Matches measure tree lo hi so o × Small (o .store) (o .used)
+Agrees measure tree lo hi so o =
+    Matches measure tree lo hi so o × Small (o .store) (After (InUse (tree .used)) (takenPage (tree .used)) (o .made))
 
 -- No page of the model gets more than 64 rows
-pub finish-small : (t : ℕ) (s : ℕ → Page) (u p : ℕ) (rs : List model.Row) → length (orderedEntries t rs) ≤ mostRows
-    → ((x : ℕ) → x < u → length ((s x) .rows) ≤ rowLimit)
-    → (x : ℕ) → x < (finish t s u p rs) .used → length (((finish t s u p rs) .store x) .rows) ≤ rowLimit
-finish-small t s u p rs few h x =
-    go (split (length rs) rowLimit) (split (length (orderedEntries t rs)) copyLimit) (ℕ-discrete x p) (ℕ-discrete x u) (ℕ-discrete x (suc u))
+pub finish-small : (t : ℕ) (s : ℕ → Page) (In : ℕ → Type 0) (alloc : ℕ → ℕ) (m p : ℕ) (rs : List model.Row) → length (orderedEntries t rs) ≤ mostRows
+    → Small s (After In alloc m) → Small ((finish t s alloc m p rs) .store) (After In alloc ((finish t s alloc m p rs) .made))
+finish-small t s In alloc m p rs few h x =
+    go (split (length rs) rowLimit) (split (length (orderedEntries t rs)) copyLimit) (ℕ-discrete x p) (ℕ-discrete x (alloc m))
+    (ℕ-discrete x (alloc (suc m)))
   where
     lower : List Entry
     lower = take (lowerHalf (length (orderedEntries t rs))) (orderedEntries t rs)
@@ -98,15 +102,15 @@ finish-small t s u p rs few h x =
         bump-length v (e ∷ es) = refl
 
     go : (length rs ≤ rowLimit) ⊎ (rowLimit < length rs) → (length (orderedEntries t rs) ≤ copyLimit) ⊎ (copyLimit < length (orderedEntries t rs))
-        → Dec (x ≡ p) → Dec (x ≡ u) → Dec (x ≡ suc u)
-        → x < (finish t s u p rs) .used → length (((finish t s u p rs) .store x) .rows) ≤ rowLimit
+        → Dec (x ≡ p) → Dec (x ≡ alloc m) → Dec (x ≡ alloc (suc m)) → After In alloc ((finish t s alloc m p rs) .made) x
+        → length (((finish t s alloc m p rs) .store x) .rows) ≤ rowLimit
     go (inl a) b (yes c) d e = simp tests (λ l. a)
     go (inl a) b (no c) d e = simp tests (λ l. h x l)
     go (inr a) (inl b) c (yes d) e = simp tests (λ l. omega (arith, length-born t (orderedEntries t rs)))
-    go (inr a) (inl b) c (no d) e = simp tests (λ l. h x (omega arith))
+    go (inr a) (inl b) c (no d) e = simp tests (λ l. h x (after-less In alloc m x d l))
     go (inr a) (inr b) c d (yes e) = simp tests (λ l. upper-few)
     go (inr a) (inr b) c (yes d) (no e) = simp tests (λ l. lower-few)
-    go (inr a) (inr b) c (no d) (no e) = simp tests (λ l. h x (omega arith))
+    go (inr a) (inr b) c (no d) (no e) = simp tests (λ l. h x (after-less In alloc m x d (after-less In alloc (suc m) x e l)))
 
 -- Rows that are all born at t and open
 abbrev pub NewAt : ℕ → Row → Type 0
@@ -136,17 +140,19 @@ module _ (measure : Value → ℕ) where
   first-view v w h (r ∷ rs) =
       λ i. record { low = r .low; high = r .high; amount = h (r .value) i; page = r .child } ∷ map (entryOf measure) rs
 
-  module _ (m : Measure measure) (tree : Tree) (t : ℕ) (so : Written) (page lo hi : ℕ) (S : ℕ → Page) (rows : List Row)
+  module _ (m : Measure measure) (tree : Tree) (takes : Takes (tree .used)) (t : ℕ) (so : Written) (page lo hi : ℕ) (S : ℕ → Page) (rows : List Row)
       (now : t < 4294967296) (lo-fits : lo < 65536) (hi-fits : hi < 65536)
       (range : word (pageAt (tree .table) page) 2 ≡ lo + 65536 * hi)
-      (fits : All Fits rows) (few : length rows ≤ mostRows) (in-use : page < tree .used .pages)
-      (table : (tree .used .pages + so .made) * pageWords ≤ length (tree .table)
-      → (length (so .table) ≡ length (tree .table)) × (viewTable measure (so .table) ≡ S)) where
+      (fits : All Fits rows) (few : length rows ≤ mostRows) (in-use : InUse (tree .used) page)
+      (table : HasPages (tree .table) (tree .used) (so .made) → (length (so .table) ≡ length (tree .table)) × (viewTable measure (so .table) ≡ S)) where
     abbrev old : List ℕ
     old = pageAt (tree .table) page
 
+    abbrev alloc : ℕ → ℕ
+    alloc = takenPage (tree .used)
+
     abbrev U : ℕ
-    U = tree .used .pages + so .made
+    U = takenPage (tree .used) (so .made)
 
     abbrev oldPage : Page
     oldPage = viewTable measure (tree .table) page
@@ -165,21 +171,22 @@ module _ (measure : Value → ℕ) where
         → Matches measure tree lo hi (record { table = putPage (so .table) page (withRows old rows); made = so .made; became = Stays })
         (record {
           store = putAt S page
-              (record { level = oldPage .level; low = oldPage .low; high = oldPage .high; rows = viewRows measure rows });
-          used = U;
+              (record { level = oldPage .level; low = oldPage .low; high = oldPage .high; birth = oldPage .birth; rows = viewRows measure rows });
+          made = so .made;
           parts =
               stay;
         })
     stay-matches small =
         record {
           parts = refl;
-          used = refl;
+          made = refl;
           covers = tt;
           made-some = tt;
           table =
               λ room. let before = table room in
-              let whole : length old ≡ pageWords = page-length (tree .table) page (omega arith) in
-              let place : page * pageWords + pageWords ≤ length (so .table) = omega (arith, before .0) in
+              let inside = in-use-inside (tree .used) page (tree .table) in-use (has-used (tree .used) (so .made) (tree .table) room) in
+              let whole : length old ≡ pageWords = page-length (tree .table) page inside in
+              let place : page * pageWords + pageWords ≤ length (so .table) = omega (arith, inside, before .0) in
               let new-length = with-length old rows (omega arith) ∙ whole in (
                 put-length (so .table) page (withRows old rows) place new-length ∙ before .0,
                 view-put measure (so .table) page (withRows old rows) place new-length
@@ -205,26 +212,26 @@ module _ (measure : Value → ℕ) where
         → viewPage measure (freshPage (word old 0) low high t rs) ≡ newPage t (word old 0) low high′ es
     fresh-page low high high′ rs es l e small f v =
         view-fresh measure (word old 0) low high t rs l small f
-        ∙ (λ i. record { level = word old 0; low = low; high = e i; rows = v i })
+        ∙ (λ i. record { level = word old 0; low = low; high = e i; birth = t; rows = v i })
 
     -- One new page
     copy-matches : length (copiedRows t rows) ≤ copyLimit
         → Matches measure tree lo hi (copyPage tree t so old moving)
         (record {
           store = putAt S U (newPage t (oldPage .level) (oldPage .low) (oldPage .high) (map (entryOf measure) moving));
-          used =
-              suc U;
+          made = suc (so .made);
           parts = copy U;
         })
     copy-matches small =
         record {
           parts = refl;
-          used = omega arith;
+          made = omega arith;
           covers = (is-lo, is-hi);
           made-some = omega arith;
           table =
-              λ room. let before = table (omega arith) in
-              let place : U * pageWords + pageWords ≤ length (so .table) = omega (arith, before .0) in
+              λ room. let before = table (fewer (tree .used) (so .made) (so .made + 1) (tree .table) (omega arith) room) in
+              let place : U * pageWords + pageWords ≤ length (so .table) =
+              omega (arith, before .0, taken-inside (tree .used) takes (so .made) (so .made + 1) (tree .table) room (omega arith)) in
               let new : List ℕ = freshPage (word old 0) (lowKey (word old 2)) (highKey (word old 2)) t moving in
               let new-length : length new ≡ pageWords =
               fresh-length (word old 0) (lowKey (word old 2)) (highKey (word old 2)) t moving (omega arith) in (
@@ -283,33 +290,39 @@ module _ (measure : Value → ℕ) where
       upper-few = omega (arith, first-length (totalOf lower) upper, length-drop i moving)
 
       halve-matches : Matches measure tree lo hi (halvePage tree t so old lower upper middle)
-          (modelSteps.halved t S U oldPage (take i (map (entryOf measure) moving)) (drop i (map (entryOf measure) moving)))
+          (modelSteps.halved t S alloc (so .made) oldPage (take i (map (entryOf measure) moving)) (drop i (map (entryOf measure) moving)))
       halve-matches =
           record {
-            parts = λ k. two U (next k) (middle-is k);
-            used = omega arith;
+            parts = λ k. two U (takenPage (tree .used) (next k)) (middle-is k);
+            made = omega arith;
             covers = (is-lo, refl, is-hi, middle-fits);
             made-some = omega arith;
             table =
-                λ room. let before = table (omega arith) in
+                λ room. let before = table (fewer (tree .used) (so .made) (so .made + 2) (tree .table) (omega arith) room) in
                 let first-page : List ℕ = freshPage (word old 0) (lowKey (word old 2)) middle t lower in
                 let second-page : List ℕ = freshPage (word old 0) middle (highKey (word old 2)) t (gainFirst (totalOf lower) upper) in
                 let first-length : length first-page ≡ pageWords = fresh-length (word old 0) (lowKey (word old 2)) middle t lower lower-few in
                 let second-length : length second-page ≡ pageWords =
                 fresh-length (word old 0) middle (highKey (word old 2)) t (gainFirst (totalOf lower) upper) upper-few in
-                let place : U * pageWords + pageWords ≤ length (so .table) = omega (arith, before .0) in
+                let place : U * pageWords + pageWords ≤ length (so .table) =
+                omega (arith, before .0, taken-inside (tree .used) takes (so .made) (so .made + 2) (tree .table) room (omega arith)) in
                 let put-first = put-length (so .table) U first-page place first-length in
-                let place-second : (tree .used .pages + (so .made + 1)) * pageWords + pageWords ≤ length (putPage (so .table) U first-page) =
-                omega (arith, before .0, put-first) in (
-                  put-length (putPage (so .table) U first-page) (tree .used .pages + (so .made + 1)) second-page place-second
+                let place-second : takenPage (tree .used) (so .made + 1) * pageWords + pageWords ≤ length (putPage (so .table) U first-page) =
+                omega (
+                  arith,
+                  before .0,
+                  put-first,
+                  taken-inside (tree .used) takes (so .made + 1) (so .made + 2) (tree .table) room (omega arith),
+                ) in (
+                  put-length (putPage (so .table) U first-page) (takenPage (tree .used) (so .made + 1)) second-page place-second
                       second-length ∙ put-first ∙ before .0,
-                  view-put measure (putPage (so .table) U first-page) (tree .used .pages + (so .made + 1)) second-page place-second
+                  view-put measure (putPage (so .table) U first-page) (takenPage (tree .used) (so .made + 1)) second-page place-second
                       second-length
-                      ∙ (λ k. putAt (one-put before place first-length k) (next k) (upper-page k)),
+                      ∙ (λ k. putAt (one-put before place first-length k) (takenPage (tree .used) (next k)) (upper-page k)),
                 );
           }
         where
-          next : tree .used .pages + (so .made + 1) ≡ suc U
+          next : so .made + 1 ≡ suc (so .made)
           next = omega arith
 
           lower-page : viewPage measure (freshPage (word old 0) (lowKey (word old 2)) middle t lower)
@@ -340,18 +353,17 @@ module _ (measure : Value → ℕ) where
               view-put measure (so .table) U (freshPage (word old 0) (lowKey (word old 2)) middle t lower) place slotCount
               ∙ ap₂ (λ (s : ℕ → Page) (g : Page). putAt s U g) (before .1) lower-page
 
-    split-matches : Matches measure tree lo hi (splitPage tree t so old moving) (moved t S U oldPage (map (entryOf measure) moving))
+    split-matches : Matches measure tree lo hi (splitPage tree t so old moving) (moved t S alloc (so .made) oldPage (map (entryOf measure) moving))
     split-matches =
         subst
         (λ (n : ℕ). Matches measure tree lo hi (splitPage tree t so old moving)
         (cond (leb n copyLimit)
         (record {
           store = putAt S U (newPage t (oldPage .level) (oldPage .low) (oldPage .high) (map (entryOf measure) moving));
-          used =
-              suc U;
+          made = suc (so .made);
           parts = copy U;
         })
-        (modelSteps.halved t S U oldPage (take (lowerHalf n) (map (entryOf measure) moving))
+        (modelSteps.halved t S alloc (so .made) oldPage (take (lowerHalf n) (map (entryOf measure) moving))
         (drop (lowerHalf n) (map (entryOf measure) moving)))))
         (sym (length-map moving (entryOf measure)))
         (go (leb (length moving) copyLimit) refl)
@@ -364,28 +376,27 @@ module _ (measure : Value → ℕ) where
             (cond b
             (record {
               store = putAt S U (newPage t (oldPage .level) (oldPage .low) (oldPage .high) (map (entryOf measure) moving));
-              used = suc U;
+              made = suc (so .made);
               parts = copy U;
             })
-            (modelSteps.halved t S U oldPage (take (lowerCount moving) (map (entryOf measure) moving))
+            (modelSteps.halved t S alloc (so .made) oldPage (take (lowerCount moving) (map (entryOf measure) moving))
             (drop (lowerCount moving) (map (entryOf measure) moving))))
         go true e = copy-matches (leb-true _ _ e)
         go false e = halve-matches (lowerCount moving) (omega (arith, moving-few)) (omega (arith, moving-few))
 
     pub finish-matches : S page ≡ viewTable measure (tree .table) page
-        → Matches measure tree lo hi (finishPage tree t so page rows) (finish t S U page (viewRows measure rows))
+        → Matches measure tree lo hi (finishPage tree t so page rows) (finish t S alloc (so .made) page (viewRows measure rows))
     unfolding finishPage
     finish-matches header =
         subst₃
         (λ (g : Page) (n : ℕ) (es : List Entry). Matches measure tree lo hi (finishPage tree t so page rows)
         (cond (leb n rowLimit)
         (record {
-          store = putAt S page (record { level = g .level; low = g .low; high = g .high; rows = viewRows measure rows });
-          used =
-              U;
+          store = putAt S page (record { level = g .level; low = g .low; high = g .high; birth = g .birth; rows = viewRows measure rows });
+          made = so .made;
           parts = stay;
         })
-        (moved t S U g es)))
+        (moved t S alloc (so .made) g es)))
         (sym header) (sym (length-map rows (viewRow measure))) (copied-entries t rows)
         (go (leb (length rows) rowLimit) refl)
       where
@@ -396,17 +407,17 @@ module _ (measure : Value → ℕ) where
             (cond b
             (record {
               store = putAt S page
-                  (record { level = oldPage .level; low = oldPage .low; high = oldPage .high; rows = viewRows measure rows });
-              used = U;
+                  (record { level = oldPage .level; low = oldPage .low; high = oldPage .high; birth = oldPage .birth; rows = viewRows measure rows });
+              made = so .made;
               parts = stay;
-            }) (moved t S U oldPage (map (entryOf measure) moving)))
+            }) (moved t S alloc (so .made) oldPage (map (entryOf measure) moving)))
         go true e = stay-matches (leb-true _ _ e)
         go false e = split-matches
 
-    pub finish-agrees : S page ≡ viewTable measure (tree .table) page → Small S (tree .used .pages + so .made)
-        → Agrees measure tree lo hi (finishPage tree t so page rows) (finish t S U page (viewRows measure rows))
+    pub finish-agrees : S page ≡ viewTable measure (tree .table) page → Small S (After (InUse (tree .used)) (takenPage (tree .used)) (so .made))
+        → Agrees measure tree lo hi (finishPage tree t so page rows) (finish t S alloc (so .made) page (viewRows measure rows))
     finish-agrees header small = (
       finish-matches header,
-      finish-small t S U page (viewRows measure rows)
+      finish-small t S (InUse (tree .used)) alloc (so .made) page (viewRows measure rows)
           (omega (arith, ap length (copied-entries t rows), length-map moving (entryOf measure), moving-few)) small,
     )

@@ -6,7 +6,7 @@ use mathlib.Core.Path.{_≡_, refl}
 use mathlib.Core.Bool.{Bool, true, false, cond, and-eq-true-iff}
 use mathlib.Core.List.{List}
 use lib.ListN.{length}
-use lib.Dec.{leb, ltb}
+use lib.Dec.{leb}
 use borrow.Author.Tests.{leb-true}
 use Rattle.words.specs.Words.{keyLimit}
 use Rattle.words.specs.declared.value.Value.{Value}
@@ -24,6 +24,7 @@ use Rattle.tree.specs.declared.types.Lookup.the-variants.{Spoiled, Found
 use Rattle.tree.specs.Tree.{Tree, pageAt, levelOf, topLevel, rootAt, rootInUse}
 use Rattle.tree.specs.Lookup.{plusPage, withBelow, lookupPage, lookupFrom, lookupRoot, lookup}
 use Rattle.tree.specs.Path.{pathFrom, pathOfRoot, path}
+use Rattle.tree.specs.Use.{inUse}
 
 -- No lookup is answered that met a spoiled page
 not-spoiled : {G : Type 0} {v : Value} {n : ℕ} → Spoiled ≡ Found v n → G
@@ -56,7 +57,7 @@ module _ (t k : ℕ) (below : Row → Lookup) {v : Value} {n : ℕ} where
 
   page-opened : (tree : Tree) (level low high page : ℕ) → lookupPage tree t k level low high page below ≡ Found v n
       → PageOpened t k (rowsOf (pageAt (tree .table) page)) below n
-  page-opened tree level low high page e = go (ltb page (tree .used .pages)) (soundAt t level low high (pageAt (tree .table) page)) e
+  page-opened tree level low high page e = go (inUse (tree .used) page) (soundAt t level low high (pageAt (tree .table) page)) e
     where
       words : List ℕ
       words = pageAt (tree .table) page
@@ -99,7 +100,7 @@ module _ (tree : Tree) (t k : ℕ) {v : Value} {n : ℕ} where
           test false b g = not-spoiled g
           test true b g =
               let r = from-length tree t k (levelOf (tree .table) page) 0 keyLimit page g in
-              let parts = and-eq-true-iff (ltb page (tree .used .pages)) (leb (levelOf (tree .table) page) topLevel) .0 b in
+              let parts = and-eq-true-iff (inUse (tree .used) page) (leb (levelOf (tree .table) page) topLevel) .0 b in
               let top : levelOf (tree .table) page ≤ topLevel = leb-true (levelOf (tree .table) page) topLevel (parts .1) in
               (omega (arith, r .0), r .1)
 

@@ -7,7 +7,6 @@ use mathlib.Core.Bool.{Bool, true, false, cond, _&&_}
 use mathlib.Core.List.{List, [], _∷_, _++_}
 use lib.Dec.{leb, ltb}
 use lib.ListN.{length}
-use borrow.Author.Tests.{lt-ltb}
 use Rattle.words.specs.declared.value.Value.{Value}
 use Rattle.words.specs.Value as value
 use Rattle.words.specs.Value.{plus}
@@ -28,6 +27,7 @@ use Rattle.tree.specs.Tree as ours
 use Rattle.tree.specs.Tree.{pageAt}
 use Rattle.tree.specs.Lookup.{plusPage, withBelow, lookupPage, lookupFrom}
 use Rattle.tree.specs.Path.{pathBelow, pathFrom}
+use Rattle.tree.specs.Taking.{InUse}
 use Rattle.tree.proofs.ModelPages.{_≈_, Entry, Page, onlyIf}
 use Rattle.tree.proofs.ModelTrees.{Slot, Tree, Chain, Held, Holds, sumSlots, lookupSlots, lookupTree}
 use Rattle.tree.proofs.ReplacedRows.{tests}
@@ -94,13 +94,13 @@ pub record Reads (measure : Value → ℕ) (tree : ours.Tree) (t k n lo hi page 
   pub path : pathFrom (tree .table) t k n page ≡ treePath n k page tr
 
 module _ (measure : Value → ℕ) (m : Measure measure) (tree : ours.Tree)
-    (small : (x : ℕ) → x < tree .used .pages → length (rowsOf (pageAt (tree .table) x)) ≤ rowLimit)
+    (small : (x : ℕ) → InUse (tree .used) x → length (rowsOf (pageAt (tree .table) x)) ≤ rowLimit)
     (t k : ℕ) (now : t < openEnd) where
   abbrev store : ℕ → Page
   store = viewTable measure (tree .table)
 
-  abbrev used : ℕ
-  used = tree .used .pages
+  abbrev In : ℕ → Type 0
+  In = InUse (tree .used)
 
   abbrev rowsAt : ℕ → List Row
   rowsAt page = rowsOf (pageAt (tree .table) page)
@@ -109,7 +109,7 @@ module _ (measure : Value → ℕ) (m : Measure measure) (tree : ours.Tree)
   module _ {A : Type 0} (P : ℕ → ℕ → ℕ → A → Type 0) (n lo hi page : ℕ) (xs : List (Slot A)) (y : Slot A) (ys : List (Slot A))
       (c : Chain P lo (y .entry .low) xs) (i : y .entry .low ≤ k) (j : k < y .entry .high)
       (w : P (y .entry .low) (y .entry .high) (y .entry .page) (y .below)) (d : Chain P (y .entry .high) hi ys)
-      (held : Held P n store used t lo hi page (xs ++ (y ∷ ys))) where
+      (held : Held P n store In t lo hi page (xs ++ (y ∷ ys))) where
     at-key : FoundRow measure t (rowsAt page) (holdingRow t k (rowsAt page)) (y .entry)
     at-key =
         holding-one measure m P (record { tick = t; key = k; value = value.zero }) now lo hi xs y ys (rowsAt page) c i j w d (held .same)
@@ -139,11 +139,11 @@ module _ (measure : Value → ℕ) (m : Measure measure) (tree : ours.Tree)
         (λ (b : Bool). cond b
         (withBelow below (cond (soundAt t n lo hi (pageAt (tree .table) page)) (heldAs t (rowsAt page) (holdingRow t k (rowsAt page)))
         found.Spoiled)) Spoiled)
-        (lt-ltb page used (held .in-use))
+        (held .in-use)
         ∙ ap₂ (λ (b : Bool) (s : Search Placed). withBelow below (cond b (heldAs t (rowsAt page) s) found.Spoiled))
         (held-sound measure tree small P t n lo hi page (xs ++ (y ∷ ys)) held) (at-key .is-found)
 
-  leaf-reads : (lo hi page : ℕ) (tr : Tree 0) → Cut Leaf lo hi k tr → Holds 0 store used t lo hi page tr
+  leaf-reads : (lo hi page : ℕ) (tr : Tree 0) → Cut Leaf lo hi k tr → Holds 0 store In t lo hi page tr
       → Reads measure tree t k 0 lo hi page tr
   unfolding lookupFrom pathFrom
   leaf-reads lo hi page tr (cut xs y ys c i j w d) h =
@@ -164,15 +164,15 @@ module _ (measure : Value → ℕ) (m : Measure measure) (tree : ours.Tree)
       }
 
   index-reads : (n : ℕ)
-      → ((lo hi page : ℕ) (tr : Tree n) → lo ≤ k → k < hi → Holds n store used t lo hi page tr → Reads measure tree t k n lo hi page tr)
-      → (lo hi page : ℕ) (tr : Tree (suc n)) → Cut (Holds n store used t) lo hi k tr → Holds (suc n) store used t lo hi page tr
+      → ((lo hi page : ℕ) (tr : Tree n) → lo ≤ k → k < hi → Holds n store In t lo hi page tr → Reads measure tree t k n lo hi page tr)
+      → (lo hi page : ℕ) (tr : Tree (suc n)) → Cut (Holds n store In t) lo hi k tr → Holds (suc n) store In t lo hi page tr
       → Reads measure tree t k (suc n) lo hi page tr
   unfolding lookupFrom pathFrom
   index-reads n ih lo hi page tr (cut xs y ys c i j w d) h =
       record {
         value = plus (trueValue t (rowsAt page) (x .row)) (below .value);
         is =
-            page-read (Holds n store used t) (suc n) lo hi page xs y ys c i j w d h
+            page-read (Holds n store In t) (suc n) lo hi page xs y ys c i j w d h
             (λ (row : Row). lookupFrom tree t k n (row .low) (row .high) (row .child))
             ∙ ap (plusPage (trueValue t (rowsAt page) (x .row))) onward
             ∙ ap (Found (plus (trueValue t (rowsAt page) (x .row)) (below .value))) (omega arith);
@@ -180,19 +180,19 @@ module _ (measure : Value → ℕ) (m : Measure measure) (tree : ours.Tree)
             add-sums (measure (plus (trueValue t (rowsAt page) (x .row)) (below .value))) (measure (trueValue t (rowsAt page) (x .row)))
             (measure (below .value)) (sumSlots (λ e. onlyIf (leb (e .low) k) (e .amount)) (xs ++ (y ∷ ys))) (lookupTree n k (y .below))
             (m .of-plus (trueValue t (rowsAt page) (x .row)) (below .value))
-            (true-sum (Holds n store used t) (suc n) lo hi page xs y ys c i j w d h) (below .sum)
-            ∙ ap (λ (z : ℕ). z % 2 ^ 64) (sym (lookup-held (Holds n store used t) k (lookupTree n k) lo hi xs y ys c i j d));
+            (true-sum (Holds n store In t) (suc n) lo hi page xs y ys c i j w d h) (below .sum)
+            ∙ ap (λ (z : ℕ). z % 2 ^ 64) (sym (lookup-held (Holds n store In t) k (lookupTree n k) lo hi xs y ys c i j d));
         stored = plus-stored (trueValue t (rowsAt page) (x .row)) (below .value);
         path =
             ap (_∷_ page)
             (ap (pathBelow (λ (child : ℕ). pathFrom (tree .table) t k n child)) (r .is-found)
             ∙ ap (λ (e : Entry). pathFrom (tree .table) t k n (e .page)) (r .entry)
             ∙ below .path
-            ∙ sym (path-cut (Holds n store used t) k (treePath n k) lo xs y ys c i j));
+            ∙ sym (path-cut (Holds n store In t) k (treePath n k) lo xs y ys c i j));
       }
     where
       r : FoundRow measure t (rowsAt page) (holdingRow t k (rowsAt page)) (y .entry)
-      r = at-key (Holds n store used t) (suc n) lo hi page xs y ys c i j w d h
+      r = at-key (Holds n store In t) (suc n) lo hi page xs y ys c i j w d h
 
       x : Placed
       x = r .item
@@ -203,9 +203,9 @@ module _ (measure : Value → ℕ) (m : Measure measure) (tree : ours.Tree)
       onward : lookupFrom tree t k n (r .item .row .low) (r .item .row .high) (r .item .row .child) ≡ Found (below .value) (n + 1)
       onward = ap (λ (e : Entry). lookupFrom tree t k n (e .low) (e .high) (e .page)) (r .entry) ∙ below .is
 
-  pub reads : (n lo hi page : ℕ) (tr : Tree n) → lo ≤ k → k < hi → Holds n store used t lo hi page tr
+  pub reads : (n lo hi page : ℕ) (tr : Tree n) → lo ≤ k → k < hi → Holds n store In t lo hi page tr
       → Reads measure tree t k n lo hi page tr
   reads zero lo hi page tr i j h = leaf-reads lo hi page tr (cutAt Leaf lo hi k tr (h .chain) i j) h
   reads (suc n) lo hi page tr i j h =
       index-reads n (λ lo′ hi′ page′ tr′. reads n lo′ hi′ page′ tr′) lo hi page tr
-      (cutAt (Holds n store used t) lo hi k tr (h .chain) i j) h
+      (cutAt (Holds n store In t) lo hi k tr (h .chain) i j) h

@@ -15,8 +15,10 @@ use Rattle.tree.specs.Row.{word}
 use Rattle.tree.specs.declared.types.Root.{Root}
 use Rattle.tree.specs.declared.types.Root.the-variants.{At, Missing}
 use Rattle.tree.specs.declared.types.RootChange.the-variants.{Added, Replaced}
+use Rattle.tree.specs.Use.{pagesAfter, useAfter}
 use Rattle.tree.specs.Tree.{Tree, inHigherPlace, rootFor, rootAt, lastRoot}
 use Rattle.tree.specs.Enter.{Entered, withRoot}
+use Rattle.tree.proofs.UseLaws.{after-least, place-found}
 
 -- The entry in the highest place comes first
 pub root-behind : (w e : ℕ) (ws : List ℕ)
@@ -72,7 +74,7 @@ rootReplaced tree t page table made =
           record {
             table = table;
             roots = overwrite (tree .roots) (tree .used .roots - 1) (rootEntry t page ∷ []);
-            used = record { pages = tree .used .pages + made; roots = tree .used .roots };
+            used = useAfter (tree .used) made Replaced;
           };
       made = made;
       root = Replaced;
@@ -85,7 +87,7 @@ rootAdded tree t page table made =
           record {
             table = table;
             roots = overwrite (tree .roots) (tree .used .roots) (rootEntry t page ∷ []);
-            used = record { pages = tree .used .pages + made; roots = tree .used .roots + 1 };
+            used = useAfter (tree .used) made Added;
           };
       made = made;
       root = Added;
@@ -105,7 +107,7 @@ root-made tree t page table made =
 pub record Rooted (tree : Tree) (t page : ℕ) (words : List ℕ) (new : ℕ) (so : Entered) : Type 0 where
   pub root : (w : ℕ) → rootAt (so .tree) w ≡ cond (leb t w) (At page) (rootAt tree w)
   pub table : so .tree .table ≡ words
-  pub pages : so .tree .used .pages ≡ tree .used .pages + new
+  pub pages : so .tree .used .pages ≡ pagesAfter (tree .used) new
   pub made : so .made ≡ new
   pub list : length (so .tree .roots) ≡ length (tree .roots)
   pub kept : RootsKept (so .tree) t
@@ -187,7 +189,7 @@ module _ (tree : Tree) (last t page : ℕ) (table : List ℕ) (made : ℕ) (kept
                         overwrite-length (tree .roots) (tree .used .roots - 1) (rootEntry t page ∷ [])
                             (omega arith),
                       );
-                  fewer = omega (arith, kept .fewer);
+                  fewer = omega (arith, kept .fewer, after-least (tree .used) made);
                   born =
                       omega (
                         arith,
@@ -210,7 +212,7 @@ module _ (tree : Tree) (last t page : ℕ) (table : List ℕ) (made : ℕ) (kept
                 record {
                   some = omega arith;
                   listed = omega (arith, overwrite-length (tree .roots) (tree .used .roots) (rootEntry t page ∷ []) (omega arith));
-                  fewer = omega (arith, kept .fewer);
+                  fewer = omega (arith, place-found (tree .used) made (pagesAfter (tree .used) made) (kept .fewer) some (omega arith));
                   born =
                       omega (
                         arith,

@@ -91,6 +91,7 @@ alike t e =
       level = ap (λ (g : Page). g .level) e;
       low = ap (λ (g : Page). g .low) e;
       high = ap (λ (g : Page). g .high) e;
+      birth = ap (λ (g : Page). g .birth) e;
       rows = λ f.
           ap (λ (g : Page). sumLive t f (g .rows)) e;
     }

@@ -6,7 +6,7 @@ use mathlib.Core.Bool.{Bool, true, false, cond, _&&_, and-eq-true-iff}
 use mathlib.Core.List.{List, [], _∷_}
 use lib.Dec.{leb, ltb}
 use lib.ListN.{length}
-use borrow.Author.Tests.{leb-false, ltb-false, le-leb, lt-ltb, eq-eqb}
+use borrow.Author.Tests.{leb-false, ltb-false, le-leb, eq-eqb}
 use Rattle.words.specs.Lists.{All}
 use Rattle.words.specs.declared.value.Value.{Value}
 use Rattle.tree.specs.declared.types.Row.{Row}
@@ -17,6 +17,7 @@ use Rattle.tree.proofs.Places.{cover}
 use Rattle.tree.proofs.Tiling.{tiles-rowsTile}
 use Rattle.tree.specs.Tree as ours
 use Rattle.tree.specs.Tree.{pageAt, metAt}
+use Rattle.tree.specs.Taking.{InUse}
 use Rattle.tree.proofs.ModelPages.{Entry, onlyIf, sumLive, fieldHolding}
 use Rattle.tree.proofs.ModelTrees.{Slot, Chain, Held, sumSlots}
 use Rattle.tree.proofs.ReplacedRows.{tests}
@@ -108,9 +109,9 @@ module _ (measure : Value → ℕ) {A : Type 0} (P : ℕ → ℕ → ℕ → A �
       go (r ∷ rs) h = omega arith
 
 module _ (measure : Value → ℕ) (tree : ours.Tree)
-    (small : (x : ℕ) → x < tree .used .pages → length (rowsOf (pageAt (tree .table) x)) ≤ rowLimit)
+    (small : (x : ℕ) → InUse (tree .used) x → length (rowsOf (pageAt (tree .table) x)) ≤ rowLimit)
     {A : Type 0} (P : ℕ → ℕ → ℕ → A → Type 0) (t level lo hi page : ℕ) (tr : List (Slot A))
-    (held : Held P level (viewTable measure (tree .table)) (tree .used .pages) t lo hi page tr) where
+    (held : Held P level (viewTable measure (tree .table)) (InUse (tree .used)) t lo hi page tr) where
   pub held-sound : soundAt t level lo hi (pageAt (tree .table) page) ≡ true
   held-sound =
       let words : List ℕ = pageAt (tree .table) page in
@@ -128,4 +129,4 @@ module _ (measure : Value → ℕ) (tree : ours.Tree)
       (live-tile measure P t lo hi (rowsOf words) tr (held .chain) (held .same) (held .wide))
 
   pub held-met : metAt tree t level lo hi page ≡ true
-  held-met = and-eq-true-iff _ _ .1 (lt-ltb page (tree .used .pages) (held .in-use), held-sound)
+  held-met = and-eq-true-iff _ _ .1 (held .in-use, held-sound)

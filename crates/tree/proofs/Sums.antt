@@ -4,7 +4,7 @@ use native.Mathlib.Omega.{arith}
 use mathlib.Core.Path.{_≡_, sym, ap, _∙_}
 use mathlib.Core.Bool.{Bool, cond, and-eq-true-iff}
 use mathlib.Core.List.{List}
-use borrow.Author.Tests.{le-leb, lt-ltb}
+use borrow.Author.Tests.{le-leb}
 use Rattle.words.specs.Words.{keyLimit, openEnd}
 use Rattle.words.specs.declared.value.Value.{Value}
 use Rattle.words.proofs.Measure.{Measure, countOf, count-measure, by-measures}
@@ -16,6 +16,7 @@ use Rattle.tree.specs.Lookup.{lookupFrom, lookupRoot, lookup}
 use Rattle.tree.specs.Grown.{lastTick}
 use Rattle.tree.specs.PointSums.{dominated}
 use Rattle.tree.specs.PointTotals.{pointValue, sumOfPoints}
+use Rattle.tree.specs.Taking.{InUse}
 use Rattle.tree.proofs.ModelPages.{_≈_}
 use Rattle.tree.proofs.GrownStates.{Version, holds-used}
 use Rattle.tree.proofs.View.{viewTable}
@@ -33,7 +34,7 @@ module _ (measure : Value → ℕ) (m : Measure measure) (tree : Tree) (points :
   abbrev level : ℕ
   level = levelOf (tree .table) page
 
-  version : Version (viewTable measure (tree .table)) (tree .used .pages) t (λ q. numbers measure t q points) page
+  version : Version (viewTable measure (tree .table)) (InUse (tree .used)) t (λ q. numbers measure t q points) page
   version = tells .versions t tick
 
   read : Reads measure tree t k level 0 keyLimit page (version .tree)
@@ -44,11 +45,11 @@ module _ (measure : Value → ℕ) (m : Measure measure) (tree : Tree) (points :
   read-lookup =
       ap (lookupRoot tree t k) (found-root tree words t)
       ∙ ap (λ (b : Bool). cond b (lookupFrom tree t k level 0 keyLimit page) Spoiled)
-      (and-eq-true-iff _ _ .1 (lt-ltb page (tree .used .pages) in-use, le-leb level topLevel (tells .levels t tick)))
+      (and-eq-true-iff _ _ .1 (in-use, le-leb level topLevel (tells .levels t tick)))
       ∙ read .is
     where
-      in-use : page < tree .used .pages
-      in-use = holds-used level (viewTable measure (tree .table)) (tree .used .pages) t 0 keyLimit page (version .tree) (version .held)
+      in-use : InUse (tree .used) page
+      in-use = holds-used level (viewTable measure (tree .table)) (InUse (tree .used)) t 0 keyLimit page (version .tree) (version .held)
 
   read-sum : measure (read .value) ≈ measure (sumOfPoints t k points)
   read-sum = read .sum ∙ version .adds k key ∙ sym (rest (numbers-sum measure m t k points))

@@ -25,7 +25,7 @@ use Rattle.tree.proofs.ModelPages as model
 use Rattle.tree.proofs.ModelPages.{Entry, Page, onlyIf, sumLive, liveEntries, lowKeyOf, orderedEntries, bornAll}
 use Rattle.tree.proofs.ModelSteps.{putAt, totalAmount, lowestOf}
 use Rattle.tree.proofs.TableLaws.{put-same, put-other}
-use Rattle.tree.proofs.PageCodec.{Fits, with-level, with-range, with-rows, fresh-level, fresh-range, fresh-rows}
+use Rattle.tree.proofs.PageCodec.{Fits, with-level, with-range, with-birth, with-rows, fresh-level, fresh-range, fresh-birth, fresh-rows}
 
 map-insert : {A B : Type 0} (lowOf : B → ℕ) (f : A → B) (x : A) (ys : List A)
     → map f (insertBy (λ (a : A). lowOf (f a)) x ys) ≡ insertBy lowOf (f x) (map f ys)
@@ -56,7 +56,14 @@ module _ (measure : Value → ℕ) where
   viewRows rows = map viewRow rows
 
   abbrev pub viewPage : List ℕ → Page
-  viewPage words = record { level = word words 0; low = word words 2 % 65536; high = word words 2 / 65536; rows = viewRows (rowsOf words) }
+  viewPage words =
+      record {
+        level = word words 0;
+        low = word words 2 % 65536;
+        high = word words 2 / 65536;
+        birth = word words 3;
+        rows = viewRows (rowsOf words);
+      }
 
   abbrev pub viewTable : List ℕ → ℕ → Page
   viewTable table page = viewPage (pageAt table page)
@@ -98,21 +105,22 @@ module _ (measure : Value → ℕ) where
       go false ih = omega arith
 
   -- Words of a page
-  page-path : {a b : Page} → a .level ≡ b .level → a .low ≡ b .low → a .high ≡ b .high → a .rows ≡ b .rows → a ≡ b
-  page-path p q r s = λ i. record { level = p i; low = q i; high = r i; rows = s i }
+  page-path : {a b : Page} → a .level ≡ b .level → a .low ≡ b .low → a .high ≡ b .high → a .birth ≡ b .birth → a .rows ≡ b .rows → a ≡ b
+  page-path p q r o s = λ i. record { level = p i; low = q i; high = r i; birth = o i; rows = s i }
 
   pub view-with : (page : List ℕ) (rows : List Row) → length page ≡ pageWords → length rows ≤ rowLimit → All Fits rows
       → viewPage (withRows page rows)
-      ≡ record { level = word page 0; low = word page 2 % 65536; high = word page 2 / 65536; rows = viewRows rows }
+      ≡ record { level = word page 0; low = word page 2 % 65536; high = word page 2 / 65536; birth = word page 3; rows = viewRows rows }
   view-with page rows whole few fits =
       page-path (with-level page rows (omega arith)) (ap (λ (n : ℕ). n % 65536) (with-range page rows (omega arith)))
-      (ap (λ (n : ℕ). n / 65536) (with-range page rows (omega arith))) (ap viewRows (with-rows page rows (omega arith) fits))
+      (ap (λ (n : ℕ). n / 65536) (with-range page rows (omega arith))) (with-birth page rows (omega arith)) (ap viewRows (with-rows page rows (omega arith) fits))
 
   pub view-fresh : (level low high birth : ℕ) (rows : List Row) → low < 65536 → length rows ≤ rowLimit → All Fits rows
-      → viewPage (freshPage level low high birth rows) ≡ record { level = level; low = low; high = high; rows = viewRows rows }
+      → viewPage (freshPage level low high birth rows) ≡ record { level = level; low = low; high = high; birth = birth; rows = viewRows rows }
   view-fresh level low high birth rows l few fits =
       page-path (fresh-level level low high birth rows few)
       (rw (fresh-range level low high birth rows few) (omega arith)) (rw (fresh-range level low high birth rows few) (omega arith))
+      (fresh-birth level low high birth rows few)
       (ap viewRows (fresh-rows level low high birth rows few fits))
 
   -- A page of the table written over

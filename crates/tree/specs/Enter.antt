@@ -15,7 +15,8 @@ use Rattle.tree.specs.Tree.{Tree, pageAt, putPage, levelOf, lastRoot}
 use Rattle.tree.specs.RowSteps.{Point, rowAround, gainRows, leafRows, relinkRow}
 use Rattle.tree.specs.declared.types.Became.{Became}
 use Rattle.tree.specs.declared.types.Became.the-variants.{Stays, Copied, Halved}
-use Rattle.tree.specs.Overflow.{Written, takenPage, finishPage}
+use Rattle.tree.specs.Use.{takenPage, useAfter}
+use Rattle.tree.specs.Overflow.{Written, finishPage}
 
 -- Nothing written yet
 abbrev pub unwritten : Tree → Written
@@ -52,7 +53,7 @@ withRoot tree t page table made =
           record {
             table = table;
             roots = overwrite (tree .roots) (tree .used .roots - 1) (rootEntry t page ∷ []);
-            used = record { pages = tree .used .pages + made; roots = tree .used .roots };
+            used = useAfter (tree .used) made Replaced;
           };
       made = made;
       root = Replaced;
@@ -62,7 +63,7 @@ withRoot tree t page table made =
           record {
             table = table;
             roots = overwrite (tree .roots) (tree .used .roots) (rootEntry t page ∷ []);
-            used = record { pages = tree .used .pages + made; roots = tree .used .roots + 1 };
+            used = useAfter (tree .used) made Added;
           };
       made = made;
       root = Added;
@@ -76,7 +77,7 @@ enteredAs tree t level so Stays =
           record {
             table = so .table;
             roots = tree .roots;
-            used = record { pages = tree .used .pages + so .made; roots = tree .used .roots };
+            used = useAfter (tree .used) (so .made) Kept;
           };
       made = so .made;
       root = Kept;

@@ -9,6 +9,7 @@ pub mod Edit
 pub mod Fresh
 pub mod RowEdits
 -- A tree in its page table and its root list
+pub mod Use
 pub mod Tree
 pub mod Lookup
 pub mod Path
@@ -17,6 +18,7 @@ pub mod Overflow
 pub mod Enter
 pub mod Plan
 pub mod Limits
+pub mod Taking
 pub mod Opened
 -- A tree grown from opening, as the theorems speak of it
 pub mod PointSums

@@ -1,7 +1,6 @@
 -- The lookup of one tree: "at (t, k) it adds the points with tick ≤ t and key ≤ k, and gives count, weight sum and pages opened".
 use Prim.Native.Nat.{ℕ, zero, suc, _+_}
 use mathlib.Core.Bool.{cond}
-use lib.Dec.{ltb}
 use Rattle.words.specs.Words.{keyLimit}
 use Rattle.words.specs.declared.value.Value.{Value}
 use Rattle.words.specs.Value.{plus}
@@ -14,6 +13,7 @@ use Rattle.tree.specs.declared.types.Root.{Root}
 use Rattle.tree.specs.declared.types.Root.the-variants.{At, Missing}
 use Rattle.tree.specs.declared.types.Lookup.{Lookup}
 use Rattle.tree.specs.declared.types.Lookup.the-variants.{Spoiled, Found}
+use Rattle.tree.specs.Use.{inUse}
 use Rattle.tree.specs.Tree.{Tree, pageAt, levelOf, rootAt, rootInUse}
 
 -- A page more on the way, with the true value of its row
@@ -28,7 +28,7 @@ withBelow below (held.Found row v) = plusPage v (below row)
 -- One page of the expected level and key range, and what its holding row leads to
 abbrev pub lookupPage : Tree → (t k level low high page : ℕ) → (Row → Lookup) → Lookup
 lookupPage tree t k level low high page below =
-    cond (ltb page (tree .used .pages)) (withBelow below (heldIn t k level low high (pageAt (tree .table) page))) Spoiled
+    cond (inUse (tree .used) page) (withBelow below (heldIn t k level low high (pageAt (tree .table) page))) Spoiled
 
 -- "A lookup adds the true values of the rows that hold (t, k) from root to leaf." "each page's level is one less than its parent's"
 unfoldable pub lookupFrom : Tree → (t k level low high page : ℕ) → Lookup

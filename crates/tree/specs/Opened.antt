@@ -5,6 +5,7 @@ use Rattle.words.specs.Words.{keyLimit, rootEntry}
 use Rattle.words.specs.Overwrite.{overwrite}
 use Rattle.words.specs.Value as value
 use Rattle.tree.specs.Fresh.{freshPage, newRow}
+use Rattle.tree.specs.Use.{openedUse}
 use Rattle.tree.specs.Tree.{Tree, putPage}
 
 -- "page 0, a leaf with one row of value zero over keys 0 to 30,000, born at 0, and the first root entry; it alters no other word"
@@ -16,5 +17,5 @@ openedTree table roots =
     record {
       table = putPage table 0 firstPage;
       roots = overwrite roots 0 (rootEntry 0 0 ∷ []);
-      used = record { pages = 1; roots = 1 };
+      used = openedUse;
     }

@@ -12,7 +12,7 @@ use Rattle.tree.specs.KeyOrder.{Placed, keyOrder}
 use Rattle.tree.specs.TrueValue.{totalWhere, rowValue}
 use Rattle.tree.specs.Edit.{bornAt, withRows}
 use Rattle.tree.specs.Fresh.{freshPage}
-use Rattle.tree.specs.declared.types.TreeUse.{TreeUse}
+use Rattle.tree.specs.Use.{takenPage}
 use Rattle.tree.specs.Tree.{Tree, pageAt, putPage}
 use Rattle.tree.specs.RowSteps.{gained}
 use Rattle.tree.specs.declared.types.Became.{Became}
@@ -23,10 +23,6 @@ pub record Written : Type 0 where
   pub table : List ℕ
   pub made : ℕ
   pub became : Became
-
--- The i-th page that a call takes, counted from 0: "Pages are taken in ascending order"
-abbrev pub takenPage : TreeUse → ℕ → ℕ
-takenPage used i = used .pages + i
 
 -- "Its live rows, in key order, go to a new page; the page and each row in it are born at t, each row open."
 abbrev pub copiedRows : ℕ → List Row → List Row

@@ -3,12 +3,13 @@ use Prim.Native.Nat.{ℕ, _+_, _-_, _*_, _/_, min}
 use mathlib.Core.List.{List, [], _∷_}
 use mathlib.Core.Bool.{Bool, cond, _&&_}
 use lib.ListN.{length, take, drop}
-use lib.Dec.{leb, ltb}
+use lib.Dec.{leb}
 use Rattle.words.specs.Words.{rootBirth, rootPage}
 use Rattle.words.specs.Overwrite.{overwrite}
 use Rattle.tree.specs.Row.{word, pageWords}
 use Rattle.tree.specs.PageTest.{soundAt}
 use Rattle.tree.specs.declared.types.TreeUse.{TreeUse}
+use Rattle.tree.specs.Use.{inUse, pageLimit}
 use Rattle.tree.specs.declared.types.Root.{Root}
 use Rattle.tree.specs.declared.types.Root.the-variants.{At, Missing}
 
@@ -36,10 +37,6 @@ levelOf table page = word (pageAt table page) 0
 abbrev pub topLevel : ℕ
 topLevel = 3
 
--- "at most 1,000,000 of them": the pages that a tree may use
-abbrev pub pageLimit : ℕ
-pageLimit = 1000000
-
 -- "those left, which are the table's whole pages, at most 1,000,000 of them, less the pages used"
 abbrev pub pagesLeft : Tree → ℕ
 pagesLeft tree = min (wholePages (tree .table)) pageLimit - tree .used .pages
@@ -65,10 +62,10 @@ lastRoot tree = word (tree .roots) (tree .used .roots - 1)
 abbrev pub height : Tree → ℕ
 height tree = levelOf (tree .table) (rootPage (lastRoot tree)) + 1
 
--- No ground for 26 in a page that is met at t as one of this level and key range: "page number not below pages used", and what its words say
+-- No ground for 26 in a page that is met at t as one of this level and key range: it is in use, and what its words say
 abbrev pub metAt : Tree → (t level low high page : ℕ) → Bool
-metAt tree t level low high page = ltb page (tree .used .pages) && soundAt t level low high (pageAt (tree .table) page)
+metAt tree t level low high page = inUse (tree .used) page && soundAt t level low high (pageAt (tree .table) page)
 
--- No ground for 26 in a root before its page is tested: its number is below pages used and its level at most 3
+-- No ground for 26 in a root before its page is tested: it is in use and its level at most 3
 abbrev pub rootInUse : Tree → ℕ → Bool
-rootInUse tree page = ltb page (tree .used .pages) && leb (levelOf (tree .table) page) topLevel
+rootInUse tree page = inUse (tree .used) page && leb (levelOf (tree .table) page) topLevel

@@ -16,6 +16,7 @@ use Rattle.tree.specs.Lookup.{lookup}
 use Rattle.store.specs.declared.types.Answer.{Answer}
 use Rattle.store.specs.declared.types.Answer.the-variants.{Refused, Opened, Started, Ended, Totals}
 use Rattle.tree.specs.Opened.{firstPage}
+use Rattle.tree.specs.Use.{openedUse}
 use Rattle.store.specs.declared.types.TreeName.{TreeName}
 use Rattle.store.specs.Trees.{Lent, lentTo, Store, treeIn}
 use Rattle.store.specs.Head.{headFits, useFits}
@@ -29,7 +30,7 @@ use Rattle.trials_proved.specs.Computing.{computing}
 
 -- The tree that opening makes, over whatever else the slices hold
 abbrev firstTree : List ℕ → List ℕ → Tree
-firstTree rest roots = record { table = firstPage ++ rest; roots = 0 ∷ roots; used = record { pages = 1; roots = 1 } }
+firstTree rest roots = record { table = firstPage ++ rest; roots = 0 ∷ roots; used = openedUse }
 
 nothing-found : (rest roots : List ℕ) (t k : ℕ) → t < openEnd → k < keyLimit → lookup (firstTree rest roots) t k ≡ Found nothing 1
 unfolding computing

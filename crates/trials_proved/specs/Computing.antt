@@ -7,6 +7,7 @@ use Rattle.tree.specs.PageTest.{eachKeyOnce}
 use Rattle.tree.specs.TrueValue.{totalWhere, first}
 use Rattle.tree.specs.Edit.{withRows}
 use Rattle.tree.specs.Fresh.{zeros, freshPage}
+use Rattle.tree.specs.Use.{inUse, takenPage, pagesAfter}
 use Rattle.tree.specs.Tree.{rootFor}
 use Rattle.tree.specs.Lookup.{lookupFrom, lookup}
 use Rattle.tree.specs.RowSteps.{gainRows, leafRows, relinkRow}
@@ -24,7 +25,7 @@ unfolding overwrite plus minus rowsFrom encodeRows livePlaced insertBy sortBy ea
 pages = tt
 
 unfoldable pub trees : Unit {0}
-unfolding pages rootFor lookupFrom lookup gainRows leafRows relinkRow finishPage enterFrom enterRoot descentSound plan enter
+unfolding pages inUse takenPage pagesAfter rootFor lookupFrom lookup gainRows leafRows relinkRow finishPage enterFrom enterRoot descentSound plan enter
 trees = tt
 
 unfoldable pub refusals : Unit {0}

@@ -1,17 +1,15 @@
 -- An entry that meets none of 26, 27 and 28 in a tree whose use fits is one that `enter` takes.
-use Prim.Native.Nat.{ℕ, _+_, _*_, _≤_}
 use native.Mathlib.Omega.{arith}
 use mathlib.Core.Path.{_≡_, refl, ap, sym, _∙_}
 use mathlib.Core.Bool.{true≢false}
-use lib.ListN.{length}
-use Rattle.tree.specs.Row.{pageWords}
 use Rattle.tree.specs.declared.types.Plan.{Plan}
 use Rattle.tree.specs.declared.types.Plan.the-variants.{Spoiled, Ready}
-use Rattle.tree.specs.Tree.{Tree, pagesLeft}
+use Rattle.tree.specs.Tree.{Tree}
 use Rattle.tree.specs.RowSteps.{Point}
 use Rattle.tree.specs.Plan.{plan}
 use Rattle.tree.specs.Grown.{Room}
-use Rattle.tree.proofs.Main.{UseFits}
+use Rattle.tree.proofs.Main.{UseFits, fits-takes}
+use Rattle.tree.proofs.UseLaws.{left-has}
 use Rattle.enter.specs.EnterRoot.{Planned}
 use Rattle.store.specs.Refusals.{firstMet}
 use Rattle.store.specs.Writing.{planSpoiled}
@@ -20,20 +18,17 @@ use Rattle.store.proofs.Entering.{room-for}
 use Rattle.refusals.specs.Grounds.{planGrounds}
 
 module _ (tree : Tree) (p : Point) (fit : UseFits tree) where
-  roomy : (made : ℕ) → made ≤ pagesLeft tree → (tree .used .pages + made) * pageWords ≤ length (tree .table)
-  roomy made h = omega (arith, fit .pages-held, fit .pages-limit)
-
   with-room : Room tree p → Planned tree p
   with-room room =
       record {
         made = room .made;
         change = room .root;
         plan-is = room .planned;
-        room = roomy (room .made) (room .pages);
+        room = left-has tree (fits-takes fit) (fit .pages-held) (room .made) (room .pages);
         place = room .place;
         some = fit .some-roots;
         inside = fit .roots-listed;
-        used-few = fit .pages-limit;
+        takes = fits-takes fit;
         roots-few = fit .roots-pages;
       }
 

@@ -21,7 +21,7 @@ returns c = let stay = settled-stays (c .before .before .before .before .before 
 
 split-page-requires : tie.Need-split-page-requires
 split-page-requires c κs = let over = settled-splits (c .before .before .before .before .before .args .used) (c .before .before .before .before .before .args .t) (madeSo (c .before .before .before .before .before .args .table .now) (c .before .before .before .before .before .args .made)) (c .before .before .before .before .before .args .page) (c .before .before .before .before .before .args .words .now) (c .before .if1 .left) in
-    (c .before .before .before .before .before .pre .size, (c .before .before .before .before .before .pre .rows, (c .before .before .before .before .before .pre .few, (c .before .before .before .before .before .pre .used-few, rw over at (c .before .before .before .before .before .pre .room)))))
+    (c .before .before .before .before .before .pre .size, (c .before .before .before .before .before .pre .rows, (c .before .before .before .before .before .pre .few, (c .before .before .before .before .before .pre .takes, rw over at (c .before .before .before .before .before .pre .room)))))
 
 same-length-2 : tie.Need-same-length-2
 same-length-2 c = search needs

@@ -1,6 +1,6 @@
 use Prim.Native.Nat.{ℕ, _+_, _≤_}
 use native.Mathlib.Omega.{arith}
-use mathlib.Core.Path.{_≡_, refl, ap, ap₂, sym, _∙_}
+use mathlib.Core.Path.{_≡_, ap, ap₂, sym, _∙_}
 use mathlib.Core.List.{[]}
 use lib.ListN.{length}
 use Rattle.page.specs.declared.fresh.Page.{Page}
@@ -19,6 +19,7 @@ use Rattle.enter.proofs.growing.enter.Tie as tie
 use Rattle.enter.proofs.growing.enter.Reads as reads
 use Rattle.enter.proofs.growing.enter.Lts as lts
 use Rattle.enter.proofs.entering.enter_from.Reads as enter-from-reads
+use Rattle.enter.proofs.growing.use_after.Reads as use-after-reads
 use Rattle.enter.proofs.growing.put_root.Reads as put-root-reads
 use Rattle.roots.proofs.find_root.Reads as find-root-reads
 use Rattle.roots.proofs.find_top.Reads as find-top-reads
@@ -35,6 +36,8 @@ calls = (
   find-top-reads.Learnt,
   enter-from-reads.Asked,
   enter-from-reads.Learnt,
+  use-after-reads.Asked,
+  use-after-reads.Learnt,
   put-root-reads.Asked,
   put-root-reads.Learnt,
   taken-page-reads.Asked,
@@ -134,8 +137,11 @@ enter-from-requires c κs =
 enum-told-2 : tie.Need-enum-told-2
 enum-told-2 c = search needs
 
-add-t28 : tie.Need-add-t28
-add-t28 c = omega (arith, few (c .before .before .before .before .before .before .before), start (c .before .before .before .before .before .before .before .before .before .before) .pre .used-few)
+use-after-requires : tie.Need-use-after-requires
+use-after-requires c κs =
+    let e = c .before .before .before .before .before in
+    let pre = start (c .before .before .before .before .before .before .before .before) .pre in
+    (pre .takes, (omega (arith, pre .takes .used-few, pre .roots-few), few e))
 
 enum-known-became : tie.Need-enum-known-became
 enum-known-became c = search needs
@@ -150,7 +156,7 @@ enum-known-became-2 : tie.Need-enum-known-became-2
 enum-known-became-2 c = search needs
 
 taken-page-requires : tie.Need-taken-page-requires
-taken-page-requires c κs = (start (c .before .before .before .before .before .before .before .before .before) .pre .used-few, omega (arith, few (c .before .before .before .before .before .before)))
+taken-page-requires c κs = (start (c .before .before .before .before .before .before .before .before .before) .pre .takes, omega (arith, few (c .before .before .before .before .before .before)))
 
 add-two-row-root : tie.Need-add-two-row-root
 add-two-row-root c =
@@ -185,9 +191,9 @@ same-length-4 c = search needs
 
 returns-2 : tie.Need-returns-2
 returns-2 c =
-    let e = c .before .before .before .before .before .before .before in
-    let s = start (c .before .before .before .before .before .before .before .before .before .before) in
-    stays-way (tree s) (point s) (s .pre) (e .enter-from .result) (e .enter-from .last .0) (done-is e) (c .before .before .enum-told2 .given .1) _ refl
+    let e = c .before .before .before .before .before .before in
+    let s = start (c .before .before .before .before .before .before .before .before .before) in
+    stays-way (tree s) (point s) (s .pre) (e .enter-from .result) (e .enter-from .last .0) (done-is e) (c .before .enum-told2 .given .1) _ (c .use-after .ensures)
 
 same-length-5 : tie.Need-same-length-5
 same-length-5 c = search needs
@@ -236,7 +242,7 @@ enter-spec =
     slice-aggregate-enter-from
     enter-from-requires
     enum-told-2
-    add-t28
+    use-after-requires
     enum-known-became
     put-root-requires
     enum-known-became-2

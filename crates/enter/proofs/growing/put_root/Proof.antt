@@ -1,5 +1,5 @@
 use borrow.Author.Tests.{eq-eqb, ne-eqb}
-use mathlib.Core.Path.{_≡_, sym, _∙_}
+use mathlib.Core.Path.{_≡_, _∙_}
 use Prim.Native.Nat.{_-_}
 use native.Mathlib.Omega.{arith}
 use Rattle.words.specs.Words.{rootBirth, rootEntry}
@@ -36,8 +36,8 @@ mul-roots c = search needs
 slice-write-roots : tie.Need-slice-write-roots
 slice-write-roots c = search needs
 
-add-t18 : tie.Need-add-t18
-add-t18 c = search needs
+use-after-requires : tie.Need-use-after-requires
+use-after-requires c κs = let pre = c .before .before .before .before .before .before .pre in (pre .takes, (pre .roots-few, pre .made-few))
 
 same-length : tie.Need-same-length
 same-length c = search needs
@@ -48,7 +48,7 @@ returns c = let a = c .before .before .before .before .before .before .before .a
     omega (arith, c .before .before .root-birth .ensures, c .before .if1 .taken) in
     record {
       list = rw (eq-eqb _ _ born, c .before .before .before .before .root-entry .ensures) (overwrite-one (a .roots .now) (a .used .roots - 1) (rootEntry (a .t) (a .page)) (omega (arith, c .before .before .before .before .before .before .before .pre .some, c .before .before .before .before .before .before .before .pre .inside)));
-      use-is = rw (eq-eqb _ _ born);
+      use-is = rw (eq-eqb _ _ born) (c .use-after .ensures);
     }
 
 mul-roots-2 : tie.Need-mul-roots-2
@@ -59,21 +59,18 @@ slice-write-roots-2 c = let a = c .before .before .before .before .before .befor
     let other : rootBirth (word (a .roots .now) (a .used .roots - 1)) ≡ a .t → ⊥ = λ e. c .if1 .left (c .before .root-birth .ensures ∙ e) in
     omega (arith, c .before .before .before .before .before .before .pre .place other)
 
-add-t13 : tie.Need-add-t13
-add-t13 c = search needs
-
-add-t20 : tie.Need-add-t20
-add-t20 c = omega (arith, c .before .before .before .before .before .before .before .before .pre .roots-few)
+use-after-requires-2 : tie.Need-use-after-requires-2
+use-after-requires-2 c κs = let pre = c .before .before .before .before .before .before .pre in (pre .takes, (pre .roots-few, pre .made-few))
 
 same-length-2 : tie.Need-same-length-2
 same-length-2 c = search needs
 
 returns-2 : tie.Need-returns-2
-returns-2 c = let a = c .before .before .before .before .before .before .before .before .args in
-    let other : rootBirth (word (a .roots .now) (a .used .roots - 1)) ≡ a .t → ⊥ = λ e. c .before .before .if1 .left (c .before .before .before .root-birth .ensures ∙ e) in
+returns-2 c = let a = c .before .before .before .before .before .before .before .args in
+    let other : rootBirth (word (a .roots .now) (a .used .roots - 1)) ≡ a .t → ⊥ = λ e. c .before .if1 .left (c .before .before .root-birth .ensures ∙ e) in
     record {
-      list = rw (ne-eqb _ _ other, c .before .before .before .before .before .root-entry .ensures) (overwrite-one (a .roots .now) (a .used .roots) (rootEntry (a .t) (a .page)) (c .before .before .before .before .before .before .before .before .pre .place other));
-      use-is = rw (ne-eqb _ _ other);
+      list = rw (ne-eqb _ _ other, c .before .before .before .before .root-entry .ensures) (overwrite-one (a .roots .now) (a .used .roots) (rootEntry (a .t) (a .page)) (c .before .before .before .before .before .before .before .pre .place other));
+      use-is = rw (ne-eqb _ _ other) (c .use-after2 .ensures);
     }
 
 pub put-root-spec : {M : Type 1} → statement M
@@ -89,12 +86,11 @@ put-root-spec =
     sub-roots
     mul-roots
     slice-write-roots
-    add-t18
+    use-after-requires
     same-length
     returns
     mul-roots-2
     slice-write-roots-2
-    add-t13
-    add-t20
+    use-after-requires-2
     same-length-2
     returns-2)

@@ -24,14 +24,14 @@ held-tested-requires c κs =
     let a = c .before .before .before .before .before .before .before .before .args in
     let l = c .before .before .before .before .open-page in
     let lists = l .last .1 .1 .1 .1 .1 .1 .1 in
-    opened-fits (a .table .now) (a .pages) (a .t) (a .level) (a .low) (a .high) (a .page) (search needs) (lists .0) (lists .1 .0) (l .result) (l .ensures)
+    opened-fits (a .table .now) (a .used) (a .t) (a .level) (a .low) (a .high) (a .page) (search needs) (lists .0) (lists .1 .0) (l .result) (l .ensures)
 
 returns : tie.Need-returns
 returns c =
     let a = c .before .before .before .before .before .before .before .before .before .args in
     let l = c .before .before .before .before .before .open-page in
     let lists = l .last .1 .1 .1 .1 .1 .1 .1 in
-    c .held-tested .ensures ∙ opened-held (a .table .now) (a .pages) (a .t) (a .level) (a .low) (a .high) (a .page) (search needs) (lists .0) (lists .1 .0) (a .k) (l .result) (l .ensures)
+    c .held-tested .ensures ∙ opened-held (a .table .now) (a .used) (a .t) (a .level) (a .low) (a .high) (a .page) (search needs) (lists .0) (lists .1 .0) (a .k) (l .result) (l .ensures)
 
 pub read-page-spec : {M : Type 1} → statement M
 read-page-spec =

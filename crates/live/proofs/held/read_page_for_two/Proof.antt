@@ -24,7 +24,7 @@ held-tested-requires c κs =
     let a = c .before .before .before .before .before .before .before .before .args in
     let l = c .before .before .before .before .open-page in
     let lists = l .last .1 .1 .1 .1 .1 .1 .1 in
-    opened-fits (a .table .now) (a .pages) (a .t) (a .level) (a .low) (a .high) (a .page) (search needs) (lists .0) (lists .1 .0) (l .result) (l .ensures)
+    opened-fits (a .table .now) (a .used) (a .t) (a .level) (a .low) (a .high) (a .page) (search needs) (lists .0) (lists .1 .0) (l .result) (l .ensures)
 
 slice-aggregate-held-tested-3 : tie.Need-slice-aggregate-held-tested-3
 slice-aggregate-held-tested-3 c = search needs
@@ -37,15 +37,15 @@ held-tested-requires-2 c κs =
     let a = c .before .before .before .before .before .before .before .before .before .before .before .args in
     let l = c .before .before .before .before .before .before .before .open-page in
     let lists = l .last .1 .1 .1 .1 .1 .1 .1 in
-    opened-fits (a .table .now) (a .pages) (a .t) (a .level) (a .low) (a .high) (a .page) (search needs) (lists .0) (lists .1 .0) (l .result) (l .ensures)
+    opened-fits (a .table .now) (a .used) (a .t) (a .level) (a .low) (a .high) (a .page) (search needs) (lists .0) (lists .1 .0) (l .result) (l .ensures)
 
 returns : tie.Need-returns
 returns c =
     let a = c .before .before .before .before .before .before .before .before .before .before .before .before .args in
     let l = c .before .before .before .before .before .before .before .before .open-page in
     let lists = l .last .1 .1 .1 .1 .1 .1 .1 in (
-      c .before .before .before .held-tested .ensures ∙ opened-held (a .table .now) (a .pages) (a .t) (a .level) (a .low) (a .high) (a .page) (search needs) (lists .0) (lists .1 .0) (a .lower-key) (l .result) (l .ensures),
-      c .held-tested2 .ensures ∙ opened-held (a .table .now) (a .pages) (a .t) (a .level) (a .low) (a .high) (a .page) (search needs) (lists .0) (lists .1 .0) (a .upper-key) (l .result) (l .ensures),
+      c .before .before .before .held-tested .ensures ∙ opened-held (a .table .now) (a .used) (a .t) (a .level) (a .low) (a .high) (a .page) (search needs) (lists .0) (lists .1 .0) (a .lower-key) (l .result) (l .ensures),
+      c .held-tested2 .ensures ∙ opened-held (a .table .now) (a .used) (a .t) (a .level) (a .low) (a .high) (a .page) (search needs) (lists .0) (lists .1 .0) (a .upper-key) (l .result) (l .ensures),
     )
 
 pub read-page-for-two-spec : {M : Type 1} → statement M

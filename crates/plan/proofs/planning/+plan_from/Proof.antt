@@ -76,7 +76,7 @@ plan-from-add-plan-page : (t : ℕ) → plan-from-lts.Need-add-plan-page (
 plan-from-add-plan-page t c =
     let a = c .before .before .before .before .before .before .args in
     let few = few-lowest (sym (c .before .before .before .before .meet-page .ensures)
-    ∙ c .before .before .met .given .1) (met-few (a .table .now) (a .pages) (a .t) (a .k) (a .level) (a .low) (a .high) (a .page)) in
+    ∙ c .before .before .met .given .1) (met-few (a .table .now) (a .used) (a .t) (a .k) (a .level) (a .low) (a .high) (a .page)) in
     omega (arith, few .few-rows, few .few-gain)
 
 plan-from-plan-page-requires : (t : ℕ) → plan-from-lts.Need-plan-page-requires (
@@ -116,7 +116,7 @@ plan-from-add-plan-page-2 : (t : ℕ) → plan-from-lts.Need-add-plan-page-2 (
 plan-from-add-plan-page-2 t c =
     let a = c .before .before .before .before .before .before .before .args in
     let few = few-around (sym (c .before .before .before .before .before .meet-page .ensures)
-    ∙ c .before .before .before .met2 .given .1) (met-few (a .table .now) (a .pages) (a .t) (a .k) (a .level) (a .low) (a .high)
+    ∙ c .before .before .before .met2 .given .1) (met-few (a .table .now) (a .used) (a .t) (a .k) (a .level) (a .low) (a .high)
     (a .page)) in
     omega (arith, few .few-rows, few .few-inner, few .few-live)
 
@@ -133,7 +133,7 @@ plan-from-add-plan-page-3 : (t : ℕ) → plan-from-lts.Need-add-plan-page-3 (
 plan-from-add-plan-page-3 t c =
     let a = c .before .before .before .before .before .before .before .args in
     let few = few-around (sym (c .before .before .before .before .before .meet-page .ensures)
-    ∙ c .before .before .before .met2 .given .1) (met-few (a .table .now) (a .pages) (a .t) (a .k) (a .level) (a .low) (a .high)
+    ∙ c .before .before .before .met2 .given .1) (met-few (a .table .now) (a .used) (a .t) (a .k) (a .level) (a .low) (a .high)
     (a .page)) in
     omega (arith, few .few-rows, few .few-inner, few .few-live)
 
@@ -150,7 +150,7 @@ plan-from-add-plan-page-4 : (t : ℕ) → plan-from-lts.Need-add-plan-page-4 (
 plan-from-add-plan-page-4 t c =
     let a = c .before .before .before .before .before .before .before .before .args in
     let few = few-around (sym (c .before .before .before .before .before .before .meet-page .ensures)
-    ∙ c .before .before .before .before .met2 .given .1) (met-few (a .table .now) (a .pages) (a .t) (a .k) (a .level) (a .low)
+    ∙ c .before .before .before .before .met2 .given .1) (met-few (a .table .now) (a .used) (a .t) (a .k) (a .level) (a .low)
     (a .high) (a .page)) in
     omega (arith, few .few-rows, few .few-inner, few .few-live)
 
@@ -178,7 +178,7 @@ plan-from-returns : (t : ℕ) → plan-from-lts.Need-returns (
 ) (plan-from-at t) plan-from.Post
 plan-from-returns t c =
     let a = c .before .before .before .before .before .before .before .before .before .args in
-    c .plan-page2 .ensures ∙ sym (way-cut (a .table .now) (a .pages) (a .t) (a .k) (a .low) (a .high) (a .page) (a .level)
+    c .plan-page2 .ensures ∙ sym (way-cut (a .table .now) (a .used) (a .t) (a .k) (a .low) (a .high) (a .page) (a .level)
     (c .before .before .before .if1 .taken) (sym (c .before .before .before .before .before .before .before .meet-page .ensures)
     ∙ c .before .before .before .before .before .met2 .given .1))
 
@@ -207,7 +207,7 @@ plan-from-plan-from-requires : (t : ℕ) → plan-from-lts.Need-plan-from-requir
 plan-from-plan-from-requires t c κs =
     let a = c .before .before .before .before .before .before .args in
     let wide = wide-around (sym (c .before .before .before .before .meet-page .ensures) ∙ c .before .before .met2 .given .1)
-    (met-wide (a .table .now) (a .pages) (a .t) (a .k) (a .level) (a .low) (a .high) (a .page)) in
+    (met-wide (a .table .now) (a .used) (a .t) (a .k) (a .level) (a .low) (a .high) (a .page)) in
     search needs
 
 plan-from-plan-above-requires : (t : ℕ) → plan-from-lts.Need-plan-above-requires (
@@ -223,9 +223,9 @@ plan-from-plan-above-requires : (t : ℕ) → plan-from-lts.Need-plan-above-requ
 plan-from-plan-above-requires t c κs =
     let a = c .before .before .before .before .before .before .before .args in (
       few-around (sym (c .before .before .before .before .before .meet-page .ensures)
-          ∙ c .before .before .before .met2 .given .1) (met-few (a .table .now) (a .pages) (a .t) (a .k) (a .level) (a .low) (a .high)
+          ∙ c .before .before .before .met2 .given .1) (met-few (a .table .now) (a .used) (a .t) (a .k) (a .level) (a .low) (a .high)
           (a .page)),
-      plan-within (a .table .now) (a .pages) (a .t) (a .k) (mostMade - 1) (a .level - 1) _ _ _ (omega arith) (c .plan-from .ensures),
+      plan-within (a .table .now) (a .used) (a .t) (a .k) (mostMade - 1) (a .level - 1) _ _ _ (omega arith) (c .plan-from .ensures),
     )
 
 plan-from-returns-2 : (t : ℕ) → plan-from-lts.Need-returns-2 (
@@ -240,7 +240,7 @@ plan-from-returns-2 : (t : ℕ) → plan-from-lts.Need-returns-2 (
 ) (plan-from-at t) plan-from.Post
 plan-from-returns-2 t c =
     let a = c .before .before .before .before .args in
-    sym (way-spoiled (a .table .now) (a .pages) (a .t) (a .k) (a .low) (a .high) (a .page) (a .level)
+    sym (way-spoiled (a .table .now) (a .used) (a .t) (a .k) (a .low) (a .high) (a .page) (a .level)
     (sym (c .before .before .meet-page .ensures) ∙ c .enum-told .given .1))
 
 plan-from-returns-3 : (t : ℕ) → plan-from-lts.Need-returns-3 (
@@ -255,7 +255,7 @@ plan-from-returns-3 : (t : ℕ) → plan-from-lts.Need-returns-3 (
 ) (plan-from-at t) plan-from.Post
 plan-from-returns-3 t c =
     let a = c .before .before .before .before .before .before .before .args in
-    c .plan-page .ensures ∙ sym (way-lowest (a .table .now) (a .pages) (a .t) (a .k) (a .low) (a .high) (a .page) (a .level)
+    c .plan-page .ensures ∙ sym (way-lowest (a .table .now) (a .used) (a .t) (a .k) (a .low) (a .high) (a .page) (a .level)
     (sym (c .before .before .before .before .before .meet-page .ensures) ∙ c .before .before .before .met .given .1))
 
 plan-from-returns-4 : (t : ℕ) → plan-from-lts.Need-returns-4 (
@@ -271,7 +271,7 @@ plan-from-returns-4 : (t : ℕ) → plan-from-lts.Need-returns-4 (
 plan-from-returns-4 t c =
     let a = c .before .before .before .before .before .before .before .before .args in
     c .plan-above .ensures ∙ ap (planAbove _) (c .before .plan-from .ensures)
-    ∙ sym (way-above (a .table .now) (a .pages) (a .t) (a .k) (a .low) (a .high) (a .page) (a .level) (c .before .before .if1 .left)
+    ∙ sym (way-above (a .table .now) (a .used) (a .t) (a .k) (a .low) (a .high) (a .page) (a .level) (c .before .before .if1 .left)
     (sym (c .before .before .before .before .before .before .meet-page .ensures) ∙ c .before .before .before .before .met2 .given .1))
 
 pub +plan-from-spec : {M : Type 1} → statement M

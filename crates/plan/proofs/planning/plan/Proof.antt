@@ -90,7 +90,7 @@ plan-top-requires c κs =
     let top = top-roots (a .table .now) (a .roots .now) [] (a .used) (root .result) ∙ sym (c .before .before .before .before .before .before .before .before .before .find-top .ensures) ∙ c .before .before .before .before .before .before .before .top .given .1 in
     let low = top-fits tree (root .result) (sym top) in
     let few = few-made (mostMade + 1) (c .before .before .before .planned .given .1)
-    (plan-within (a .table .now) (a .used .pages) (a .t) (a .k) (mostMade + 1) _ 0 keyLimit _ (omega (arith, low))
+    (plan-within (a .table .now) (a .used) (a .t) (a .k) (mostMade + 1) _ 0 keyLimit _ (omega (arith, low))
     (c .before .before .before .before .before .plan-from .ensures)) in
     omega (arith, few)
 

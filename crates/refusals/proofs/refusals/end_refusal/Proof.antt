@@ -14,6 +14,7 @@ use Rattle.refusals.proofs.EndParts.{end-state, not-missing, end-pages}
 use borrow.Author.Needs.{needs}
 use Rattle.refusals.proofs.refusals.end_refusal.Statement.{statement}
 use Rattle.refusals.proofs.refusals.end_refusal.Tie as tie
+use Rattle.tree.proofs.Main.{fits-takes}
 
 end-input-requires : tie.Need-end-input-requires
 end-input-requires c κs = search needs
@@ -91,7 +92,7 @@ entry-refusal-requires c κs =
     let a = h .before .before .before .before .before .before .args in
     let s : Store = storeOf (a .head) (a .start-table .now) (a .start-roots .now) (a .end-table .now) (a .end-roots .now) in
     let fit = head-passes s (end (a .tick) (a .number)) refl (h .before .end-input .ensures) (h .head-refusal .ensures) (e .before .before .if1 .left) .trees Ends in
-    (fit .pages-held, fit .pages-limit)
+    (fit .pages-held, fits-takes fit)
 
 returns-4 : tie.Need-returns-4
 returns-4 c =

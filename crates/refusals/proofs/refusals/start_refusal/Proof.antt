@@ -12,6 +12,7 @@ use Rattle.refusals.proofs.RefusalParts.{by-head, arguments-pass, head-
 use borrow.Author.Needs.{needs}
 use Rattle.refusals.proofs.refusals.start_refusal.Statement.{statement}
 use Rattle.refusals.proofs.refusals.start_refusal.Tie as tie
+use Rattle.tree.proofs.Main.{fits-takes}
 
 start-input-requires : tie.Need-start-input-requires
 start-input-requires c κs = search needs
@@ -59,7 +60,7 @@ entry-refusal-requires c κs =
     let a = h .before .before .before .before .before .before .args in
     let s : Store = storeOf (a .head) (a .start-table .now) (a .start-roots .now) (a .end-table .now) (a .end-roots .now) in
     let fit = head-passes s (start (a .tick) (a .key) (a .weight)) refl (h .before .start-input .ensures) (h .head-refusal .ensures) (c .before .before .before .before .if1 .left) .trees Starts in
-    (fit .pages-held, fit .pages-limit)
+    (fit .pages-held, fits-takes fit)
 
 returns-3 : tie.Need-returns-3
 returns-3 c =

@@ -1,16 +1,19 @@
-use Prim.Native.Nat.{ℕ, _+_, _*_, _≤_, _<_}
+use Prim.Native.Nat.{ℕ, _+_, _≤_, _<_}
 use native.Mathlib.Omega.{arith}
 use mathlib.Core.Path.{_≡_, refl, ap, ap₂, sym, subst, _∙_}
 use lib.ListN.{length}
-use Rattle.tree.specs.Row.{pageWords, copyLimit}
+use Rattle.tree.specs.Row.{copyLimit}
 use Rattle.tree.specs.Limits.{mostRows}
 use Rattle.tree.specs.declared.types.Became.the-variants.{Copied, Halved}
-use Rattle.tree.specs.Overflow.{Written, takenPage}
+use Rattle.tree.specs.Use.{takenPage}
+use Rattle.tree.specs.Taking.{HasPages}
+use Rattle.tree.specs.Overflow.{Written}
 use Rattle.split.specs.SplitWords.{liveCopies, splitWords, copiedTable, halvedTable}
 use Rattle.split.proofs.SplitRows.{live-count, sourced, split-copied, split-halved}
 use borrow.Author.Needs.{needs}
 use Rattle.split.proofs.split.split_page.Statement.{statement}
 use Rattle.split.proofs.split.split_page.Tie as tie
+use Rattle.tree.proofs.UseLaws.{taken-inside}
 
 shared-slice-read-key-order : tie.Need-shared-slice-read-key-order
 shared-slice-read-key-order c = search needs
@@ -49,10 +52,11 @@ copy-rows-requires c κs = let a = c .before .before .before .before .before .be
     let few : length (liveCopies ws (a .t)) ≤ copyLimit = omega (arith, live, c .before .before .if1 .taken) in
     let is = split-copied (a .table .now) (a .used) (a .made) ws (a .t) few in
     let made : splitWords (a .table .now) (a .used) (a .made) ws (a .t) .made ≡ a .made + 1 = ap (λ (w : Written). w .made) is in
-    let room : (a .used .pages + (a .made + 1)) * pageWords ≤ length (a .table .now) =
-    subst (λ (n : ℕ). (a .used .pages + n) * pageWords ≤ length (a .table .now)) made (c .before .before .before .before .before .before .before .before .before .before .before .before .before .pre .1 .1 .1 .1) in
+    let has : HasPages (a .table .now) (a .used) (a .made + 1) =
+    subst (HasPages (a .table .now) (a .used)) made (c .before .before .before .before .before .before .before .before .before .before .before .before .before .pre .1 .1 .1 .1) in
     let first : c .before .before .before .before .before .before .taken-page .result ≡ takenPage (a .used) (a .made) = c .before .before .before .before .before .before .taken-page .ensures in
-    (from, (omega (arith, live, few), omega (arith, room, first)))
+    let inside = taken-inside (a .used) (c .before .before .before .before .before .before .before .before .before .before .before .before .before .pre .1 .1 .1 .0) (a .made) (a .made + 1) (a .table .now) has (omega arith) in
+    (from, (omega (arith, live, few), omega (arith, inside, first)))
 
 add-t30 : tie.Need-add-t30
 add-t30 c = search needs
@@ -98,11 +102,14 @@ halve-rows-requires c κs = let a = c .before .before .before .before .before .b
     let many : copyLimit < length (liveCopies ws (a .t)) = omega (arith, live, c .before .before .before .if1 .left) in
     let is = split-halved (a .table .now) (a .used) (a .made) ws (a .t) many in
     let made : splitWords (a .table .now) (a .used) (a .made) ws (a .t) .made ≡ a .made + 2 = ap (λ (w : Written). w .made) is in
-    let room : (a .used .pages + (a .made + 2)) * pageWords ≤ length (a .table .now) =
-    subst (λ (n : ℕ). (a .used .pages + n) * pageWords ≤ length (a .table .now)) made (c .before .before .before .before .before .before .before .before .before .before .before .before .before .before .pre .1 .1 .1 .1) in
+    let has : HasPages (a .table .now) (a .used) (a .made + 2) =
+    subst (HasPages (a .table .now) (a .used)) made (c .before .before .before .before .before .before .before .before .before .before .before .before .before .before .pre .1 .1 .1 .1) in
     let first : c .before .before .before .before .before .before .before .taken-page .result ≡ takenPage (a .used) (a .made) = c .before .before .before .before .before .before .before .taken-page .ensures in
-    let second : c .before .before .taken-page2 .result ≡ a .used .pages + a .made + 1 = omega (arith, c .before .before .taken-page2 .ensures) in
-    (from, (omega (arith, live, many), (omega (arith, room, first), omega (arith, room, second))))
+    let second : c .before .before .taken-page2 .result ≡ takenPage (a .used) (a .made + 1) = c .before .before .taken-page2 .ensures in
+    let takes = c .before .before .before .before .before .before .before .before .before .before .before .before .before .before .pre .1 .1 .1 .0 in
+    let first-inside = taken-inside (a .used) takes (a .made) (a .made + 2) (a .table .now) has (omega arith) in
+    let second-inside = taken-inside (a .used) takes (a .made + 1) (a .made + 2) (a .table .now) has (omega arith) in
+    (from, (omega (arith, live, many), (omega (arith, first-inside, first), omega (arith, second-inside, second))))
 
 add-t31 : tie.Need-add-t31
 add-t31 c = search needs
@@ -123,7 +130,7 @@ returns-2 c = let a = c .before .before .before .before .before .before .before 
     let high = c .before .before .before .before .before .before .before .high-key .ensures in
     let middle = c .before .before .halve-rows .ensures .0 in
     let first : c .before .before .before .before .before .before .before .before .before .before .taken-page .result ≡ takenPage (a .used) (a .made) = c .before .before .before .before .before .before .before .before .before .before .taken-page .ensures in
-    let second : c .before .before .before .before .before .taken-page2 .result ≡ a .used .pages + a .made + 1 = omega (arith, c .before .before .before .before .before .taken-page2 .ensures) in (
+    let second : c .before .before .before .before .before .taken-page2 .result ≡ takenPage (a .used) (a .made + 1) = c .before .before .before .before .before .taken-page2 .ensures in (
       c .before .before .halve-rows .ensures .1 ∙ ap₂ (λ (m n : ℕ). halvedTable (a .table .now) m n ws (a .t)) first second ∙ sym (ap (λ (w : Written). w .table) is),
       (
         sym (ap (λ (w : Written). w .made) is),
