@@ -9,7 +9,7 @@ use std::rc::Rc;
 pub type Result<T> = std::result::Result<T, String>;
 
 /// The toolchain's libraries, by the first part of a module's name.
-const LIBRARIES: [&str; 5] = ["Prim", "borrow", "lib", "mathlib", "native"];
+const LIBRARIES: [&str; 6] = ["Prim", "borrow", "lib", "mathlib", "mir", "native"];
 
 /// Names with a capital letter that no `use` brings.
 const BUILT_IN: [&str; 2] = ["Type", "Unit"];

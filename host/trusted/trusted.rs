@@ -14,13 +14,16 @@ use std::collections::{BTreeMap, BTreeSet};
 use std::process::ExitCode;
 
 /// The public contracts: what each is, and where it stands.
-const ROOTS: [(&str, &str); 8] = [
+const ROOTS: [(&str, &str); 11] = [
     ("the calls that only read", "queries"),
     ("the calls that write", "updates"),
     ("the calls for C", "firmware"),
     ("lists of calls for C", "firmware/proofs/ExportedLists.antt:exported-list"),
-    ("one command on lent slices", "interpret"),
+    ("packets of commands for C, one after the other", "firmware/proofs/PacketLaws.antt:exported-packets"),
+    ("a piece of the command stream on lent slices", "interpret"),
     ("the command program", "command/specs/Stream.antt:output"),
+    ("any pieces of the stream", "command/proofs/AnyPieces.antt:any-pieces"),
+    ("a run of the program", "detector/specs/Turns.antt:Served"),
     ("demand 3", "store/proofs/Main.antt:demand-3"),
     ("the table of trials", "trials_proved/proofs/Table.antt:table"),
 ];

@@ -11,7 +11,7 @@ use borrow.Author.Tests.{ltb-true}
 use Rattle.store.specs.Trees.{Store}
 use Rattle.store.specs.Performing.{perform}
 use Rattle.command.specs.Stream.{Kind, unknown, command, kindOf, operandBytes, longestAnswer, cutShort, Ran, stops, answers, runKind, runOne}
-use Rattle.command.specs.Pieces.{Fed, takesNothing, followed, commandLength, isUnfinished, mustWait, runPiece, Unfinished}
+use Rattle.command.specs.Pieces.{Fed, takesNothing, followed, commandLength, isUnfinished, mustWait, runPiece}
 use Rattle.command.proofs.KindLaws.{by-kind, few-operands}
 use Rattle.command.proofs.AnswerLengths.{output-fits}
 use Rattle.command.proofs.PieceSteps.{on-whole, has-room, taken-on, each-piece}
@@ -76,6 +76,11 @@ writes-inside room ended s bytes =
     (λ room ended s b bytes f w o h.
     omega (arith, h, length-append (runOne s b bytes .output) (f .output), output-fits s b bytes, has-room room ended b bytes w))
     room ended s bytes
+
+-- Nothing, or a command whose operands have not all come
+abbrev pub Unfinished : List ℕ → Type 0
+Unfinished [] = Unit {0}
+Unfinished (b ∷ bytes) = isUnfinished b bytes ≡ true
 
 -- A run that is not over waits for bytes, which may still come, or for room
 abbrev pub Waits : (room : ℕ) (ended : Bool) → Store → List ℕ → Fed → Type 0

@@ -89,11 +89,6 @@ unfoldable pub writtenAll : Feed → List Piece → List ℕ
 writtenAll f [] = []
 writtenAll f (p ∷ pieces) = fedWith f p .output ++ writtenAll (feedAfter f p) pieces
 
--- All that has been handed over is run, but for a command whose operands have not all come
-abbrev pub Unfinished : List ℕ → Type 0
-Unfinished [] = Unit {0}
-Unfinished (b ∷ bytes) = isUnfinished b bytes ≡ true
-
 -- The input that pieces are of
 unfoldable pub inputOf : List Piece → List ℕ
 inputOf [] = []

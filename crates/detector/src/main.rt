@@ -3,9 +3,9 @@
 mod input;
 mod turn;
 
+use crate::turn::Left;
+use crate::turn::turn;
 use store::Head;
-use turn::Left;
-use turn::turn;
 ghost use mathlib.Core.Path.{_≡_};
 ghost use mathlib.Core.Bool.{false};
 ghost use mathlib.Core.List.{[]};
