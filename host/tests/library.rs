@@ -1,4 +1,4 @@
-//! The library's six functions as they are declared in `nimbleshale.h`, and a store with its lent memory on which a call can be made by the
+//! The library's seven functions as they are declared in `nimbleshale.h`, and a store with its lent memory on which a call can be made by the
 //! library or by the port. Each test program uses a part of it.
 
 #![allow(dead_code)]
