@@ -220,7 +220,7 @@ static void try_no_room(const struct whole *whole, size_t room)
 /* Random pieces and random room, from none up. The end is told with the last bytes or after them, as any number but 0. */
 static void try_random(const struct whole *whole, size_t most_bytes, size_t most_room)
 {
-    const size_t length = whole->vector->length, limit = 1000 + 100 * length;
+    const size_t length = whole->vector->length, limit = 200 + 20 * length;
     size_t made;
     struct feed feed;
     begin(&feed, whole);
