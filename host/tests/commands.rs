@@ -1,4 +1,7 @@
-//! Command streams that are made here, with what the port writes for them: a long one, full tables, bytes that begin no command.
+//! Commands as bytes, and command streams that are made here, with what the port writes for them: a long one, full tables, bytes that begin no
+//! command. Each program uses a part of it.
+
+#![allow(dead_code)]
 
 use crate::library::{by_port, packet_by_port, Call, Random, Store};
 
@@ -18,15 +21,15 @@ pub struct Talk {
 
 const LONGEST_ANSWER: usize = 18;
 
-fn start(tick: u32, key: u32, weight: u32) -> Vec<u8> {
+pub fn start(tick: u32, key: u32, weight: u32) -> Vec<u8> {
     [&[1][..], &tick.to_le_bytes(), &(key as u16).to_le_bytes(), &(weight as u16).to_le_bytes()].concat()
 }
 
-fn end(tick: u32, number: u32) -> Vec<u8> {
+pub fn end(tick: u32, number: u32) -> Vec<u8> {
     [&[2][..], &tick.to_le_bytes(), &number.to_le_bytes()].concat()
 }
 
-fn question(k1: u32, k2: u32, t1: u32, t2: u32) -> Vec<u8> {
+pub fn question(k1: u32, k2: u32, t1: u32, t2: u32) -> Vec<u8> {
     [&[3][..], &(k1 as u16).to_le_bytes(), &(k2 as u16).to_le_bytes(), &t1.to_le_bytes(), &t2.to_le_bytes()].concat()
 }
 
