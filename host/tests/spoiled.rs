@@ -136,14 +136,11 @@ fn main() {
                 port.clone_from(&before);
             }
         }
-        for _ in 0..PACKETS {
-            compared += 1;
-            if !same_of_packet(&mut random, &before) {
-                differed += 1;
-                if differed <= 10 {
-                    println!("differs: store {seed}, a packet");
-                }
-            }
+        let packets = (0..PACKETS).filter(|_| !same_of_packet(&mut random, &before)).count() as u64;
+        compared += PACKETS;
+        differed += packets;
+        if packets > 0 && differed <= 10 {
+            println!("differs: store {seed}, {packets} packets");
         }
     }
     let seen: Vec<String> = refusals.iter().filter(|seen| *seen.0 != 0).map(|(refusal, times)| format!("{refusal} × {times}")).collect();
