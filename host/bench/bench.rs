@@ -8,21 +8,27 @@
 
 #[path = "../tests/book.rs"]
 mod book;
+#[path = "../tests/commands.rs"]
+mod commands;
 #[path = "../tests/library.rs"]
 mod library;
 mod list;
 mod workload;
 
 use book::Book;
-use library::{by_library, by_port, Answer, Call, Store};
+use library::{by_library, by_port, packet_by_library, packet_by_port, Answer, Call, Store};
 use list::List;
-use port::Head;
+use port::{Fed, Head};
 use std::hint::black_box;
 use std::time::Instant;
 use workload::{questions_past, questions_today, season, Question, SHAPES};
 
 const SIZES: [u32; 4] = [5_000, 50_000, 200_000, 1_000_000];
 const QUESTIONS: usize = 2_000;
+
+/// Starts and ends of a packet, and the passes of the season that is told in packets.
+const PACKET: usize = 256;
+const PACKET_PASSES: u32 = 5_000;
 
 /// Something that takes the calls of a detector.
 trait Contender {
@@ -239,6 +245,45 @@ fn report(name: &str, passes: u32, head: &Head, [by_library, by_port, by_list]: 
     }
 }
 
+/// The mean time of an event where so many are made at a time, and the store that is left.
+fn event_time(packets: usize, runs: u32, clock: f64, mut make: impl FnMut(&mut Store, usize)) -> (f64, Store) {
+    let mut store = roomy_store(PACKET_PASSES);
+    let mut best = vec![u32::MAX; packets];
+    for _ in 0..runs {
+        accepted(by_library(&mut store, Call::Open));
+        for (packet, time) in best.iter_mut().enumerate() {
+            take_time(time, || make(&mut store, packet));
+        }
+    }
+    (Time::of(&best, clock).mean / PACKET as f64, store)
+}
+
+/// The events of a season by single calls, and the same events as packets.
+fn compare_packets(
+    who: &str, name: &str, calls: &[Call], runs: u32, clock: f64,
+    single: fn(&mut Store, Call) -> Answer, packet: fn(&mut Store, &[u8], bool, &mut [u8]) -> Fed,
+) {
+    let groups: Vec<&[Call]> = calls.chunks_exact(PACKET).collect();
+    let bytes_of = |call: &Call| match *call {
+        Call::Start { tick, key, weight } => commands::start(tick, key, weight),
+        Call::End { tick, number } => commands::end(tick, number),
+        _ => Vec::new(),
+    };
+    let packets: Vec<Vec<u8>> = groups.iter().map(|group| group.iter().flat_map(bytes_of).collect()).collect();
+    let mut out = [0; 18 * PACKET];
+    let (by_calls, left) = event_time(groups.len(), runs, clock, |store, at| groups[at].iter().for_each(|&call| {
+        black_box(accepted(single(store, call)));
+    }));
+    let (by_packets, same) = event_time(groups.len(), runs, clock, |store, at| {
+        assert!(packet(store, &packets[at], false, &mut out).taken == packets[at].len(), "not all of a packet was taken");
+    });
+    assert!(left == same, "packets leave another store than single calls");
+    println!(
+        "{name}, {PACKET} starts and ends at a time, {who}: {} an event by single calls, {} in a packet, {:.2} times",
+        shown(by_calls), shown(by_packets), by_packets / by_calls
+    );
+}
+
 fn main() {
     let argument = |place, default| std::env::args().nth(place).map_or(default, |text| text.parse().expect("LARGEST and RUNS are numbers"));
     let (largest, runs): (u32, u32) = (argument(1, u32::MAX), argument(2, 3));
@@ -259,5 +304,11 @@ fn main() {
                 .collect();
             println!("{operation:16}{}", steps.join("   "));
         }
+    }
+    println!();
+    for (shape, name) in SHAPES {
+        let calls = season(shape, PACKET_PASSES);
+        compare_packets("library", name, &calls, runs, clock, by_library, packet_by_library);
+        compare_packets("port", name, &calls, runs, clock, by_port, packet_by_port);
     }
 }

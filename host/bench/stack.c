@@ -3,7 +3,8 @@
  * filled with a pattern before each call, and the lowest byte that is no longer the pattern tells how far the call went. The figure has
  * what the caller pushes as arguments in it.
  *
- * The store is grown with rising keys to trees four pages high, and each call is measured; the deepest one counts.
+ * The store is grown with rising keys to trees four pages high, and each call is measured; the deepest one counts. Then it is opened anew and
+ * grown again by packets of one command each.
  */
 #define _POSIX_C_SOURCE 200809L
 #include <nimbleshale.h>
@@ -22,6 +23,10 @@ static uint64_t stack_memory[131072 / 4];
 static struct nimbleshale_store store;
 static struct nimbleshale_totals totals;
 static uint32_t tick, key, first_key, number;
+
+/* The packet that is measured next, and the answer to it. */
+static uint8_t packet[NIMBLESHALE_LONGEST_COMMAND], answer[NIMBLESHALE_LONGEST_ANSWER];
+static size_t packet_length, taken, written;
 
 /* A function with a frame of its own. */
 #define FRAMED __attribute__((noinline))
@@ -66,7 +71,14 @@ static FRAMED uint8_t call_lookup_ends(void)
     return nimbleshale_store_lookup_ends(&store, tick, key, &totals);
 }
 
-enum { FIND_CALLER, OPEN, START, END, QUESTION, LOOKUP_STARTS, LOOKUP_ENDS, CALLS };
+/* A packet of one command. It is refused where the command is, or where not all of it is taken. */
+static FRAMED uint8_t call_commands(void)
+{
+    uint8_t over = nimbleshale_store_commands(&store, packet, packet_length, 0, answer, sizeof answer, &taken, &written);
+    return over != 0 || taken != packet_length || written == 0 || answer[0] != 0;
+}
+
+enum { FIND_CALLER, OPEN, START, END, QUESTION, LOOKUP_STARTS, LOOKUP_ENDS, PACKET_START, PACKET_END, PACKET_QUESTION, CALLS };
 
 static const struct {
     const char *name;
@@ -79,6 +91,9 @@ static const struct {
     {"nimbleshale_question", call_question},
     {"nimbleshale_lookup_starts", call_lookup_starts},
     {"nimbleshale_lookup_ends", call_lookup_ends},
+    {"nimbleshale_commands, start", call_commands},
+    {"nimbleshale_commands, end", call_commands},
+    {"nimbleshale_commands, question", call_commands},
 };
 
 static size_t deepest[CALLS];
@@ -103,25 +118,72 @@ static FRAMED void measure(int which)
         deepest[which] = depth;
 }
 
+/* Questions at the tick that has come. One from key 0 on makes one lookup a tree, any other two at once: other functions, of other depth. */
+static void measure_questions(void)
+{
+    first_key = 0;
+    measure(QUESTION);
+    first_key = 1 + key / 2;
+    measure(QUESTION);
+    measure(LOOKUP_STARTS);
+    measure(LOOKUP_ENDS);
+}
+
+static void put(uint32_t operand, int bytes)
+{
+    for (; bytes > 0; bytes--, operand /= 256)
+        packet[packet_length++] = (uint8_t)(operand % 256);
+}
+
+/* The command byte and its first operand; the others follow. */
+static void begin_packet(uint32_t command, uint32_t operand, int bytes)
+{
+    packet_length = 0;
+    put(command, 1);
+    put(operand, bytes);
+}
+
+static void measure_packet_question(uint32_t from_key)
+{
+    begin_packet(3, from_key, 2);
+    put(key + 2, 2);
+    put(tick / 2, 4);
+    put(tick + 1, 4);
+    measure(PACKET_QUESTION);
+}
+
+/* A pass starts and ends, by calls or by packets. */
+static void measure_pass(uint32_t pass, int by_packets)
+{
+    tick = 10 * pass + 1;
+    key = pass + 1;
+    begin_packet(1, tick, 4);
+    put(key, 2);
+    put(100, 2);
+    measure(by_packets ? PACKET_START : START);
+    tick += 5;
+    begin_packet(2, tick, 4);
+    put(pass, 4);
+    measure(by_packets ? PACKET_END : END);
+}
+
 static void *run(void *unused)
 {
     uint32_t pass;
+    int by_packets;
     (void)unused;
-    measure(OPEN);
-    for (pass = 0; pass < PASSES; pass++) {
-        tick = 10 * pass + 1;
-        key = pass + 1;
-        measure(START);
-        tick += 5;
-        measure(END);
-        if (pass % 50 == 0 || pass == PASSES - 1) {
-            /* A question from key 0 on makes one lookup a tree, any other two at once: other functions, of other depth. */
-            first_key = 0;
-            measure(QUESTION);
-            first_key = 1 + key / 2;
-            measure(QUESTION);
-            measure(LOOKUP_STARTS);
-            measure(LOOKUP_ENDS);
+    for (by_packets = 0; by_packets < 2; by_packets++) {
+        measure(OPEN);
+        for (pass = 0; pass < PASSES; pass++) {
+            measure_pass(pass, by_packets);
+            if (pass % 50 != 0 && pass != PASSES - 1)
+                continue;
+            if (!by_packets) {
+                measure_questions();
+                continue;
+            }
+            measure_packet_question(0);
+            measure_packet_question(1 + key / 2);
         }
     }
     return NULL;
@@ -143,9 +205,9 @@ int main(void)
         perror("thread");
         return 2;
     }
-    printf("\nStack below the caller, arguments included; deepest of %u starts and ends, trees %u pages high:\n", 2 * PASSES,
+    printf("\nStack below the caller, arguments included; deepest of %u starts and ends each way, trees %u pages high:\n", 2 * PASSES,
            (unsigned)start_table[NIMBLESHALE_PAGE_WORDS * (size_t)(start_roots[store.start_roots_used - 1] >> 32)] + 1);
     for (call = OPEN; call < CALLS; call++)
-        printf("%-28s%6lu bytes\n", calls[call].name, (unsigned long)deepest[call]);
+        printf("%-32s%6lu bytes\n", calls[call].name, (unsigned long)deepest[call]);
     return refused != 0;
 }

@@ -1,7 +1,7 @@
 /*
- * An example of firmware around the pass index: it lends static memory, records what the ear hears, answers the radio, keeps the store over a
- * power cycle, and shows what a detector can do about each refusal. The memory is small, so that it runs full within the example; a detector
- * lends thousands of pages.
+ * An example of firmware around the pass index: it lends static memory, records what the ear hears, answers the radio, keeps the store over
+ * a power cycle, runs the radio's packets of commands, and shows what a detector can do about each refusal. The memory is small, so that it
+ * runs full within the example; a detector lends thousands of pages.
  */
 #include <nimbleshale.h>
 #include <stdio.h>
@@ -259,6 +259,86 @@ static int power_up(void)
     return open_store();
 }
 
+/*
+ * Packets from the radio, each with as many commands as fit, the last of them perhaps in part. What is not taken waits at the front of a buffer,
+ * and the next packet is put behind it. With room for twice the buffer and one answer no command ever waits for room, so that what waits is less
+ * than a command, and the next packet always has its place.
+ */
+#define PACKET_BYTES 64u
+#define BUFFER_BYTES (PACKET_BYTES + NIMBLESHALE_LONGEST_COMMAND)
+
+static uint8_t waiting[BUFFER_BYTES];
+static size_t bytes_waiting;
+static uint8_t answers[NIMBLESHALE_ROOM(BUFFER_BYTES)];
+
+static uint64_t number_in(const uint8_t *bytes, int count)
+{
+    uint64_t number = 0;
+    while (count > 0)
+        number = number << 8 | bytes[--count];
+    return number;
+}
+
+/* An answer in words. Returns how many bytes it has. */
+static size_t say_answer(uint8_t command, const uint8_t *answer)
+{
+    if (answer[0] != NIMBLESHALE_ACCEPTED) {
+        say("answer", answer[0]);
+        return 1;
+    }
+    switch (command) {
+    case 1:
+        printf("answer: start, pass %lu\n", (unsigned long)number_in(answer + 1, 4));
+        return 5;
+    case 3:
+        printf("answer: question, %llu passes, weight %llu, %u pages opened\n", (unsigned long long)number_in(answer + 1, 8),
+               (unsigned long long)number_in(answer + 9, 8), (unsigned)answer[17]);
+        return NIMBLESHALE_LONGEST_ANSWER;
+    default:
+        printf("answer: end\n");
+        return 1;
+    }
+}
+
+/* A detector sends the answers as they are. Here they are put in words, each beside its command. */
+static void send_answers(size_t taken, size_t written)
+{
+    size_t at = 0, from = 0;
+    while (at < taken && from < written) {
+        uint8_t command = waiting[at];
+        from += say_answer(command, answers + from);
+        at += command == 3 ? NIMBLESHALE_LONGEST_COMMAND : 9;
+    }
+}
+
+/* Runs what waits. A byte that begins no command means that the two sides no longer agree where commands begin: all that waits is dropped, and
+ * the other side, which gets a 6, begins anew. The store is as sound as before. */
+static void run_waiting(uint8_t ended)
+{
+    size_t taken = 0, written = 0;
+    uint8_t over = nimbleshale_store_commands(&store, waiting, bytes_waiting, ended, answers, sizeof answers, &taken, &written);
+    send_answers(taken, written);
+    bytes_waiting -= taken;
+    memmove(waiting, waiting + taken, bytes_waiting);
+    printf("%u bytes taken, %u wait\n", (unsigned)taken, (unsigned)bytes_waiting);
+    if (over) {
+        printf("the run is over; the next packet begins a new one\n");
+        bytes_waiting = 0;
+    }
+}
+
+/* A packet has come. */
+static void on_packet(const uint8_t *packet, size_t length)
+{
+    if (length > BUFFER_BYTES - bytes_waiting) {
+        printf("a packet that is too long is dropped\n");
+        return;
+    }
+    memcpy(waiting + bytes_waiting, packet, length);
+    bytes_waiting += length;
+    run_waiting(0);
+}
+
 /* A pass starts each tick, until something has come about. Firmware waits for nothing without end: 64 starts are enough for all that is waited
  * for here, since no more passes can be open together. Returns the tick that comes next. */
 static uint32_t starts_until(int (*come_about)(void), const char *what, uint32_t tick, uint32_t first_key)
@@ -321,6 +401,25 @@ static void power_cycle(void)
     on_question(2000, 2500, 220, 221);
 }
 
+/* A start at tick 230, key 4500, weight 90; a question for keys 4000 to 5000 and ticks 100 to 300; and an end at tick 240 that comes in two parts. */
+static void radio_packets(void)
+{
+    static const uint8_t first[26] = {1, 230, 0, 0, 0, 0x94, 0x11, 90, 0, 3, 0xa0, 0x0f, 0x88, 0x13, 100, 0, 0, 0, 0x2c, 1, 0, 0, 2, 240, 0, 0};
+    static const uint8_t second[5] = {0, 3, 0, 0, 0};
+    static const uint8_t unknown[14] = {2, 250, 0, 0, 0, 3, 0, 0, 0, 9, 1, 2, 3, 4};
+
+    printf("\nA radio packet, and the rest of its last command\n");
+    on_packet(first, sizeof first);
+    on_packet(second, sizeof second);
+
+    printf("\nA packet with a byte that begins no command\n");
+    on_packet(unknown, sizeof unknown);
+
+    printf("\nThe radio falls silent in the midst of a command\n");
+    on_packet(first, 5);
+    run_waiting(1);
+}
+
 static void full_stores(void)
 {
     uint32_t number = 0, tick;
@@ -372,6 +471,7 @@ int main(void)
         return 1;
     events();
     power_cycle();
+    radio_packets();
     full_stores();
     damaged_memory();
     printf("\n%u stores opened, %u events dropped, %u memory faults\n", stores_opened, dropped, memory_faults);

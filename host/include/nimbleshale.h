@@ -13,7 +13,8 @@
  *
  * What holds of every call:
  *   - It returns 0, or the number of the first refusal whose condition holds: first the refusals because of the input, then those because
- *     of the state, each list in number order. Nothing else is refused.
+ *     of the state, each list in number order. Nothing else is refused. (Only nimbleshale_commands returns something else. It is never
+ *     refused itself; what is said here holds of each command that it runs.)
  *   - Refused, it leaves every lent number and word as it was, and its results (number, count, sum, pages) as well.
  *   - Any content of the lent memory is allowed, spoiled content too: a call then ends with a refusal or serves the words as they are. What
  *     is said of passes below is said of a store grown from opening, whose memory nobody else wrote.
@@ -24,16 +25,16 @@
  *   - While a call that writes runs on a store, no other call runs on it. Questions and lookups change nothing and may run together. Calls
  *     on different stores never meet: the functions have no memory of their own.
  *
- * Names. The library has six functions: open, start, end, question, lookup_starts and lookup_ends, each behind `nimbleshale_`. They take head
- * and memory piece by piece. Firmware normally keeps a `struct nimbleshale_store` instead, and calls the same function with `store_` before its
- * name: nimbleshale_store_start(&store, ..) is nimbleshale_start on all that the store holds, and so for each of the six. Parameters of the
- * library's functions and fields of the store have the same names.
+ * Names. The library has seven functions: open, start, end, question, lookup_starts, lookup_ends and commands, each behind `nimbleshale_`. They
+ * take head and memory piece by piece. Firmware normally keeps a `struct nimbleshale_store` instead, and calls the same function with `store_`
+ * before its name: nimbleshale_store_start(&store, ..) is nimbleshale_start on all that the store holds, and so for each of the seven. Parameters
+ * of the library's functions and fields of the store have the same names.
  *
  * Interrupt handlers. Where a handler interrupts no call on a store, it may make any call on it. Where it interrupts a question or a lookup, it
- * may ask and look up on that store. Where it interrupts an opening, a start or an end, it may make no call on that store and read nothing of
- * its head and memory, which may be half written. The simplest way is to put what a handler hears into a queue, and to make the calls in the
- * main loop. A handler that calls needs the stack of the call and saves the registers that calls use; and none, whether it calls or not, may
- * write within the 128 bytes below the interrupted stack pointer (docs/FIRMWARE.md).
+ * may ask and look up on that store. Where it interrupts an opening, a start, an end or commands, it may make no call on that store and read
+ * nothing of its head and memory, which may be half written. The simplest way is to put what a handler hears into a queue, and to make the
+ * calls in the main loop. A handler that calls needs the stack of the call and saves the registers that calls use; and none, whether it calls
+ * or not, may write within the 128 bytes below the interrupted stack pointer (docs/FIRMWARE.md).
  *
  * Stack. What is said at each function are bytes below the caller, arguments included, at their deepest in trees four pages high, on x86-64
  * (host/bench/run measures them).
@@ -67,10 +68,15 @@
 #define NIMBLESHALE_LOOKUP_PAGES 4u        /* pages that a lookup opens at most */
 #define NIMBLESHALE_QUESTION_PAGES 16u     /* pages that a question opens at most */
 #define NIMBLESHALE_ENTRY_PAGES 7u         /* pages that one start or end takes at most */
+#define NIMBLESHALE_LONGEST_COMMAND 13u    /* bytes of the longest command of the command stream, a question */
+#define NIMBLESHALE_LONGEST_ANSWER 18u     /* bytes of the longest answer, that to a question */
 
 /* Words of a page table of so many pages, as a size_t: sizeof(char) is 1, and makes it one without a cast, in C and in C++. A root list as
  * long as its table has pages never runs full. */
 #define NIMBLESHALE_TABLE_WORDS(pages) (sizeof(char) * NIMBLESHALE_PAGE_WORDS * (pages))
+
+/* Room for answers that is always enough for so many bytes of commands, as a size_t in the same way: no command then waits for room. */
+#define NIMBLESHALE_ROOM(bytes) (sizeof(char) * 2u * (bytes) + NIMBLESHALE_LONGEST_ANSWER)
 
 /* Refusals because of the input. */
 #define NIMBLESHALE_ACCEPTED 0             /* no refusal */
@@ -106,7 +112,7 @@ extern "C" {
 #endif
 
 /*
- * The six functions of the library. The head goes in and out as numbers:
+ * The seven functions of the library. The head goes in and out as numbers:
  *
  *   last          the last tick: that of the latest accepted start or end, 0 at opening
  *   started       how many passes were started since opening
@@ -140,7 +146,7 @@ uint8_t nimbleshale_open(uint32_t *last, uint32_t *started, uint32_t *count_open
  * Accepted: *number becomes the pass's number, which is how many passes were started before it. The tick becomes the last tick, started and
  * count_open grow by one, and the pass stands in the next place of passes. The tree of starts takes the point: words of start_table and
  * start_roots may change, and start_pages_used and start_roots_used may grow. The tree of ends is as it was.
- * Stack: 13,976 bytes.
+ * Stack: 15,032 bytes.
  */
 NIMBLESHALE_MUST_USE
 uint8_t nimbleshale_start(uint32_t *last, uint32_t *started, uint32_t *count_open, uint32_t *start_pages_used, uint32_t *start_roots_used,
@@ -156,7 +162,7 @@ uint8_t nimbleshale_start(uint32_t *last, uint32_t *started, uint32_t *count_ope
  * Accepted: the tick becomes the last tick and count_open falls by one; the later open passes move down by one place, and the place set free
  * is zeroed. The tree of ends takes the point: words of end_table and end_roots may change, and end_pages_used and end_roots_used may grow.
  * The tree of starts is as it was.
- * Stack: 13,976 bytes.
+ * Stack: 15,000 bytes.
  */
 NIMBLESHALE_MUST_USE
 uint8_t nimbleshale_end(uint32_t *last, uint32_t *started, uint32_t *count_open, uint32_t *start_pages_used, uint32_t *start_roots_used,
@@ -171,7 +177,7 @@ uint8_t nimbleshale_end(uint32_t *last, uint32_t *started, uint32_t *count_open,
  * Refusals: 1, 2, 5, 20, 26.
  * Accepted: *count becomes the number of passes with k1 <= key < k2 that started before t2 and are open or ended after t1, *sum the sum of
  * their weights, *pages the pages opened, at most 16. Nothing else changes, accepted or not.
- * Stack: 4,864 bytes.
+ * Stack: 6,080 bytes.
  */
 NIMBLESHALE_MUST_USE
 uint8_t nimbleshale_question(uint32_t last, uint32_t started, uint32_t count_open, uint32_t start_pages_used, uint32_t start_roots_used,
@@ -205,6 +211,38 @@ uint8_t nimbleshale_lookup_ends(uint32_t last, uint32_t started, uint32_t count_
                                 size_t start_table_length, const uint64_t *start_roots, size_t start_roots_length,
                                 const uint64_t *end_table, size_t end_table_length, const uint64_t *end_roots,
                                 size_t end_roots_length, uint32_t t, uint32_t k, uint64_t *count, uint64_t *sum, uint32_t *pages);
+
+/*
+ * Commands from the radio: as many as stand whole at the front of input and have room for their answers. The store must be open; the stream
+ * has no command that opens one. A number in the stream has its lowest byte first:
+ *
+ *   01 tick (4 bytes) key (2) weight (2)         a start; answers 00 number (4)
+ *   02 tick (4) number (4)                       an end; answers 00
+ *   03 k1 (2) k2 (2) t1 (4) t2 (4)               a question; answers 00 count (8) sum (8) pages (1)
+ *
+ * A refused command answers the number of its refusal in one byte and leaves everything as it was, and the next one is run. A byte that begins no
+ * command answers 6, a command cut short answers 7, and either ends the run.
+ *
+ * It runs a command only where 18 more bytes, the longest answer, fit in out, and only when all its bytes have come. What is not taken waits: the
+ * caller keeps it, and hands it in again with what came since behind it. Whether and where the stream is cut into such pieces makes no
+ * difference to the store and the answers. Room of NIMBLESHALE_ROOM(input_length) is always enough; with less than 18 bytes nothing is run.
+ *
+ * ended is 0 while more bytes may come. It is anything else where none come behind these; only then is a command that lacks bytes cut short.
+ *
+ * Returns 1 where the run is over: 6 or 7 was answered, or ended is not 0 and every byte was taken. Else 0. With ended not 0 and room for 18
+ * bytes, each call takes a byte or returns 1.
+ * Refusals: none of its own.
+ * *taken becomes how many bytes of the front of input were taken, *written how many bytes of answers stand at the front of out. Bytes of out
+ * behind them are as they were, and input is. Head and slices are left as the starts, ends and questions leave them, one after the other.
+ * Stack: 16,184 bytes.
+ */
+NIMBLESHALE_MUST_USE
+uint8_t nimbleshale_commands(uint32_t *last, uint32_t *started, uint32_t *count_open, uint32_t *start_pages_used, uint32_t *start_roots_used,
+                             uint32_t *end_pages_used, uint32_t *end_roots_used, uint32_t passes[NIMBLESHALE_PASS_NUMBERS],
+                             uint64_t *start_table, size_t start_table_length, uint64_t *start_roots, size_t start_roots_length,
+                             uint64_t *end_table, size_t end_table_length, uint64_t *end_roots, size_t end_roots_length,
+                             const uint8_t *input, size_t input_length, uint8_t ended, uint8_t *out, size_t out_length, size_t *taken,
+                             size_t *written);
 
 #ifdef __cplusplus
 }
@@ -292,6 +330,14 @@ static inline uint8_t nimbleshale_store_lookup_ends(const struct nimbleshale_sto
                                                     struct nimbleshale_totals *totals)
 {
     return nimbleshale_lookup_ends(NIMBLESHALE_SHOWN, t, k, &totals->count, &totals->sum, &totals->pages);
+}
+
+/* nimbleshale_commands on a store. */
+NIMBLESHALE_MUST_USE
+static inline uint8_t nimbleshale_store_commands(struct nimbleshale_store *store, const uint8_t *input, size_t input_length, uint8_t ended,
+                                                 uint8_t *out, size_t out_length, size_t *taken, size_t *written)
+{
+    return nimbleshale_commands(NIMBLESHALE_LENT, input, input_length, ended, out, out_length, taken, written);
 }
 
 #undef NIMBLESHALE_LENT

@@ -1,4 +1,4 @@
-//! The six calls. Each returns 0 or the number of its refusal; refused, it leaves every number and word as it was.
+//! The calls of a store, one at a time. Each returns 0 or the number of its refusal; refused, it leaves every number and word as it was.
 
 use crate::enter::{enter, Point};
 use crate::head::{find, fits, pass_at, put, take_out, whole_pages, Head, Lent, Seen, OPEN_LIMIT, PASS_LIMIT, WEIGHT_LIMIT};

@@ -1,7 +1,7 @@
 //! The port under the names of the library, as an archive for C: it stands in where the proved library is not at hand, and shows that the
-//! tests need no more than the six functions of the header. `host/include/nimbleshale.h` says what each does.
+//! tests need no more than the seven functions of the header. `host/include/nimbleshale.h` says what each does.
 
-use port::{Head, Lent, Seen, Totals, PASS_NUMBERS};
+use port::{Fed, Head, Lent, Seen, Totals, PASS_NUMBERS};
 use std::slice::{from_raw_parts, from_raw_parts_mut};
 
 /// A lent slice. C may hand in any address with a length of zero.
@@ -19,7 +19,7 @@ unsafe fn seen<'a, T>(start: *const T, length: usize) -> &'a [T] {
     from_raw_parts(start, length)
 }
 
-/// Defines a call that may write: the seven numbers of the head are read, and written back where the call is accepted.
+/// Defines a call that may write: the seven numbers of the head are read and written back. A refused call has left them as they were.
 macro_rules! writing {
     ($name:ident, $call:path, ($($argument:ident: $type:ty),*), ($($passed:expr),*)) => {
         /// # Safety
@@ -45,13 +45,11 @@ macro_rules! writing {
                 end_table: lent(end_table, end_table_length),
                 end_roots: lent(end_roots, end_roots_length),
             };
-            let refused = $call(&mut head, memory $(, $passed)*);
-            if refused == 0 {
-                (*last, *started, *count_open) = (head.last, head.started, head.count_open);
-                (*start_pages_used, *start_roots_used) = (head.start_pages_used, head.start_roots_used);
-                (*end_pages_used, *end_roots_used) = (head.end_pages_used, head.end_roots_used);
-            }
-            refused
+            let answer = $call(&mut head, memory $(, $passed)*);
+            (*last, *started, *count_open) = (head.last, head.started, head.count_open);
+            (*start_pages_used, *start_roots_used) = (head.start_pages_used, head.start_roots_used);
+            (*end_pages_used, *end_roots_used) = (head.end_pages_used, head.end_roots_used);
+            answer
         }
     };
 }
@@ -59,6 +57,18 @@ macro_rules! writing {
 writing!(nimbleshale_open, port::open, (), ());
 writing!(nimbleshale_start, port::start, (tick: u32, key: u32, weight: u32, number: &mut u32), (tick, key, weight, number));
 writing!(nimbleshale_end, port::end, (tick: u32, number: u32), (tick, number));
+writing!(
+    nimbleshale_commands, packet,
+    (input: *const u8, input_length: usize, ended: u8, out: *mut u8, out_length: usize, taken: &mut usize, written: &mut usize),
+    (seen(input, input_length), ended != 0, lent(out, out_length), taken, written)
+);
+
+/// A packet of commands; 1 where the run is over.
+fn packet(head: &mut Head, memory: Lent, input: &[u8], ended: bool, out: &mut [u8], taken: &mut usize, written: &mut usize) -> u8 {
+    let fed: Fed = port::commands(head, memory, input, ended, out);
+    (*taken, *written) = (fed.taken, fed.written);
+    u8::from(fed.over)
+}
 
 /// Defines a call that only reads.
 macro_rules! reading {

@@ -41,6 +41,17 @@ pub struct Seen<'a> {
 }
 
 impl Lent<'_> {
+    /// The same memory lent on, to one call of several.
+    pub fn lent_on(&mut self) -> Lent<'_> {
+        Lent {
+            passes: self.passes,
+            start_table: self.start_table,
+            start_roots: self.start_roots,
+            end_table: self.end_table,
+            end_roots: self.end_roots,
+        }
+    }
+
     pub fn seen(&self) -> Seen<'_> {
         Seen {
             passes: self.passes,

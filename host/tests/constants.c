@@ -1,5 +1,5 @@
-/* Every constant of the header and every text of a refusal, stated once more; the words of a table, the pass in a place, and what becomes of wide
- * numbers. No archive is linked.
+/* Every constant of the header and every text of a refusal, stated once more; the words of a table, the room for answers, the pass in a place, and
+ * what becomes of wide numbers. No archive is linked.
  *
  * constants NAME..: the names of all constants that the header has, without NIMBLESHALE_, each of which must be stated here */
 #include <nimbleshale.h>
@@ -36,6 +36,8 @@ static const struct {
     STATED(LOOKUP_PAGES, 4),
     STATED(QUESTION_PAGES, 16),
     STATED(ENTRY_PAGES, 7),
+    STATED(LONGEST_COMMAND, 13),
+    STATED(LONGEST_ANSWER, 18),
     STATED(ACCEPTED, 0),
     STATED(REFUSED_KEY, 1),
     STATED(REFUSED_BAND, 2),
@@ -120,6 +122,13 @@ static void see_sizes(void)
     /* Over 2^32 words, where a size_t has room for them. */
     if (sizeof(size_t) > 4)
         expect("words of 20,000,000 pages", NIMBLESHALE_TABLE_WORDS(20000000), 5200000000u);
+    expect("room for no byte", NIMBLESHALE_ROOM(0), 18);
+    expect("room for a byte", NIMBLESHALE_ROOM(1), 20);
+    expect("room for 2 + 1 bytes", NIMBLESHALE_ROOM(2 + 1), 24);
+    expect("room for 4,096 bytes, twice", 2 * NIMBLESHALE_ROOM(4096), 16420);
+    expect("room is a size_t", sizeof NIMBLESHALE_ROOM(1), sizeof(size_t));
+    if (sizeof(size_t) > 4)
+        expect("room for 4,000,000,000 bytes", NIMBLESHALE_ROOM(4000000000u), 8000000018u);
 }
 
 static void see_passes(void)

@@ -1,8 +1,10 @@
-/* Every call that answers with a refusal, made for nothing: the compiler must warn of each, 12 times in all. This program is never run. */
+/* Every call that answers with a refusal, made for nothing: the compiler must warn of each, 14 times in all. This program is never run. */
 #include <nimbleshale.h>
 
 static uint32_t number, passes[NIMBLESHALE_PASS_NUMBERS];
 static uint64_t word, table[NIMBLESHALE_TABLE_WORDS(1)];
+static uint8_t byte, bytes[1];
+static size_t taken, written;
 static struct nimbleshale_store store;
 static struct nimbleshale_totals totals;
 
@@ -17,11 +19,13 @@ int main(void)
     nimbleshale_question(SHOWN, 0, 0, 0, 0, &word, &word, &number);
     nimbleshale_lookup_starts(SHOWN, 0, 0, &word, &word, &number);
     nimbleshale_lookup_ends(SHOWN, 0, 0, &word, &word, &number);
+    nimbleshale_commands(LENT, &byte, 1, 0, bytes, 1, &taken, &written);
     nimbleshale_store_open(&store);
     nimbleshale_store_start(&store, 0, 0, 0, &number);
     nimbleshale_store_end(&store, 0, 0);
     nimbleshale_store_question(&store, 0, 0, 0, 0, &totals);
     nimbleshale_store_lookup_starts(&store, 0, 0, &totals);
     nimbleshale_store_lookup_ends(&store, 0, 0, &totals);
+    nimbleshale_store_commands(&store, &byte, 1, 0, bytes, 1, &taken, &written);
     return 0;
 }

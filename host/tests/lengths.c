@@ -9,9 +9,27 @@
 
 static unsigned long compared, differed;
 
-enum call { OPEN, START, END, QUESTION, LOOKUP_STARTS, LOOKUP_ENDS, CALLS };
+enum call { OPEN, START, END, QUESTION, LOOKUP_STARTS, LOOKUP_ENDS, COMMANDS, CALLS };
 
-static const char *const names[CALLS] = {"open", "start", "end", "question", "lookup_starts", "lookup_ends"};
+static const char *const names[CALLS] = {"open", "start", "end", "question", "lookup_starts", "lookup_ends", "commands"};
+
+/* The first command of a packet of two, a question and one that is cut short: what it answers. The packet and the room for answers are of
+ * different lengths, as long as they must be and no longer. 254 where not all of both is used. */
+static uint8_t make_commands(struct nimbleshale_store *store)
+{
+    static const uint8_t packet[14] = {3, 1, 0, 0x30, 0x75, 1, 0, 0, 0, 20, 0, 0, 0, 1};
+    const size_t room = 2 * NIMBLESHALE_LONGEST_ANSWER;
+    uint8_t *input = lend(sizeof packet), *out = lend(room), answer, over;
+    size_t taken = 0, written = 0;
+    memcpy(input, packet, sizeof packet);
+    over = nimbleshale_store_commands(store, input, sizeof packet, 1, out, room, &taken, &written);
+    answer = out[0];
+    if (over != 1 || taken != sizeof packet || written < 2 || out[written - 1] != NIMBLESHALE_REFUSED_CUT_SHORT)
+        answer = 254;
+    give_back(input, sizeof packet);
+    give_back(out, room);
+    return answer;
+}
 
 static uint8_t make(struct nimbleshale_store *store, enum call call)
 {
@@ -24,6 +42,7 @@ static uint8_t make(struct nimbleshale_store *store, enum call call)
     case QUESTION: return nimbleshale_store_question(store, 1, 30000, 1, 20, &totals);
     case LOOKUP_STARTS: return nimbleshale_store_lookup_starts(store, 10, 450, &totals);
     case LOOKUP_ENDS: return nimbleshale_store_lookup_ends(store, 10, 450, &totals);
+    case COMMANDS: return make_commands(store);
     default: return 255;
     }
 }

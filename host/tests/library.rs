@@ -1,9 +1,9 @@
-//! The library's six functions as they are declared in `nimbleshale.h`, and a store with its lent memory on which a call can be made by the
+//! The library's seven functions as they are declared in `nimbleshale.h`, and a store with its lent memory on which a call can be made by the
 //! library or by the port. Each test program uses a part of it.
 
 #![allow(dead_code)]
 
-use port::{Head, Lent, Totals, PASS_NUMBERS};
+use port::{Fed, Head, Lent, Totals, PASS_NUMBERS};
 
 extern "C" {
     fn nimbleshale_open(
@@ -49,6 +49,14 @@ extern "C" {
         start_table: *const u64, start_table_length: usize, start_roots: *const u64, start_roots_length: usize,
         end_table: *const u64, end_table_length: usize, end_roots: *const u64, end_roots_length: usize,
         t: u32, k: u32, count: &mut u64, sum: &mut u64, pages: &mut u32,
+    ) -> u8;
+    fn nimbleshale_commands(
+        last: &mut u32, started: &mut u32, count_open: &mut u32,
+        start_pages_used: &mut u32, start_roots_used: &mut u32, end_pages_used: &mut u32, end_roots_used: &mut u32,
+        passes: &mut [u32; PASS_NUMBERS],
+        start_table: *mut u64, start_table_length: usize, start_roots: *mut u64, start_roots_length: usize,
+        end_table: *mut u64, end_table_length: usize, end_roots: *mut u64, end_roots_length: usize,
+        input: *const u8, input_length: usize, ended: u8, out: *mut u8, out_length: usize, taken: &mut usize, written: &mut usize,
     ) -> u8;
 }
 
@@ -152,6 +160,23 @@ pub fn by_port(store: &mut Store, call: Call) -> Answer {
         Call::LookupEnds { t, k } => port::lookup_ends(head, lent.seen(), t, k, &mut totals),
     };
     Answer { refusal, number, totals }
+}
+
+/// A packet of commands run by the library.
+#[inline]
+pub fn packet_by_library(store: &mut Store, input: &[u8], ended: bool, out: &mut [u8]) -> Fed {
+    let (mut taken, mut written) = (usize::MAX, usize::MAX);
+    let over = lent!(
+        nimbleshale_commands, store, input.as_ptr(), input.len(), u8::from(ended), out.as_mut_ptr(), out.len(), &mut taken, &mut written
+    );
+    Fed { taken, written, over: over != 0 }
+}
+
+/// A packet of commands run by the port.
+#[inline]
+pub fn packet_by_port(store: &mut Store, input: &[u8], ended: bool, out: &mut [u8]) -> Fed {
+    let Store { head, passes, start_table, start_roots, end_table, end_roots } = store;
+    port::commands(head, Lent { passes, start_table, start_roots, end_table, end_roots }, input, ended, out)
 }
 
 /// Words of a page.

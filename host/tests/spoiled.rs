@@ -1,14 +1,19 @@
 //! Spoiled memory: random heads, tables and root lists, each call made by the library and by the port on the same store. The answer and every
-//! number and word must be the same; a refused call, a question and a lookup must leave everything as it was; and every call must end.
+//! number and word must be the same; a refused call, a question and a lookup must leave everything as it was; and every call must end. Packets of
+//! commands, too, are run by both.
 //!
 //! spoiled [ROUNDS]
 
+mod commands;
 mod library;
 mod made;
 mod shapes;
 
-use library::{by_library, by_port, Answer, Call, Random, Store, PAGE_WORDS};
+use library::{by_library, by_port, packet_by_library, packet_by_port, Answer, Call, Random, Store, PAGE_WORDS};
 use std::collections::BTreeMap;
+
+/// Packets on each store, after its calls.
+const PACKETS: u64 = 4;
 
 /// A call with keys and ticks that the store's own words name, or close to them.
 fn call_on(random: &mut Random, store: &Store) -> Call {
@@ -29,6 +34,34 @@ fn call_on(random: &mut Random, store: &Store) -> Call {
             Call::Question { k1: if random.one_in(4) { 0 } else { k.min(l) }, k2: k.max(l) + 1, t1: tick.min(u), t2: tick.max(u).saturating_add(1) }
         }
     }
+}
+
+/// A packet of such calls, some with a byte that begins no command, some without their last bytes.
+fn packet_on(random: &mut Random, store: &Store) -> Vec<u8> {
+    let mut packet = Vec::new();
+    for _ in 0..random.between(1, 8) {
+        packet.extend(match call_on(random, store) {
+            Call::Start { tick, key, weight } => commands::start(tick, key, weight),
+            Call::End { tick, number } => commands::end(tick, number),
+            Call::Question { k1, k2, t1, t2 } => commands::question(k1, k2, t1, t2),
+            _ if random.one_in(8) => vec![random.word() as u8],
+            _ => Vec::new(),
+        });
+    }
+    let cut = random.below(14) as usize;
+    packet.truncate(if random.one_in(4) { packet.len().saturating_sub(cut) } else { packet.len() });
+    packet
+}
+
+/// Whether library and port do the same with a packet, with any room for answers: what they say and write, and the memory that they leave.
+fn same_of_packet(random: &mut Random, before: &Store) -> bool {
+    let (packet, ended) = (packet_on(random, before), random.one_in(2));
+    let mut by_library = vec![0x5a; random.below(120) as usize];
+    let mut by_port = by_library.clone();
+    let (mut library, mut port) = (before.clone(), before.clone());
+    let found = packet_by_library(&mut library, &packet, ended, &mut by_library);
+    let wanted = packet_by_port(&mut port, &packet, ended, &mut by_port);
+    found == wanted && by_library == by_port && library == port
 }
 
 /// A word of one of the tables.
@@ -103,11 +136,17 @@ fn main() {
                 port.clone_from(&before);
             }
         }
+        let packets = (0..PACKETS).filter(|_| !same_of_packet(&mut random, &before)).count() as u64;
+        compared += PACKETS;
+        differed += packets;
+        if packets > 0 && differed <= 10 {
+            println!("differs: store {seed}, {packets} packets");
+        }
     }
     let seen: Vec<String> = refusals.iter().filter(|seen| *seen.0 != 0).map(|(refusal, times)| format!("{refusal} × {times}")).collect();
     println!(
-        "spoiled: {stores} stores, {written} accepted writes, {split} of them with splits, refusals {}: {compared} compared, {differed} differed",
-        seen.join(", ")
+        "spoiled: {stores} stores, {written} accepted writes, {split} of them with splits, refusals {}, {} packets: {compared} compared, {differed} differed",
+        seen.join(", "), PACKETS * stores
     );
     std::process::exit(i32::from(differed != 0));
 }

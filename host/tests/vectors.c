@@ -1,7 +1,7 @@
 /* The vectors of host/vectors: traces to the word, command streams byte for byte.
  * vectors TRACES STREAMS, the traces unpacked */
 #define _DEFAULT_SOURCE
-#include "lent.h"
+#include "stream.h"
 
 #define UNTOUCHED 0xa5a5a5a5u
 
@@ -138,120 +138,22 @@ static void try_traces(FILE *file)
     printf("vectors: %lu stores", (unsigned long)stores);
 }
 
-/* The command program of document 01, over a store of its own. */
-struct stream {
-    struct nimbleshale_store store;
-    const unsigned char *input;
-    size_t left;
-    unsigned char *output;
-    size_t written;
-};
-
-static uint32_t operand(const unsigned char *bytes, int count)
-{
-    return count == 0 ? 0 : bytes[0] + 256u * operand(bytes + 1, count - 1);
-}
-
-static void put_number(struct stream *stream, uint64_t number, int bytes)
-{
-    for (; bytes > 0; bytes--, number /= 256)
-        stream->output[stream->written++] = (unsigned char)(number % 256);
-}
-
-/* One command; 0 where nothing more is read. */
-static int run_command(struct stream *stream)
-{
-    static const size_t operands[4] = {0, 8, 8, 12};
-    const unsigned char *at = stream->input + 1;
-    struct nimbleshale_totals totals = {0, 0, 0};
-    uint32_t number = 0;
-    uint8_t refusal;
-    int kind = stream->input[0];
-    if (kind < 1 || kind > 3) {
-        put_number(stream, NIMBLESHALE_REFUSED_COMMAND, 1);
-        return 0;
-    }
-    if (stream->left - 1 < operands[kind]) {
-        put_number(stream, NIMBLESHALE_REFUSED_CUT_SHORT, 1);
-        return 0;
-    }
-    stream->input += 1 + operands[kind];
-    stream->left -= 1 + operands[kind];
-    if (kind == 1)
-        refusal = nimbleshale_store_start(&stream->store, operand(at, 4), operand(at + 4, 2), operand(at + 6, 2), &number);
-    else if (kind == 2)
-        refusal = nimbleshale_store_end(&stream->store, operand(at, 4), operand(at + 4, 4));
-    else
-        refusal = nimbleshale_store_question(&stream->store, operand(at, 2), operand(at + 2, 2), operand(at + 4, 4), operand(at + 8, 4), &totals);
-    put_number(stream, refusal, 1);
-    if (refusal != 0)
-        return 1;
-    if (kind == 1)
-        put_number(stream, number, 4);
-    if (kind == 3) {
-        put_number(stream, totals.count, 8);
-        put_number(stream, totals.sum, 8);
-        put_number(stream, totals.pages, 1);
-    }
-    return 1;
-}
-
-/* The bytes of a word in hexadecimal; "-" is none. */
-static size_t bytes_of(const char *text, unsigned char *bytes)
-{
-    size_t count = 0;
-    unsigned byte;
-    for (; sscanf(text, "%2x", &byte) == 1; text += 2)
-        bytes[count++] = (unsigned char)byte;
-    return count;
-}
-
 static void try_streams(FILE *file)
 {
     char *line = NULL;
     size_t room = 0, streams = 0, commands = 0;
-    ssize_t length;
-    while ((length = getline(&line, &room, file)) > 0) {
+    while (getline(&line, &room, file) > 0) {
+        struct vector vector = vector_of(line);
         struct stream stream;
-        unsigned char *input = malloc((size_t)length), *expected = malloc((size_t)length);
-        const char *name = strtok(line, " \n"), *in = strtok(NULL, " \n"), *out = strtok(NULL, " \n");
-        size_t wanted;
-        if (name == NULL || in == NULL || out == NULL || input == NULL || expected == NULL)
-            exit(2);
-        lend_store(&stream.store, NIMBLESHALE_TABLE_WORDS(12), 12, NIMBLESHALE_TABLE_WORDS(12), 12);
-        stream.input = input;
-        stream.left = bytes_of(in, input);
-        /* A command writes at most 18 bytes for its 13, so twice the input is room enough. */
-        stream.output = malloc(2 * stream.left + 2);
-        if (stream.output == NULL)
-            exit(2);
-        stream.written = 0;
-        wanted = bytes_of(out, expected);
-        judge(nimbleshale_store_open(&stream.store) == 0, name);
-        while (stream.left > 0) {
-            commands++;
-            if (!run_command(&stream))
-                break;
-        }
-        judge(stream.written == wanted && memcmp(stream.output, expected, wanted) == 0, name);
-        give_back_store(&stream.store);
-        free(stream.output);
-        free(input);
-        free(expected);
+        judge(run_stream(&stream, &vector), vector.name);
+        judge(stream.written == vector.wanted_length && memcmp(stream.output, vector.wanted, stream.written) == 0, vector.name);
+        commands += stream.commands;
+        give_back_stream(&stream);
+        free_vector(&vector);
         streams++;
     }
     free(line);
     printf(", %lu streams of %lu commands", (unsigned long)streams, (unsigned long)commands);
-}
-
-static FILE *opened(const char *name)
-{
-    FILE *file = fopen(name, "r");
-    if (file == NULL) {
-        perror(name);
-        exit(2);
-    }
-    return file;
 }
 
 int main(int count, char **names)

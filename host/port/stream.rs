@@ -1,0 +1,75 @@
+//! The command stream of document 01, "Commands", as much of it as has come in a packet.
+
+use crate::calls::{end, question, start, Totals};
+use crate::head::{Head, Lent};
+
+/// What a packet came to: how many bytes of its front were taken and how many bytes of answers written, and whether the run is over.
+#[derive(Clone, Copy, PartialEq, Eq, Debug)]
+pub struct Fed {
+    pub taken: usize,
+    pub written: usize,
+    pub over: bool,
+}
+
+/// Bytes of the longest answer, that to a question.
+const LONGEST_ANSWER: usize = 18;
+
+/// Runs the commands at the front of a packet, as long as an answer of any length has room and the command has come whole. Only where no byte
+/// comes behind the packet, which `ended` says, is a command that lacks bytes cut short.
+pub fn commands(head: &mut Head, mut lent: Lent, input: &[u8], ended: bool, out: &mut [u8]) -> Fed {
+    let (mut taken, mut written) = (0, 0);
+    while taken < input.len() {
+        let rest = &input[taken..];
+        let length = length_of(rest[0]).unwrap_or(1);
+        let waits_for_bytes = rest.len() < length && !ended;
+        if out.len() - written < LONGEST_ANSWER || waits_for_bytes {
+            return Fed { taken, written, over: false };
+        }
+        if length_of(rest[0]).is_none() {
+            out[written] = 6;
+            return Fed { taken: taken + 1, written: written + 1, over: true };
+        }
+        if rest.len() < length {
+            out[written] = 7;
+            return Fed { taken: input.len(), written: written + 1, over: true };
+        }
+        written += run(head, lent.lent_on(), &rest[..length], &mut out[written..]);
+        taken += length;
+    }
+    Fed { taken, written, over: ended }
+}
+
+/// How long a command is, by its first byte; nothing where the byte begins none.
+fn length_of(byte: u8) -> Option<usize> {
+    match byte {
+        1 | 2 => Some(9),
+        3 => Some(13),
+        _ => None,
+    }
+}
+
+/// Runs a whole command and writes its answer. Returns how many bytes that has.
+fn run(head: &mut Head, lent: Lent, command: &[u8], out: &mut [u8]) -> usize {
+    let two = |at: usize| u16::from_le_bytes([command[at], command[at + 1]]) as u32;
+    let four = |at: usize| two(at) | two(at + 2) << 16;
+    let (mut number, mut totals) = (0, Totals::default());
+    out[0] = match command[0] {
+        1 => start(head, lent, four(1), two(5), two(7), &mut number),
+        2 => end(head, lent, four(1), four(5)),
+        _ => question(head, lent.seen(), two(1), two(3), four(5), four(9), &mut totals),
+    };
+    match (out[0], command[0]) {
+        (0, 1) => {
+            out[1..5].copy_from_slice(&number.to_le_bytes());
+            5
+        }
+        (0, 3) => {
+            out[1..9].copy_from_slice(&totals.count.to_le_bytes());
+            out[9..17].copy_from_slice(&totals.sum.to_le_bytes());
+            // At most 16.
+            out[17] = totals.pages as u8;
+            18
+        }
+        _ => 1,
+    }
+}
