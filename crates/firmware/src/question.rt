@@ -43,18 +43,17 @@ pub extern "C" fn nimbleshale_question(
       let after : Told = record { count = now (count .exit); sum = now (sum .exit); pages = now (pages .exit) }
       ⌜ Tells (perform (storeIn handed) (question k1 k2 t1 t2) .answer) r before after ⌝ }
 {
-    let head = head_of(
-        last,
-        started,
-        count_open,
-        start_pages_used,
-        start_roots_used,
-        end_pages_used,
-        end_roots_used,
-        passes,
-    );
     let answer = queries::question(
-        head,
+        head_of(
+            last,
+            started,
+            count_open,
+            start_pages_used,
+            start_roots_used,
+            end_pages_used,
+            end_roots_used,
+            passes,
+        ),
         start_table,
         start_roots,
         end_table,

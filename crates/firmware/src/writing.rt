@@ -55,18 +55,17 @@ pub extern "C" fn nimbleshale_start(
       let before : Handed = record { fields = beforeFields; passes = now (passes .entry); lent = beforeLent }
       ⌜ now (number .exit) ≡ numberSaid (now (number .entry)) (valuesOf (perform (storeIn before) (start tick key weight) .answer)) ⌝ }
 {
-    let head = head_of(
-        *last,
-        *started,
-        *count_open,
-        *start_pages_used,
-        *start_roots_used,
-        *end_pages_used,
-        *end_roots_used,
-        passes,
-    );
     let reply = updates::start(
-        head,
+        head_of(
+            *last,
+            *started,
+            *count_open,
+            *start_pages_used,
+            *start_roots_used,
+            *end_pages_used,
+            *end_roots_used,
+            passes,
+        ),
         start_table,
         start_roots,
         end_table,
@@ -127,18 +126,17 @@ pub extern "C" fn nimbleshale_end(
       let after : Handed = record { fields = afterFields; passes = now (passes .exit); lent = afterLent }
       ⌜ Leaves (perform (storeIn before) (end tick number)) r before after ⌝ }
 {
-    let head = head_of(
-        *last,
-        *started,
-        *count_open,
-        *start_pages_used,
-        *start_roots_used,
-        *end_pages_used,
-        *end_roots_used,
-        passes,
-    );
     let reply = updates::end(
-        head,
+        head_of(
+            *last,
+            *started,
+            *count_open,
+            *start_pages_used,
+            *start_roots_used,
+            *end_pages_used,
+            *end_roots_used,
+            passes,
+        ),
         start_table,
         start_roots,
         end_table,
