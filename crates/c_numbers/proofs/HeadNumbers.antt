@@ -3,10 +3,10 @@ use Prim.Native.Nat.{ℕ, zero, suc, _+_, _*_, _≤_, _<_}
 use native.Mathlib.Omega.{arith}
 use mathlib.Core.Path.{_≡_, refl, ap, ap₂, sym, _∙_}
 use mathlib.Core.List.{List, [], _∷_, _++_, append-assoc, append-nil}
-use lib.ListN.{length, getD, set, take, drop, length-append}
-use lib.Seq.{take-suc, take-suc-set, take-all, length-take-le, drop-cons}
+use lib.ListN.{length, getD, set, take, drop, length-append, take-append-drop}
+use lib.Seq.{take-suc, take-suc-set, take-all, length-take-le, drop-cons, drop-append-seam}
 use Rattle.words.specs.Overwrite.{overwrite}
-use Rattle.words.proofs.OverwriteLaws.{overwrite-none, overwrite-sets, overwrite-more, overwrite-all}
+use Rattle.words.proofs.OverwriteLaws.{overwrite-none, overwrite-sets, overwrite-more}
 use Rattle.store.specs.declared.types.OpenPass.{OpenPass}
 use Rattle.store.specs.Head.{openLimit}
 use Rattle.c_numbers.specs.Heads.{numbersOfPass, passNumbers, passAt, passesFrom, passNumbersOf, numbersOf}
@@ -81,11 +81,6 @@ module _ (out : List ℕ) (passes : List OpenPass) (long : length passes ≡ ope
       ∙ sym (numbers-append (take place passes) (p ∷ []))
       ∙ ap numbersOf (sym (take-suc passes place d (omega arith)) ∙ ap (λ (n : ℕ). take n passes) (sym next)))
 
-  pub write-all : (now : List ℕ) → now ≡ overwrite out 0 (upTo openLimit) → now ≡ numbersOf passes
-  write-all now e =
-      e ∙ ap (λ (l : List OpenPass). overwrite out 0 (numbersOf l)) (take-all openLimit passes (omega arith))
-      ∙ overwrite-all out (numbersOf passes) (omega (arith, numbers-length passes))
-
 -- Numbers that are read as passes and written again are as before
 four-front : (ns : List ℕ) (at m : ℕ) → at + numbersOfPass ≤ length ns
     → take (numbersOfPass + m) (drop at ns) ≡ passNumbersOf (passAt ns at) ++ take m (drop (at + numbersOfPass) ns)
@@ -110,3 +105,22 @@ numbers-front ns (suc n) at h =
 
 pub numbers-back : (ns : List ℕ) → length ns ≡ passNumbers → numbersOf (passesFrom ns 0 openLimit) ≡ ns
 numbers-back ns long = numbers-front ns openLimit 0 (omega arith) ∙ take-all passNumbers ns (omega arith)
+
+-- Where the passes of the other places are those that the numbers have, writing those of the first places is writing them all
+pub others-kept : (ns : List ℕ) (passes : List OpenPass) (places : ℕ) → length ns ≡ passNumbers → length passes ≡ openLimit → places ≤ openLimit
+    → drop places passes ≡ drop places (passesFrom ns 0 openLimit)
+    → overwrite ns 0 (numbersOf (take places passes)) ≡ numbersOf passes
+unfolding overwrite
+others-kept ns passes places long full few same =
+    let old : List OpenPass = passesFrom ns 0 openLimit in
+    let front : List ℕ = numbersOf (take places passes) in
+    let size : length front ≡ numbersOfPass * places = omega (arith, numbers-length (take places passes), length-take-le places passes (omega (arith, full, few))) in
+    let behind : length (numbersOf (take places old)) ≡ length front =
+    omega (arith, numbers-length (take places old), length-take-le places old (omega (arith, passes-length ns 0 openLimit, few)), size) in
+    let from : 0 + length front ≡ length (numbersOf (take places old)) = omega (arith, behind) in
+    let whole : ns ≡ numbersOf (take places old) ++ numbersOf (drop places old) =
+    sym (numbers-back ns long) ∙ ap numbersOf (sym (take-append-drop places old)) ∙ numbers-append (take places old) (drop places old) in
+    ap (λ (l : List ℕ). front ++ drop (0 + length front) l) whole
+    ∙ ap (λ (n : ℕ). front ++ drop n (numbersOf (take places old) ++ numbersOf (drop places old))) from
+    ∙ ap (_++_ front) (drop-append-seam (numbersOf (take places old)) (numbersOf (drop places old)) ∙ ap numbersOf (sym same))
+    ∙ sym (ap numbersOf (sym (take-append-drop places passes)) ∙ numbers-append (take places passes) (drop places passes))

@@ -4,7 +4,8 @@ use store::OpenPass;
 use tree::TreeUse;
 ghost use mathlib.Core.Path.{_≡_};
 ghost use Prim.Native.Nat.{_+_, _≤_};
-ghost use lib.ListN.{length};
+ghost use lib.ListN.{length, take};
+ghost use Rattle.store.specs.Head.{openLimit};
 ghost use Rattle.words.specs.Overwrite.{overwrite};
 ghost use Rattle.tree.specs.declared.types.TreeUse.{TreeUse};
 ghost use Rattle.c_numbers.specs.Heads.{numbersOfPass, passNumbers, passNumbersOf, numbersOf, Fields, fieldsOf};
@@ -20,22 +21,25 @@ fn write_pass(numbers: &mut [u32], at: usize, pass: OpenPass)
     numbers[at + 3] = pass.start;
 }
 
-// Writes passes over the numbers.
-pub fn write_passes(numbers: &mut [u32], passes: [OpenPass; Head::PLACES])
+// Writes the passes of the first places over the numbers.
+fn write_passes(numbers: &mut [u32], head: Head, places: usize)
     requires { ⌜ length (now numbers) ≡ passNumbers ⌝ }
-    ensures { λ _. ⌜ now (numbers .exit) ≡ numbersOf passes ⌝ }
+    requires { ⌜ places ≤ openLimit ⌝ }
+    ensures { λ _. ⌜ now (numbers .exit) ≡ overwrite (now (numbers .entry)) 0 (numbersOf (take places (head .passes))) ⌝ }
 {
     let mut place: usize = 0;
-    while place < Head::PLACES {
-        let pass = passes[place];
+    while place < places {
+        let pass = head.passes[place];
         write_pass(numbers, OpenPass::NUMBERS * place, pass);
         place += 1;
     }
 }
 
-// Writes a head into its lent fields and the numbers of its open passes.
+// Writes a head into its lent fields, and its open passes into their numbers: those of so many places, since the caller knows which places a call may
+// have changed, and they are few.
 pub fn put_head(
     head: Head,
+    places: usize,
     last: &mut u32,
     started: &mut u32,
     count: &mut u32,
@@ -46,12 +50,13 @@ pub fn put_head(
     passes: &mut [u32],
 )
     requires { ⌜ length (now passes) ≡ passNumbers ⌝ }
+    requires { ⌜ places ≤ openLimit ⌝ }
     ensures { λ _. do
       let starts : TreeUse = record { pages = now («start_pages_used» .exit); roots = now («start_roots_used» .exit) }
       let ends : TreeUse = record { pages = now («end_pages_used» .exit); roots = now («end_roots_used» .exit) }
       let fields : Fields = record { last = now (last .exit); started = now (started .exit); count = now (count .exit); starts = starts; ends = ends }
       ⌜ fields ≡ fieldsOf head ⌝ }
-    ensures { λ _. ⌜ now (passes .exit) ≡ numbersOf (head .passes) ⌝ }
+    ensures { λ _. ⌜ now (passes .exit) ≡ overwrite (now (passes .entry)) 0 (numbersOf (take places (head .passes))) ⌝ }
 {
     *last = head.last;
     *started = head.started;
@@ -62,6 +67,5 @@ pub fn put_head(
     let ends = head.ends;
     *end_pages_used = ends.pages;
     *end_roots_used = ends.roots;
-    let open = head.passes;
-    write_passes(passes, open);
+    write_passes(passes, head, places);
 }

@@ -1,13 +1,15 @@
 -- Exported calls: what they say and leave, from what the calls of the store hand back.
-use Prim.Native.Nat.{ℕ, zero, suc}
+use Prim.Native.Nat.{ℕ, zero, suc, _≤_}
 use native.Mathlib.Omega.{arith}
 use mathlib.Core.Path.{_≡_, refl, ap, sym, subst, _∙_}
 use mathlib.Core.List.{List}
-use lib.ListN.{length}
+use lib.ListN.{length, take, drop}
 use Rattle.store.specs.declared.types.Head.{Head}
 use Rattle.store.specs.declared.types.Answer.{Answer}
 use Rattle.store.specs.declared.types.Answer.the-variants.{Refused, Opened, Started, Ended, Totals}
+use Rattle.words.specs.Overwrite.{overwrite}
 use Rattle.store.specs.Trees.{Lent, Store}
+use Rattle.store.specs.Head.{openLimit}
 use Rattle.store.specs.Answers.{refusalOf, valuesOf, Answered, unlessRefused}
 use Rattle.store.specs.Calls.{Call}
 use Rattle.store.specs.Performing.{refusal, served, perform}
@@ -17,7 +19,7 @@ use Rattle.updates.specs.Replies.{RepliedAs}
 use Rattle.c_numbers.specs.Heads.{Fields, passNumbers, headOf, fieldsOf, numbersOf}
 use Rattle.c_numbers.specs.Said.{numberSaid, Told, Tells}
 use Rattle.firmware.specs.Exported.{Handed, storeIn, handedBack, Leaves}
-use Rattle.c_numbers.proofs.HeadNumbers.{numbers-back}
+use Rattle.c_numbers.proofs.HeadNumbers.{numbers-back, others-kept}
 
 -- A reading call of the head that the numbers make
 pub told : {a b : Answer} {r : ℕ} {before after : Told} → a ≡ b → Tells a r before after → Tells b r before after
@@ -31,6 +33,12 @@ unchanged (suc n) s done e some = refl
 
 call-unchanged : (s : Store) (c : Call) → (refusalOf (perform s c .answer) ≡ 0 → ⊥) → perform s c .store ≡ s
 call-unchanged s c = unchanged (refusal s c) s (served s c) (served-answers s c)
+
+-- A call leaves the passes from a place on as they were
+pub record KeepsFrom (places : ℕ) (before after : Head) : Type 0 where
+  pub full : length (after .passes) ≡ openLimit
+  pub few : places ≤ openLimit
+  pub rest : drop places (after .passes) ≡ drop places (before .passes)
 
 module _ (c : Call) (before : Handed) (long : length (before .passes) ≡ passNumbers) {head : Head} (of-head : head ≡ headOf (before .fields) (before .passes))
     {reply : Reply} {lent : Lent} (replied : RepliedAs (perform (record { head = head; lent = before .lent }) c) reply lent) where
@@ -56,12 +64,17 @@ module _ (c : Call) (before : Handed) (long : length (before .passes) ≡ passNu
       λ i. record { fields = before .fields; passes = before .passes; lent = same i } in
       record { refusal = said r e; left = kept ∙ sym (ap handedBack stays ∙ back); kept = λ n. kept }
 
-  -- Done: the head that the call handed back was written
+  -- Done: the head that the call handed back was written, its passes as far as the call may have changed them
   pub leaves-done : {r : ℕ} → r ≡ refusalOf (reply .answer) → r ≡ 0 → {fields : Fields} {passes : List ℕ} → fields ≡ fieldsOf (reply .head)
-      → passes ≡ numbersOf (reply .head .passes) → Leaves a 0 before (record { fields = fields; passes = passes; lent = lent })
-  leaves-done {r} e none fs ps =
+      → (places : ℕ) → KeepsFrom places (storeIn before .head) (a .store .head)
+      → passes ≡ overwrite (before .passes) 0 (numbersOf (take places (reply .head .passes)))
+      → Leaves a 0 before (record { fields = fields; passes = passes; lent = lent })
+  leaves-done {r} e none fs places kept ps =
       let fields-are = fs ∙ ap fieldsOf (is .head) in
-      let passes-are = ps ∙ ap (λ (h : Head). numbersOf (h .passes)) (is .head) in
+      let passes-are =
+      ps
+      ∙ ap (λ (h : Head). overwrite (before .passes) 0 (numbersOf (take places (h .passes)))) (is .head)
+      ∙ others-kept (before .passes) (a .store .head .passes) places long (kept .full) (kept .few) (kept .rest) in
       let lent-is = is .lent-is in
       record {
         refusal = sym none ∙ said r e;

@@ -1,4 +1,5 @@
 -- Laws of the exported calls.
 pub mod ExportedLaws
 pub mod ExportedLists
+pub mod KeptPlaces
 pub mod PacketLaws

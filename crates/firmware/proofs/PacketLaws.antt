@@ -4,10 +4,11 @@ use mathlib.Core.Path.{_≡_, refl, ap, subst, _∙_}
 use mathlib.Core.Bool.{Bool, true, false, cond}
 use mir.Val.{boolByte}
 use mathlib.Core.List.{List, [], _∷_, _++_}
-use lib.ListN.{length}
+use lib.ListN.{length, take}
 use lib.Dec.{ltb}
 use Rattle.store.specs.declared.types.Head.{Head}
 use Rattle.store.specs.Trees.{Lent, Store}
+use Rattle.words.specs.Overwrite.{overwrite}
 use Rattle.store.specs.Head.{openLimit}
 use Rattle.store.specs.Performing.{perform}
 use Rattle.command.specs.Stream.{Kind, unknown, command, kindOf, cutShort, stops, answers, runKind}
@@ -16,35 +17,17 @@ use Rattle.command.specs.Pieces.{takesNothing, runPiece, Piece, Feed, handedOve
 use Rattle.command.proofs.PieceSteps.{each-piece}
 use Rattle.interpret.specs.declared.pieces.Fed.{Fed}
 use Rattle.interpret.specs.Runs.{FedAs}
-use Rattle.c_numbers.specs.Heads.{Fields, headOf, fieldsOf, numbersOf}
+use Rattle.c_numbers.specs.Heads.{Fields, passNumbers, headOf, fieldsOf, numbersOf}
+use Rattle.c_numbers.proofs.HeadNumbers.{passes-length, others-kept}
 use Rattle.firmware.specs.Exported.{Handed, storeIn, handedBack}
 use Rattle.firmware.specs.Packets.{Packet, LeavesOf, handedOn, exportPackets}
 use Rattle.firmware.proofs.ExportedLists.{store-back, places-stay}
+use Rattle.firmware.proofs.KeptPlaces.{all-places}
 
 -- A truth value as a byte
 pub as-byte : (b : Bool) → boolByte b ≡ cond b 1 0
 as-byte true = refl
 as-byte false = refl
-
-module _ (room : ℕ) (ended : Bool) (before : Handed) (input : List ℕ) {head : Head} (of-head : head ≡ headOf (before .fields) (before .passes)) {r : Fed} {out out′ : List ℕ}
-    {lent : Lent} (fed : FedAs (runPiece room ended (record { head = head; lent = before .lent }) input) r out out′ lent) where
-  is : FedAs (runPiece room ended (storeIn before) input) r out out′ lent
-  is = subst (λ (h : Head). FedAs (runPiece room ended (record { head = h; lent = before .lent }) input) r out out′ lent) of-head fed
-
-  pub packet-leaves : {over : ℕ} → over ≡ cond (r .over) 1 0 → {fields : Fields} {passes : List ℕ} → fields ≡ fieldsOf (r .head) → passes ≡ numbersOf (r .head .passes)
-      → LeavesOf (runPiece room ended (storeIn before) input) (record { over = over; taken = r .taken; written = r .written; out = out′ }) out
-      (record { fields = fields; passes = passes; lent = lent })
-  packet-leaves e fs ps =
-      let fields-are = fs ∙ ap fieldsOf (is .head) in
-      let passes-are = ps ∙ ap (λ (h : Head). numbersOf (h .passes)) (is .head) in
-      let lent-is = is .lent-is in
-      record {
-        over = e ∙ ap (λ (x : Bool). cond x 1 0) (is .over);
-        taken = is .taken;
-        written = is .size;
-        output = is .output;
-        left = λ i. record { fields = fields-are i; passes = passes-are i; lent = lent-is i };
-      }
 
 -- Every packet leaves a head with as many places
 abbrev Places : Store → Type 0
@@ -65,6 +48,33 @@ packet-places =
     (λ room ended s b bytes w long. long)
     (λ room ended s b bytes w o long. command-places s long bytes (kindOf b))
     (λ room ended s b bytes f w o h long. h (command-places s long bytes (kindOf b)))
+
+module _ (room : ℕ) (ended : Bool) (before : Handed) (input : List ℕ) {head : Head} (of-head : head ≡ headOf (before .fields) (before .passes)) {r : Fed} {out out′ : List ℕ}
+    {lent : Lent} (fed : FedAs (runPiece room ended (record { head = head; lent = before .lent }) input) r out out′ lent) where
+  is : FedAs (runPiece room ended (storeIn before) input) r out out′ lent
+  is = subst (λ (h : Head). FedAs (runPiece room ended (record { head = h; lent = before .lent }) input) r out out′ lent) of-head fed
+
+  pub packet-leaves : length (before .passes) ≡ passNumbers → {over : ℕ} → over ≡ cond (r .over) 1 0 → {fields : Fields} {passes : List ℕ} → fields ≡ fieldsOf (r .head)
+      → passes ≡ overwrite (before .passes) 0 (numbersOf (take openLimit (r .head .passes)))
+      → LeavesOf (runPiece room ended (storeIn before) input) (record { over = over; taken = r .taken; written = r .written; out = out′ }) out
+      (record { fields = fields; passes = passes; lent = lent })
+  packet-leaves long e fs ps =
+      let old = passes-length (before .passes) 0 openLimit in
+      let new = packet-places room ended (storeIn before) input old in
+      let kept = all-places (storeIn before .head) (runPiece room ended (storeIn before) input .store .head) old new in
+      let fields-are = fs ∙ ap fieldsOf (is .head) in
+      let passes-are =
+      ps
+      ∙ ap (λ (h : Head). overwrite (before .passes) 0 (numbersOf (take openLimit (h .passes)))) (is .head)
+      ∙ others-kept (before .passes) (runPiece room ended (storeIn before) input .store .head .passes) openLimit long new (kept .few) (kept .rest) in
+      let lent-is = is .lent-is in
+      record {
+        over = e ∙ ap (λ (x : Bool). cond x 1 0) (is .over);
+        taken = is .taken;
+        written = is .size;
+        output = is .output;
+        left = λ i. record { fields = fields-are i; passes = passes-are i; lent = lent-is i };
+      }
 
 fed-places : (f : Feed) (p : Piece) → Places (f .store) → Places (feedAfter f p .store)
 fed-places f p long = go (f .over)

@@ -75,6 +75,7 @@ pub extern "C" fn nimbleshale_commands(
     let after = fed.head;
     put_head(
         after,
+        Head::PLACES,
         last,
         started,
         count_open,

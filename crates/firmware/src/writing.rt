@@ -83,6 +83,7 @@ pub extern "C" fn nimbleshale_start(
     *number = number_of(answer, *number);
     put_head(
         after,
+        after.count as usize,
         last,
         started,
         count_open,
@@ -152,6 +153,7 @@ pub extern "C" fn nimbleshale_end(
     let after = reply.head;
     put_head(
         after,
+        after.count as usize + 1,
         last,
         started,
         count_open,
@@ -212,6 +214,7 @@ pub extern "C" fn nimbleshale_open(
     let after = reply.head;
     put_head(
         after,
+        Head::PLACES,
         last,
         started,
         count_open,

@@ -4,7 +4,7 @@ use native.Mathlib.Omega.{arith}
 use mathlib.Core.Path.{_≡_, refl, ap, ap₂, sym, _∙_}
 use mathlib.Core.List.{List, [], _∷_, _++_}
 use lib.ListN.{length, take, drop, set, length-append, length-take, length-drop}
-use lib.Seq.{length-take-le, take-suc-set, take-take, take-add, take-append-add, take-append-seam, drop-append-seam}
+use lib.Seq.{length-take-le, take-suc-set, take-take, take-add, take-append-add, take-append-seam, drop-append-seam, drop-append-add}
 use Rattle.store.specs.declared.types.OpenPass.{OpenPass}
 use Rattle.store.specs.Head.{noPass}
 use Rattle.store.specs.Writing.{closedUp}
@@ -54,3 +54,13 @@ module _ (passes : List OpenPass) (at count : ℕ) (inside : at < count) (fits :
       (length (take (count - (at + 1)) (drop (at + 1) passes)))
       ∙ ap₂ _++_ (sym (take-take at count passes (omega arith)))
       (take-append-seam (take (count - (at + 1)) (drop (at + 1) passes)) (noPass ∷ drop count passes) ∙ sym behind)
+
+  -- The places from the count on are as they were
+  pub closed-rest : drop count (closedUp passes at count) ≡ drop count passes
+  closed-rest =
+      let front : List OpenPass = take at passes in
+      let back : List OpenPass = take (count - (at + 1)) (drop (at + 1) passes) in
+      let size : count ≡ length front + (length back + 1) = omega (arith, front-length, back-length) in
+      ap (λ (n : ℕ). drop n (closedUp passes at count)) size
+      ∙ drop-append-add front (back ++ (noPass ∷ drop count passes)) (length back + 1)
+      ∙ drop-append-add back (noPass ∷ drop count passes) 1

@@ -1,35 +1,34 @@
 use Prim.Native.Nat.{ℕ, _+_, _-_, _*_, _≤_, _<_}
 use native.Mathlib.Omega.{arith}
 use mathlib.Core.Path.{_≡_, ap, sym, _∙_}
-use mathlib.Core.List.{List}
 use lib.ListN.{length, take}
 use Rattle.words.specs.Overwrite.{overwrite}
 use Rattle.tree.proofs.Lists.{length-mapped}
 use Rattle.store.specs.Head.{openLimit}
 use Rattle.c_numbers.specs.Heads.{passNumbers, numbersOf}
-use Rattle.c_numbers.proofs.HeadNumbers.{write-none, write-more, write-all}
+use Rattle.c_numbers.proofs.HeadNumbers.{write-none, write-more}
 use borrow.Author.Needs.{needs}
 use Rattle.c_numbers.proofs.head_written.write_passes.Statement.{statement}
 use Rattle.c_numbers.proofs.head_written.write_passes.Tie as tie
 
 abbrev Inv-loop : tie.InvT-loop
-Inv-loop numbers₀ passes place₀ numbers place =
-    (place ≤ openLimit) × (length numbers ≡ passNumbers) × (numbers ≡ overwrite numbers₀ 0 (numbersOf (take place passes)))
+Inv-loop numbers₀ places head place₀ numbers place =
+    (place ≤ places) × (length numbers ≡ passNumbers) × (numbers ≡ overwrite numbers₀ 0 (numbersOf (take place (head .passes))))
 
 abbrev μ-loop : tie.MeasureT-loop
-μ-loop numbers₀ passes place₀ numbers place = openLimit - place
+μ-loop numbers₀ places head place₀ numbers place = places - place
 
 loop-holds : tie.Need-loop-holds Inv-loop μ-loop
 loop-holds c =
     let a = c .before .args in
-    let long : length (a .t2) ≡ openLimit = search (needs, length-mapped) in
-    (search needs, search needs, write-none (a .numbers .now) (a .t2) long (c .before .pre))
+    let long : length (a .t2 .passes) ≡ openLimit = search (needs, length-mapped) in
+    (search needs, search needs, write-none (a .numbers .now) (a .t2 .passes) long (c .before .pre .0))
 
 mul-pass : tie.Need-mul-pass Inv-loop μ-loop
 mul-pass c = search needs
 
-array-copy-out-pass : tie.Need-array-copy-out-pass Inv-loop μ-loop
-array-copy-out-pass c = search needs
+element-copy-out-pass : tie.Need-element-copy-out-pass Inv-loop μ-loop
+element-copy-out-pass c = search needs
 
 mul-write-pass : tie.Need-mul-write-pass Inv-loop μ-loop
 mul-write-pass c = search needs
@@ -47,11 +46,11 @@ loop-again : tie.Need-loop-again Inv-loop μ-loop
 loop-again c =
     let a = c .before .before .before .before .before .before .before .before .args in
     let l = c .before .before .before .before .before .before .loop in
-    let long : length (a .t2) ≡ openLimit = search (needs, length-mapped) in (
+    let long : length (a .t2 .passes) ≡ openLimit = search (needs, length-mapped) in (
       search needs,
       search needs,
       rw (c .before .before .write-pass .ensures, l .inv .2)
-          (write-more (a .numbers .now) (a .t2) long (c .before .before .before .before .before .before .before .before .pre) _ (l .place) (omega arith)),
+          (write-more (a .numbers .now) (a .t2 .passes) long (c .before .before .before .before .before .before .before .before .pre .0) _ (l .place) (omega (arith, c .before .before .before .before .before .before .before .before .pre .1, c .before .before .before .before .before .loop-test .taken))),
     )
 
 same-length : tie.Need-same-length Inv-loop μ-loop
@@ -61,10 +60,8 @@ returns : tie.Need-returns Inv-loop μ-loop
 returns c =
     let a = c .before .before .before .args in
     let l = c .before .loop in
-    let long : length (a .t2) ≡ openLimit = search (needs, length-mapped) in
-    let done : l .place ≡ openLimit = omega (arith, l .inv .0, c .loop-test .left) in
-    write-all (a .numbers .now) (a .t2) long (c .before .before .before .pre) (l .numbers)
-    (l .inv .2 ∙ ap (λ (n : ℕ). overwrite (a .numbers .now) 0 (numbersOf (take n (a .t2)))) done)
+    let done : l .place ≡ a .places = omega (arith, l .inv .0, c .loop-test .left) in
+    l .inv .2 ∙ ap (λ (n : ℕ). overwrite (a .numbers .now) 0 (numbersOf (take n (a .t2 .passes)))) done
 
 pub write-passes-spec : {M : Type 1} → statement M
 write-passes-spec =
@@ -74,7 +71,7 @@ write-passes-spec =
     μ-loop
     loop-holds
     mul-pass
-    array-copy-out-pass
+    element-copy-out-pass
     mul-write-pass
     write-pass-requires
     add-place

@@ -1,7 +1,9 @@
+use mathlib.Core.Path.{_≡_}
 use mathlib.Core.Bool.{not}
 use lib.ListN.{length}
 use lib.Dec.{eqb}
 use Rattle.store.specs.Trees.{lentOf}
+use Rattle.c_numbers.specs.Heads.{passNumbers}
 use Rattle.firmware.specs.Exported.{Handed}
 use Rattle.firmware.proofs.PacketLaws.{as-byte, packet-leaves}
 use borrow.Author.Needs.{needs}
@@ -51,7 +53,8 @@ returns c =
       passes = a .passes .now;
       lent = lentOf (a .start-table .now) (a .start-roots .now) (a .end-table .now) (a .end-roots .now);
     } in
-    packet-leaves (length (a .out .now)) (not (eqb (a .ended) 0)) before (a .input .now) (c .before .before .before .before .before .before .before .before .before .before .before .before .before .before .before .before .before .before .before .before .before .before .before .before .before .before .before .head-of .ensures) (c .before .before .before .before .before .before .before .before .before .before .before .before .before .before .before .before .before .before .before .before .before .run-piece .ensures) (as-byte (c .before .before .before .before .before .before .before .before .before .before .before .before .before .before .before .before .before .before .before .before .before .run-piece .result .over)) (c .before .put-head .ensures .0) (c .before .put-head .ensures .1)
+    let long : length (a .passes .now) ≡ passNumbers = search needs in
+    packet-leaves (length (a .out .now)) (not (eqb (a .ended) 0)) before (a .input .now) (c .before .before .before .before .before .before .before .before .before .before .before .before .before .before .before .before .before .before .before .before .before .before .before .before .before .before .before .head-of .ensures) (c .before .before .before .before .before .before .before .before .before .before .before .before .before .before .before .before .before .before .before .before .before .run-piece .ensures) long (as-byte (c .before .before .before .before .before .before .before .before .before .before .before .before .before .before .before .before .before .before .before .before .before .run-piece .result .over)) (c .before .put-head .ensures .0) (c .before .put-head .ensures .1)
 
 pub nimbleshale-commands-spec : {M : Type 1} → statement M
 nimbleshale-commands-spec =

@@ -1,9 +1,11 @@
+use Prim.Native.Nat.{_+_}
 use mathlib.Core.Path.{_≡_}
 use lib.ListN.{length}
 use Rattle.store.specs.Trees.{lentOf}
 use Rattle.store.specs.Calls.{end}
 use Rattle.c_numbers.specs.Heads.{passNumbers}
 use Rattle.firmware.specs.Exported.{Handed}
+use Rattle.firmware.proofs.KeptPlaces.{after-end}
 use Rattle.firmware.proofs.ExportedLaws.{leaves-refused, leaves-done}
 use borrow.Author.Needs.{needs}
 use Rattle.firmware.proofs.writing.nimbleshale_end.Statement.{statement}
@@ -43,17 +45,14 @@ returns c =
     let long : length (a .passes .now) ≡ passNumbers = search needs in
     leaves-refused (end (a .tick) (a .number)) before long (c .before .before .before .before .before .before .before .before .before .head-of .ensures) (c .before .before .before .before .before .before .end .ensures) (c .before .refusal-of .ensures) (c .if1 .taken)
 
+cast-put-head : tie.Need-cast-put-head
+cast-put-head c = search needs
+
+add-put-head : tie.Need-add-put-head
+add-put-head c = search needs
+
 put-head-requires : tie.Need-put-head-requires
-put-head-requires c κs = search needs
-
-same-length-3 : tie.Need-same-length-3
-same-length-3 c = search needs
-
-same-length-4 : tie.Need-same-length-4
-same-length-4 c = search needs
-
-returns-2 : tie.Need-returns-2
-returns-2 c =
+put-head-requires c κs =
     let a = c .before .before .before .before .before .before .before .before .before .before .before .before .before .before .before .before .before .before .before .before .before .before .before .before .before .before .before .before .before .before .before .before .before .args in
     let before : Handed =
     record {
@@ -69,7 +68,33 @@ returns-2 c =
       lent = lentOf (a .start-table .now) (a .start-roots .now) (a .end-table .now) (a .end-roots .now);
     } in
     let long : length (a .passes .now) ≡ passNumbers = search needs in
-    leaves-done (end (a .tick) (a .number)) before long (c .before .before .before .before .before .before .before .before .before .before .before .before .before .before .before .before .before .before .before .head-of .ensures) (c .before .before .before .before .before .before .before .before .before .before .before .before .before .before .before .before .end .ensures) (c .before .before .before .before .before .before .before .before .before .before .before .refusal-of .ensures) (c .before .before .before .before .before .before .before .before .before .before .if1 .left) (c .put-head .ensures .0) (c .put-head .ensures .1)
+    let kept = after-end before long (c .before .before .before .before .before .before .before .before .before .before .before .before .before .before .before .before .before .before .before .head-of .ensures) (a .tick) (a .number) (c .before .before .before .before .before .before .before .before .before .before .before .before .before .before .before .before .end .ensures) (c .before .before .before .before .before .before .before .before .before .before .before .refusal-of .ensures) (c .before .before .before .before .before .before .before .before .before .before .if1 .left) in
+    (long, kept .few)
+
+same-length-3 : tie.Need-same-length-3
+same-length-3 c = search needs
+
+same-length-4 : tie.Need-same-length-4
+same-length-4 c = search needs
+
+returns-2 : tie.Need-returns-2
+returns-2 c =
+    let a = c .before .before .before .before .before .before .before .before .before .before .before .before .before .before .before .before .before .before .before .before .before .before .before .before .before .before .before .before .before .before .before .before .before .before .args in
+    let before : Handed =
+    record {
+      fields =
+          record {
+            last = a .last .now;
+            started = a .started .now;
+            count = a .count-open .now;
+            starts = record { pages = a .start-pages-used .now; roots = a .start-roots-used .now };
+            ends = record { pages = a .end-pages-used .now; roots = a .end-roots-used .now };
+          };
+      passes = a .passes .now;
+      lent = lentOf (a .start-table .now) (a .start-roots .now) (a .end-table .now) (a .end-roots .now);
+    } in
+    let long : length (a .passes .now) ≡ passNumbers = search needs in
+    leaves-done (end (a .tick) (a .number)) before long (c .before .before .before .before .before .before .before .before .before .before .before .before .before .before .before .before .before .before .before .before .head-of .ensures) (c .before .before .before .before .before .before .before .before .before .before .before .before .before .before .before .before .before .end .ensures) (c .before .before .before .before .before .before .before .before .before .before .before .before .refusal-of .ensures) (c .before .before .before .before .before .before .before .before .before .before .before .if1 .left) (c .put-head .ensures .0) (c .before .before .before .before .before .before .before .before .before .before .before .before .before .before .before .before .before .end .result .head .count + 1) (after-end before long (c .before .before .before .before .before .before .before .before .before .before .before .before .before .before .before .before .before .before .before .before .head-of .ensures) (a .tick) (a .number) (c .before .before .before .before .before .before .before .before .before .before .before .before .before .before .before .before .before .end .ensures) (c .before .before .before .before .before .before .before .before .before .before .before .before .refusal-of .ensures) (c .before .before .before .before .before .before .before .before .before .before .before .if1 .left)) (c .put-head .ensures .1)
 
 pub nimbleshale-end-spec : {M : Type 1} → statement M
 nimbleshale-end-spec =
@@ -81,6 +106,8 @@ nimbleshale-end-spec =
     same-length
     same-length-2
     returns
+    cast-put-head
+    add-put-head
     put-head-requires
     same-length-3
     same-length-4

@@ -1,9 +1,11 @@
 use mathlib.Core.Path.{_≡_}
 use lib.ListN.{length}
 use Rattle.store.specs.Trees.{lentOf}
+use Rattle.store.specs.Head.{openLimit}
 use Rattle.store.specs.Calls.{opening}
 use Rattle.c_numbers.specs.Heads.{passNumbers}
 use Rattle.firmware.specs.Exported.{Handed}
+use Rattle.firmware.proofs.KeptPlaces.{after-opening}
 use Rattle.firmware.proofs.ExportedLaws.{leaves-refused, leaves-done}
 use borrow.Author.Needs.{needs}
 use Rattle.firmware.proofs.writing.nimbleshale_open.Statement.{statement}
@@ -50,7 +52,24 @@ returns c =
     leaves-refused opening before long (c .before .before .before .before .before .before .before .before .before .before .before .before .before .before .before .head-of .ensures) (c .before .before .before .before .before .before .before .before .before .before .open .ensures) (c .before .refusal-of .ensures) (c .if1 .taken)
 
 put-head-requires : tie.Need-put-head-requires
-put-head-requires c κs = search needs
+put-head-requires c κs =
+    let a = c .before .before .before .before .before .before .before .before .before .before .before .before .before .before .before .before .before .before .before .before .before .before .before .before .before .before .before .before .before .before .before .before .before .before .before .before .before .before .args in
+    let before : Handed =
+    record {
+      fields =
+          record {
+            last = a .last .now;
+            started = a .started .now;
+            count = a .count-open .now;
+            starts = record { pages = a .start-pages-used .now; roots = a .start-roots-used .now };
+            ends = record { pages = a .end-pages-used .now; roots = a .end-roots-used .now };
+          };
+      passes = a .passes .now;
+      lent = lentOf (a .start-table .now) (a .start-roots .now) (a .end-table .now) (a .end-roots .now);
+    } in
+    let long : length (a .passes .now) ≡ passNumbers = search needs in
+    let kept = after-opening before in
+    (long, kept .few)
 
 same-length-5 : tie.Need-same-length-5
 same-length-5 c = search needs
@@ -81,7 +100,7 @@ returns-2 c =
       lent = lentOf (a .start-table .now) (a .start-roots .now) (a .end-table .now) (a .end-roots .now);
     } in
     let long : length (a .passes .now) ≡ passNumbers = search needs in
-    leaves-done opening before long (c .before .before .before .before .before .before .before .before .before .before .before .before .before .before .before .before .before .before .before .before .before .before .before .before .before .head-of .ensures) (c .before .before .before .before .before .before .before .before .before .before .before .before .before .before .before .before .before .before .before .before .open .ensures) (c .before .before .before .before .before .before .before .before .before .before .before .refusal-of .ensures) (c .before .before .before .before .before .before .before .before .before .before .if1 .left) (c .put-head .ensures .0) (c .put-head .ensures .1)
+    leaves-done opening before long (c .before .before .before .before .before .before .before .before .before .before .before .before .before .before .before .before .before .before .before .before .before .before .before .before .before .head-of .ensures) (c .before .before .before .before .before .before .before .before .before .before .before .before .before .before .before .before .before .before .before .before .«open» .ensures) (c .before .before .before .before .before .before .before .before .before .before .before .refusal-of .ensures) (c .before .before .before .before .before .before .before .before .before .before .if1 .left) (c .put-head .ensures .0) openLimit (after-opening before) (c .put-head .ensures .1)
 
 pub nimbleshale-open-spec : {M : Type 1} → statement M
 nimbleshale-open-spec =
