@@ -26,13 +26,13 @@ use Rattle.tree.specs.declared.types.Child.{Child}
 use Rattle.tree.specs.declared.types.Became.{Became}
 use Rattle.tree.specs.declared.types.Became.the-variants.{Stays, Copied, Halved}
 use Rattle.tree.specs.Use.{inUse, takenPage, useAfter}
-use Rattle.tree.specs.Taking.{InUse}
+use Rattle.tree.specs.Taking.{InUse, rootless}
 use Rattle.tree.specs.Overflow.{Written, finishPage}
 use Rattle.tree.specs.Enter.{Entered, enterAbove, enterBelow, enterFrom, withRoot, enteredAs, enterRoot}
 use Rattle.tree.specs.Plan.{soundBelow, descentSound, topMustSplit, planRoot, plan, enteredRoot, enter}
 use Rattle.tree.specs.Limits.{mostMade}
 use Rattle.split.specs.declared.done.Done.{Done}
-use Rattle.enter.specs.EnterWords.{useOf, CanEnter, DoneAs}
+use Rattle.enter.specs.EnterWords.{CanEnter, DoneAs}
 use Rattle.tree.proofs.MostMade.{made-at-most}
 use Rattle.tree.proofs.UseLaws.{has-used, fewer, taken-inside}
 use Rattle.roots.specs.declared.top.Top.the-variants as top
@@ -177,7 +177,7 @@ module _ (tree : Tree) (p : Point) (pl : Planned tree p) where
   change-all : enteredAs tree (p .tick) level so (so .became) .root ≡ pl .change
   change-all = ap (λ (e : Entered). e .root) (sym entered) ∙ facts .change-is
 
-  pub so-same : enterFrom (useOf (tree .table) (tree .used)) p level rootPage ≡ so
+  pub so-same : enterFrom (rootless (tree .table) (tree .used)) p level rootPage ≡ so
   unfolding so
   so-same = enter-roots (tree .table) [] (tree .roots) (tree .used) p level rootPage
 
@@ -185,7 +185,7 @@ module _ (tree : Tree) (p : Point) (pl : Planned tree p) where
   pub in-table : tree .used .pages * pageWords ≤ length (tree .table)
   in-table = has-used (tree .used) (pl .made) (tree .table) (pl .room)
 
-  pub can-enter : CanEnter (useOf (tree .table) (tree .used)) p level rootPage
+  pub can-enter : CanEnter (rootless (tree .table) (tree .used)) p level rootPage
   unfolding level
   can-enter =
       record {
@@ -204,12 +204,12 @@ module _ (tree : Tree) (p : Point) (pl : Planned tree p) where
   unfolding level
   level-same q l e is = ap (levelOf (tree .table)) (root-same q e) ∙ is
 
-  pub can-enter-at : (q l : ℕ) → rootAt tree (p .tick) ≡ At q → levelOf (tree .table) q ≡ l → CanEnter (useOf (tree .table) (tree .used)) p l q
+  pub can-enter-at : (q l : ℕ) → rootAt tree (p .tick) ≡ At q → levelOf (tree .table) q ≡ l → CanEnter (rootless (tree .table) (tree .used)) p l q
   can-enter-at q l e is = rw (← level-same q l e is, ← root-same q e) can-enter
 
   pub done-at : (q l : ℕ) → rootAt tree (p .tick) ≡ At q → levelOf (tree .table) q ≡ l → (done : Done) (now : List ℕ) →
-      DoneAs (enterFrom (useOf (tree .table) (tree .used)) p l q) now done →
-      DoneAs (enterFrom (useOf (tree .table) (tree .used)) p level rootPage) now done
+      DoneAs (enterFrom (rootless (tree .table) (tree .used)) p l q) now done →
+      DoneAs (enterFrom (rootless (tree .table) (tree .used)) p level rootPage) now done
   done-at q l e is done now so = rw (← level-same q l e is, ← root-same q e) at so
 
   pub low-level : level ≤ topLevel
@@ -217,13 +217,13 @@ module _ (tree : Tree) (p : Point) (pl : Planned tree p) where
   low-level = facts .low-level
 
   pub same-size : p .tick < 4294967296 → p .key < 65536 → (done : Done) (now : List ℕ) →
-      DoneAs (enterFrom (useOf (tree .table) (tree .used)) p level rootPage) now done → length now ≡ length (tree .table)
+      DoneAs (enterFrom (rootless (tree .table) (tree .used)) p level rootPage) now done → length now ≡ length (tree .table)
   same-size small narrow done now is =
-      let e = enter-facts (useOf (tree .table) (tree .used)) p small narrow in-table (pl .takes) level (can-enter .sound .0) (can-enter .sound .1 .0) rootPage (can-enter .sound .1 .1) (can-enter .room) in
+      let e = enter-facts (rootless (tree .table) (tree .used)) p small narrow in-table (pl .takes) level (can-enter .sound .0) (can-enter .sound .1 .0) rootPage (can-enter .sound .1 .1) (can-enter .room) in
       ap length (is .table-is) ∙ e .same-length
 
   -- what came back from the root page
-  module _ (done : Done) (now : List ℕ) (is : DoneAs (enterFrom (useOf (tree .table) (tree .used)) p level rootPage) now done) where
+  module _ (done : Done) (now : List ℕ) (is : DoneAs (enterFrom (rootless (tree .table) (tree .used)) p level rootPage) now done) where
     now-is : now ≡ so .table
     now-is = is .table-is ∙ ap (λ (w : Written). w .table) so-same
 

@@ -20,7 +20,8 @@ use Rattle.tree.specs.declared.types.TreeUse.{TreeUse}
 use Rattle.tree.specs.Tree.{Tree, pageAt, putPage}
 use Rattle.tree.specs.declared.types.Became.the-variants.{Stays}
 use Rattle.tree.specs.Overflow.{Written, splitPage, copiedRows, finishPage}
-use Rattle.enter.specs.EnterWords.{useOf, settled, loaded, appendedWords}
+use Rattle.tree.specs.Taking.{rootless}
+use Rattle.enter.specs.EnterWords.{settled, loaded, appendedWords}
 use Rattle.split.specs.SplitWords.{scratchWords}
 
 module _ (used : TreeUse) (t : ℕ) (so : Written) (page : ℕ) (words : List ℕ) where
@@ -30,7 +31,7 @@ module _ (used : TreeUse) (t : ℕ) (so : Written) (page : ℕ) (words : List �
   settled-stays h = rw (le-leb _ _ h)
 
   pub settled-splits : rowLimit < word words 1 →
-      settled used t so page words ≡ splitPage (useOf (so .table) used) t so words (copiedRows t (rowsOf words))
+      settled used t so page words ≡ splitPage (rootless (so .table) used) t so words (copiedRows t (rowsOf words))
   unfolding settled
   settled-splits h = rw (lt-leb _ _ h)
 
@@ -99,7 +100,7 @@ module _ (tree : Tree) (t : ℕ) (so : Written) (page : ℕ) (rows : List Row) w
 
 -- A split looks at no more of the old page than its level and its key range
 pub split-same : (tree : Tree) (table : List ℕ) (t : ℕ) (so : Written) (v w : List ℕ) (rows : List Row) → word v 0 ≡ word w 0 → word v 2 ≡ word w 2 →
-    splitPage (useOf table (tree .used)) t so v rows ≡ splitPage tree t so w rows
+    splitPage (rootless table (tree .used)) t so v rows ≡ splitPage tree t so w rows
 split-same tree table t so v w rows e f = rw (e, f)
 
 zeros-long : length (zeros appendedWords) ≡ appendedWords

@@ -1,7 +1,7 @@
 -- Entering a point as the code does it: each page is changed as if in a copy with room for more rows, then written back or split.
 use Prim.Native.Nat.{ℕ, _+_, _-_, _*_, _≤_, _<_}
 use mathlib.Core.Path.{_≡_}
-use mathlib.Core.List.{List, [], _++_}
+use mathlib.Core.List.{List, _++_}
 use mathlib.Core.Bool.{true, cond}
 use lib.ListN.{length, take}
 use lib.Dec.{leb}
@@ -13,7 +13,7 @@ use Rattle.live.specs.Survey.{surveyOf}
 use Rattle.tree.specs.Fresh.{zeros}
 use Rattle.tree.specs.declared.types.TreeUse.{TreeUse}
 use Rattle.split.specs.declared.done.Done.{Done}
-use Rattle.tree.specs.Taking.{HasPages, Takes}
+use Rattle.tree.specs.Taking.{HasPages, Takes, rootless}
 use Rattle.tree.specs.Tree.{Tree, pageAt, putPage, topLevel}
 use Rattle.tree.specs.RowSteps.{Point}
 use Rattle.tree.specs.declared.types.Became.{Became}
@@ -37,10 +37,6 @@ loaded table page = pageAt table page ++ zeros appendedWords
 abbrev pub roomyRows : ℕ
 roomyRows = rowLimit - mostAppended
 
--- A tree of which only the use matters
-abbrev pub useOf : List ℕ → TreeUse → Tree
-useOf table used = record { table = table; roots = []; used = used }
-
 abbrev pub madeSo : List ℕ → ℕ → Written
 madeSo table made = record { table = table; made = made; became = Stays }
 
@@ -49,7 +45,7 @@ unfoldable pub settled : TreeUse → (t : ℕ) → Written → (page : ℕ) → 
 settled used t so page words =
     cond (leb (word words 1) rowLimit)
     (record { table = putPage (so .table) page (take pageWords words); made = so .made; became = Stays })
-    (splitPage (useOf (so .table) used) t so words (copiedRows t (rowsOf words)))
+    (splitPage (rootless (so .table) used) t so words (copiedRows t (rowsOf words)))
 
 -- What the code answers and leaves is this
 pub record DoneAs (so : Written) (table : List ℕ) (done : Done) : Type 0 where

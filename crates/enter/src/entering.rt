@@ -10,16 +10,16 @@ use tree::Became;
 use tree::TreeUse;
 use words::Value;
 ghost use mathlib.Core.Path.{_≡_};
-ghost use mathlib.Core.List.{_++_};
 ghost use Prim.Native.Nat.{_+_, _*_, _≤_, _<_};
 ghost use lib.ListN.{length, take};
 ghost use Rattle.words.specs.Overwrite.{overwrite};
-ghost use Rattle.tree.specs.Row.{pageWords, rowLimit, rowStart, word};
+ghost use Rattle.tree.specs.Row.{pageWords, rowLimit, word};
 ghost use Rattle.tree.specs.Tree.{pageAt, putPage};
 ghost use Rattle.split.specs.SplitWords.{scratchWords};
 ghost use Rattle.row_steps.specs.PageEdits.{ChangeWithin};
-ghost use Rattle.enter.specs.EnterWords.{loaded, useOf, pointAt, settled, madeSo, changed, leafEdited, DoneAs, CanSettle, CanEnter};
+ghost use Rattle.enter.specs.EnterWords.{loaded, pointAt, settled, madeSo, changed, leafEdited, DoneAs, CanSettle, CanEnter};
 ghost use Rattle.tree.specs.Enter.{enterFrom};
+ghost use Rattle.tree.specs.Taking.{rootless};
 
 // The words of the rows that one entry may append to a page.
 const APPENDED_WORDS: usize = Page::SCRATCH_WORDS - Page::WORDS;
@@ -157,8 +157,8 @@ pub fn enter_from(
     t: u32,
 ) -> Done
     requires { ⌜ length (now scratch) ≡ scratchWords ⌝ }
-    requires { ⌜ CanEnter (useOf (now table) used) (pointAt t k value) level page ⌝ }
-    ensures { λ r. ⌜ DoneAs (enterFrom (useOf (now (table .entry)) used) (pointAt t k value) level page) (now (table .exit)) r ⌝ }
+    requires { ⌜ CanEnter (rootless (now table) used) (pointAt t k value) level page ⌝ }
+    ensures { λ r. ⌜ DoneAs (enterFrom (rootless (now (table .entry)) used) (pointAt t k value) level page) (now (table .exit)) r ⌝ }
 {
     if level == 0 {
         return enter_leaf(table, scratch, used, page, k, value, t);

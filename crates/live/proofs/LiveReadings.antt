@@ -21,7 +21,7 @@ use Rattle.tree.specs.PageTest.{headerFits, rowsTile, soundAt}
 use Rattle.tree.specs.TrueValue.{Search, none, one, first, totalWhere, rowValue, holdingRow, heldAs}
 use Rattle.tree.specs.Tree.{pageAt, metAt}
 use Rattle.tree.specs.Use.{inUse}
-use Rattle.tree.specs.Taking.{InUse}
+use Rattle.tree.specs.Taking.{InUse, rootless}
 use Rattle.tree.proofs.TableLaws.{page-length}
 use Rattle.tree.proofs.Lists as lists
 use Rattle.tree.proofs.Lists.{All, all-map, all-at}
@@ -38,7 +38,7 @@ use Rattle.ranges.specs.declared.search.Place.the-variants.{At, Missing}
 use Rattle.ranges.specs.Nearest.{noRange, least, placeAt, placeFound}
 use Rattle.live.specs.declared.test.Tested.{Tested}
 use Rattle.live.specs.declared.test.Tested.the-variants.{Spoiled, Sound}
-use Rattle.live.specs.Tested.{TestedAs, ListsFit, heldTested, pagesIn, opened}
+use Rattle.live.specs.Tested.{TestedAs, ListsFit, heldTested, opened}
 use Rattle.live.specs.LiveHeld.{addBelow, heldAtPlace, heldAmong, surveyAmong}
 use Rattle.page.proofs.EntryLaws.{Seated, low-fits, high-fits, live-more, live-seated, liveFrom, order-seated}
 use Rattle.tree.proofs.Searches.{first-has}
@@ -276,7 +276,7 @@ module _ (sound : Bool) (t : ℕ) (page ranges places : List ℕ) {r : Tested} w
 -- In the table: the page is tested on its own words, where its number is one in use
 pub met-tested : (table : List ℕ) (used : TreeUse) (t level low high page : ℕ) (words ranges places : List ℕ) (r : Tested) → InUse used page → words ≡ pageAt table page
     → TestedAs (soundAt t level low high words) t words ranges places r
-    → TestedAs (metAt (pagesIn table used) t level low high page) t (pageAt table page) ranges places r
+    → TestedAs (metAt (rootless table used) t level low high page) t (pageAt table page) ranges places r
 met-tested table used t level low high page words ranges places r in-use is h =
     rw in-use (subst (λ (w : List ℕ). TestedAs (soundAt t level low high w) t w ranges places r) is h)
 
@@ -306,7 +306,7 @@ module _ (t : ℕ) (page ranges places : List ℕ) (n : ℕ) (few : word page 1 
 
 -- A page of the table that passed its test: it lies in the table, and its live rows are listed
 module _ (table : List ℕ) (used : TreeUse) (t level low high page : ℕ) (in-table : used .pages * pageWords ≤ length table)
-    (met : metAt (pagesIn table used) t level low high page ≡ true) where
+    (met : metAt (rootless table used) t level low high page ≡ true) where
   pub met-inside : page * pageWords + pageWords ≤ length table
   met-inside = in-use-inside used page table (and-eq-true-iff (inUse used page) (soundAt t level low high (pageAt table page)) .0 met .0) in-table
 
@@ -328,7 +328,7 @@ pub lists-sound : (table : List ℕ) (page : ℕ) (ranges places : List ℕ) {r 
 lists-sound table page ranges places e h = subst (λ (s : Tested). ListsFit table page ranges places s) e h
 
 module _ (table : List ℕ) (used : TreeUse) (t level low high page : ℕ) (in-table : used .pages * pageWords ≤ length table) (ranges places : List ℕ) where
-  pub opened-fits : (r : Tested) → TestedAs (metAt (pagesIn table used) t level low high page) t (pageAt table page) ranges places r
+  pub opened-fits : (r : Tested) → TestedAs (metAt (rootless table used) t level low high page) t (pageAt table page) ranges places r
       → ListsFit table page ranges places r
   opened-fits Spoiled h = tt
   opened-fits (Sound n) h = (
@@ -339,8 +339,8 @@ module _ (table : List ℕ) (used : TreeUse) (t level low high page : ℕ) (in-t
     met-places table used t level low high page in-table (h .0) ranges places n (h .1),
   )
 
-  pub opened-held : (k : ℕ) (r : Tested) → TestedAs (metAt (pagesIn table used) t level low high page) t (pageAt table page) ranges places r
-      → heldTested table page ranges places k r ≡ opened (pagesIn table used) t k level low high page
+  pub opened-held : (k : ℕ) (r : Tested) → TestedAs (metAt (rootless table used) t level low high page) t (pageAt table page) ranges places r
+      → heldTested table page ranges places k r ≡ opened (rootless table used) t k level low high page
   opened-held k Spoiled h = rw h
   opened-held k (Sound n) h =
       rw (h .0) (held-listed t (pageAt table page) ranges places n (met-few table used t level low high page in-table (h .0)) (h .1) k)

@@ -1,13 +1,12 @@
 -- What the test of a page leaves: a spoiled page, or the live rows of a sound one; and what these have for a key.
 use mathlib.Core.Path.{_≡_}
 use Prim.Native.Nat.{ℕ, _+_, _*_, _≤_}
-use mathlib.Core.List.{List, []}
+use mathlib.Core.List.{List}
 use mathlib.Core.Bool.{Bool, true, false, cond}
 use lib.ListN.{length, take}
 use Rattle.tree.specs.declared.types.Held.{Held}
 use Rattle.tree.specs.declared.types.Held.the-variants as held
 use Rattle.tree.specs.Row.{word, rowsOf, rowLimit, pageWords}
-use Rattle.tree.specs.declared.types.TreeUse.{TreeUse}
 use Rattle.tree.specs.TrueValue.{holdingRow, heldAs}
 use Rattle.tree.specs.Tree.{Tree, pageAt, metAt}
 use Rattle.live.specs.declared.test.Tested.{Tested}
@@ -19,10 +18,6 @@ use Rattle.live.specs.LiveHeld.{heldAmong}
 abbrev pub TestedAs : Bool → (t : ℕ) → (page ranges places : List ℕ) → Tested → Type 0
 TestedAs sound t page ranges places Spoiled = sound ≡ false
 TestedAs sound t page ranges places (Sound count) = (sound ≡ true) × Listed t page (word page 1) ranges places count
-
--- A tree of which only the page table and the use matter
-abbrev pub pagesIn : List ℕ → TreeUse → Tree
-pagesIn table used = record { table = table; roots = []; used = used }
 
 -- The page lies in the table, the arrays have its live rows listed, and these lie in the page
 abbrev pub ListsFit : (table : List ℕ) → (page : ℕ) → (ranges places : List ℕ) → Tested → Type 0

@@ -20,10 +20,11 @@ ghost use lib.Dec.{ltb};
 ghost use Rattle.words.specs.Value.{valueAt};
 ghost use Rattle.words.specs.Value as value;
 ghost use Rattle.tree.specs.Row.{rowStart, rowWords, valueStart, rowLimit, pageWords};
+ghost use Rattle.tree.specs.Taking.{rootless};
 ghost use Rattle.ranges.specs.KeyRanges.{rangeLow};
 ghost use Rattle.live.specs.LiveRows.{AllIn};
 ghost use Rattle.live.specs.LiveHeld.{addBelow, heldAmong};
-ghost use Rattle.live.specs.Tested.{ListsFit, heldTested, pagesIn, opened};
+ghost use Rattle.live.specs.Tested.{ListsFit, heldTested, opened};
 
 // What a page has for two keys at one tick.
 pub struct HeldTwo {
@@ -123,7 +124,7 @@ pub fn read_page(
 ) -> Held
     requires { ⌜ used .pages * pageWords ≤ length (now table) ⌝ }
     requires { ⌜ low < high ⌝ }
-    ensures { λ r. ⌜ r ≡ opened (pagesIn (now (table .entry)) used) t k level low high page ⌝ }
+    ensures { λ r. ⌜ r ≡ opened (rootless (now (table .entry)) used) t k level low high page ⌝ }
 {
     let mut ranges = [0u32; Page::ROWS];
     let mut places = [0u8; Page::ROWS];
@@ -155,8 +156,8 @@ pub fn read_page_for_two(
 ) -> HeldTwo
     requires { ⌜ used .pages * pageWords ≤ length (now table) ⌝ }
     requires { ⌜ low < high ⌝ }
-    ensures { λ r. ⌜ r .lower ≡ opened (pagesIn (now (table .entry)) used) t «lower_key» level low high page ⌝ }
-    ensures { λ r. ⌜ r .upper ≡ opened (pagesIn (now (table .entry)) used) t «upper_key» level low high page ⌝ }
+    ensures { λ r. ⌜ r .lower ≡ opened (rootless (now (table .entry)) used) t «lower_key» level low high page ⌝ }
+    ensures { λ r. ⌜ r .upper ≡ opened (rootless (now (table .entry)) used) t «upper_key» level low high page ⌝ }
 {
     let mut ranges = [0u32; Page::ROWS];
     let mut places = [0u8; Page::ROWS];

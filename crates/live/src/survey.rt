@@ -14,9 +14,9 @@ ghost use lib.ListN.{length};
 ghost use Rattle.live.specs.declared.survey.Surveyed.the-variants.{Spoiled, Sound};
 ghost use Rattle.tree.specs.Row.{word, pageWords, rowLimit};
 ghost use Rattle.tree.specs.Tree.{pageAt, metAt};
+ghost use Rattle.tree.specs.Taking.{rootless};
 ghost use Rattle.live.specs.LiveHeld.{surveyAmong};
 ghost use Rattle.live.specs.Survey.{surveyOf};
-ghost use Rattle.live.specs.Tested.{pagesIn};
 
 // How many rows a page has, how many of them are live, the row around a key, and the first row that starts at the key or above.
 pub struct Survey {
@@ -75,7 +75,7 @@ pub fn survey_sound(
 ) -> Surveyed
     requires { ⌜ used .pages * pageWords ≤ length (now table) ⌝ }
     requires { ⌜ low < high ⌝ }
-    ensures { λ r. ⌜ r ≡ cond (metAt (pagesIn (now (table .entry)) used) t level low high page) (Sound (surveyOf t k (pageAt (now (table .entry)) page))) Spoiled ⌝ }
+    ensures { λ r. ⌜ r ≡ cond (metAt (rootless (now (table .entry)) used) t level low high page) (Sound (surveyOf t k (pageAt (now (table .entry)) page))) Spoiled ⌝ }
 {
     let mut ranges = [0u32; Page::ROWS];
     let mut places = [0u8; Page::ROWS];

@@ -11,7 +11,8 @@ ghost use lib.ListN.{length};
 ghost use Rattle.tree.specs.Row.{pageWords, rowLimit};
 ghost use Rattle.tree.specs.PageTest.{headerFits, soundAt};
 ghost use Rattle.tree.specs.Tree.{pageAt, metAt};
-ghost use Rattle.live.specs.Tested.{TestedAs, pagesIn};
+ghost use Rattle.tree.specs.Taking.{rootless};
+ghost use Rattle.live.specs.Tested.{TestedAs};
 
 // What the test of a page finds: a spoiled page, or a sound one with so many live rows.
 pub enum Tested {
@@ -80,7 +81,7 @@ pub fn open_page(
     requires { ⌜ low < high ⌝ }
     requires { ⌜ length (now ranges) ≡ rowLimit ⌝ }
     requires { ⌜ length (now places) ≡ rowLimit ⌝ }
-    ensures { λ r. ⌜ TestedAs (metAt (pagesIn (now (table .entry)) used) t level low high page) t (pageAt (now (table .entry)) page) (now (ranges .exit)) (now (places .exit)) r ⌝ }
+    ensures { λ r. ⌜ TestedAs (metAt (rootless (now (table .entry)) used) t level low high page) t (pageAt (now (table .entry)) page) (now (ranges .exit)) (now (places .exit)) r ⌝ }
 {
     if in_use(used, page) {
         return list_tested(page_at(table, page), level, low, high, t, ranges, places);

@@ -21,8 +21,8 @@ use Rattle.ranges.specs.Nearest.{placeFound}
 use Rattle.live.specs.Survey.{startsFrom, isAround, surveyOf}
 use Rattle.tree.specs.Tree.{pageAt, metAt}
 use Rattle.tree.specs.Use.{inUse}
+use Rattle.tree.specs.Taking.{rootless}
 use Rattle.tree.proofs.TableLaws.{page-length}
-use Rattle.live.specs.Tested.{pagesIn}
 use Rattle.live.proofs.LiveReadings.{met-inside, met-few}
 use Rattle.plan.specs.declared.planning.Met.the-variants as met
 use Rattle.plan.specs.PlanSteps.{InWords, appended, metSurvey, metWords, metPage}
@@ -60,7 +60,7 @@ module _ (table : List ℕ) (used : TreeUse) (t k level low high page : ℕ) whe
   abbrev met-by : Bool → Surveyed
   met-by b = cond b (surveyed.Sound (surveyOf t k words)) surveyed.Spoiled
 
-  pub met-spoiled : met-by (metAt (pagesIn table used) t level low high page) ≡ surveyed.Spoiled → metPage table used t k level low high page ≡ met.Spoiled
+  pub met-spoiled : met-by (metAt (rootless table used) t level low high page) ≡ surveyed.Spoiled → metPage table used t k level low high page ≡ met.Spoiled
   unfolding metPage metWords
   met-spoiled e = go (inUse used page) (soundAt t level low high words) e
     where
@@ -69,12 +69,12 @@ module _ (table : List ℕ) (used : TreeUse) (t k level low high page : ℕ) whe
       go true false f = refl
       go false b f = refl
 
-  module _ {s : Survey} (e : met-by (metAt (pagesIn table used) t level low high page) ≡ surveyed.Sound s) where
-    sound-of : (metAt (pagesIn table used) t level low high page ≡ true) × (surveyOf t k words ≡ s)
-    sound-of = go (metAt (pagesIn table used) t level low high page) refl e
+  module _ {s : Survey} (e : met-by (metAt (rootless table used) t level low high page) ≡ surveyed.Sound s) where
+    sound-of : (metAt (rootless table used) t level low high page ≡ true) × (surveyOf t k words ≡ s)
+    sound-of = go (metAt (rootless table used) t level low high page) refl e
       where
-        go : (b : Bool) → metAt (pagesIn table used) t level low high page ≡ b → met-by b ≡ surveyed.Sound s
-            → (metAt (pagesIn table used) t level low high page ≡ true) × (surveyOf t k words ≡ s)
+        go : (b : Bool) → metAt (rootless table used) t level low high page ≡ b → met-by b ≡ surveyed.Sound s
+            → (metAt (rootless table used) t level low high page ≡ true) × (surveyOf t k words ≡ s)
         go true f g = (f, cc)
         go false f g = let z : _≡_ {A = ℕ} 0 1 = cc in absurd (omega arith)
 

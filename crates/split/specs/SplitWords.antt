@@ -20,6 +20,7 @@ use Rattle.tree.specs.declared.types.TreeUse.{TreeUse}
 use Rattle.tree.specs.Tree.{putPage}
 use Rattle.tree.specs.declared.types.Became.the-variants.{Stays}
 use Rattle.tree.specs.Overflow.{Written, copiedRows, lowerCount, lowestKey, gainFirst, totalOf, splitPage}
+use Rattle.tree.specs.Taking.{rootless}
 
 -- A page's words with room for the rows that one entry may append
 abbrev pub scratchWords : ℕ
@@ -82,5 +83,5 @@ halvedTable table first second words t =
 -- What an overflow writes and says, where the call has made so many pages
 abbrev pub splitWords : (table : List ℕ) → TreeUse → (made : ℕ) → (words : List ℕ) → (t : ℕ) → Written
 splitWords table used made words t =
-    splitPage (record { table = table; roots = []; used = used }) t (record { table = table; made = made; became = Stays }) words
+    splitPage (rootless table used) t (record { table = table; made = made; became = Stays }) words
     (copiedRows t (rowsOf words))

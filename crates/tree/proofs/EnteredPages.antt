@@ -70,7 +70,7 @@ module _ (t : ℕ) (now : t < openEnd) (k v : ℕ) (IsKnown : ℕ → Type 0) (k
   abbrev pub EntersWell : (n : ℕ) → (lo hi p : ℕ) → Tree n → Outcome → Type 0
   EntersWell n lo hi p tr o =
       EnterResult (λ s′ In′ a b c x. Holds n s′ In′ t a b c x) (λ l q. lookupTree n q l) (λ s′ x l. potential n s′ x l) n t s In alloc u lo hi p
-      (λ q. lookupTree n q tr + onlyIf (leb k q) v) (λ b l. Full IsKnown n l × (cond b 20 (slotCount n tr) ≤ slotCount n l))
+      (λ q. lookupTree n q tr + onlyIf (leb k q) v) (λ b lo′ hi′ x l. Full IsKnown n l × (cond b 20 (slotCount n tr) ≤ slotCount n l))
       (18 * u + potential n s p tr + 5 + n) o
 
   leaf-cut : (lo hi p : ℕ) (tr : Tree 0) → Cut Leaf lo hi k tr → Holds 0 s In t lo hi p tr → Full IsKnown 0 tr
@@ -167,7 +167,7 @@ module _ (t : ℕ) (now : t < openEnd) (k v : ℕ) (IsKnown : ℕ → Type 0) (k
     abbrev ChildYields : Parts → Type 0
     ChildYields parts =
         Yields (Holds n S Now t) (λ l q. lookupTree n q l) (λ q. lookupTree n q (y .below) + onlyIf (leb k q) v)
-        (λ b l. Full IsKnown n l × (cond b 20 (slotCount n (y .below)) ≤ slotCount n l))
+        (λ b lo′ hi′ x l. Full IsKnown n l × (cond b 20 (slotCount n (y .below)) ≤ slotCount n l))
         (y .entry .low) (y .entry .high) (y .entry .page) parts
 
     untouched : S p ≡ s p
@@ -301,7 +301,7 @@ module _ (t : ℕ) (now : t < openEnd) (k v : ℕ) (IsKnown : ℕ → Type 0) (k
         → Type 0
     Spent parts r =
         Cost (Holds n S Now t) (λ l q. lookupTree n q l) (λ q. lookupTree n q (y .below) + onlyIf (leb k q) v)
-        (λ b l. Full IsKnown n l × (cond b 20 (slotCount n (y .below)) ≤ slotCount n l)) (y .entry .low) (y .entry .high)
+        (λ b lo′ hi′ x l. Full IsKnown n l × (cond b 20 (slotCount n (y .below)) ≤ slotCount n l)) (y .entry .low) (y .entry .high)
         (y .entry .page) (potential n S) (u + o .made)
         (18 * u + potential n s (y .entry .page) (y .below) + 5 + n) parts r
 

@@ -151,7 +151,7 @@ module _ {A : Type 0} (n t : ℕ) (now : t < openEnd) (kind : PageKind A n t) wh
         )
 
     copy-holds : (tr : List (Slot A)) → Chain (kind .under s Now) lo hi tr → ((q : ℕ) → lo ≤ q → q < hi → pageLookup kind tr q ≈ L q)
-        → (r : ℕ) → rowLimit < r → length tr ≤ r → length tr ≤ copyLimit → Enough kind M false tr
+        → (r : ℕ) → rowLimit < r → length tr ≤ r → length tr ≤ copyLimit → Enough kind M false lo hi p tr
         → kind .own r (length tr) + sumBelow (kind .potentialIn s) tr + 18 * (u + m) ≤ B
         → StandsIn
         (record {
@@ -178,7 +178,7 @@ module _ {A : Type 0} (n t : ℕ) (now : t < openEnd) (kind : PageKind A n t) wh
 
     stay-holds : (tr : List (Slot A)) (rs : List Row) → Chain (kind .under s Now) lo hi tr
         → ((f : Entry → ℕ) → sumSlots f tr ≡ sumLive t f rs) → ((q : ℕ) → lo ≤ q → q < hi → pageLookup kind tr q ≈ L q)
-        → Enough kind M false tr → kind .own (length rs) (length tr) + sumBelow (kind .potentialIn s) tr + 18 * (u + m) ≤ B
+        → Enough kind M false lo hi p tr → kind .own (length rs) (length tr) + sumBelow (kind .potentialIn s) tr + 18 * (u + m) ≤ B
         → StandsIn
         (record {
           store = putAt s p (record { level = (s p) .level; low = (s p) .low; high = (s p) .high; birth = (s p) .birth; rows = rs });
@@ -201,7 +201,7 @@ module _ {A : Type 0} (n t : ℕ) (now : t < openEnd) (kind : PageKind A n t) wh
         )
 
     moved-holds : (tr : List (Slot A)) → Chain (kind .under s Now) lo hi tr → ((q : ℕ) → lo ≤ q → q < hi → pageLookup kind tr q ≈ L q)
-        → (r : ℕ) → rowLimit < r → length tr ≤ r → Enough kind M false tr
+        → (r : ℕ) → rowLimit < r → length tr ≤ r → Enough kind M false lo hi p tr
         → kind .own r (length tr) + sumBelow (kind .potentialIn s) tr + 18 * (u + m) ≤ B → StandsIn (moved t s alloc m (s p) (entriesOf tr))
     moved-holds tr c adds r many fits each budget = go (split (length (entriesOf tr)) copyLimit)
       where
@@ -236,7 +236,7 @@ module _ {A : Type 0} (n t : ℕ) (now : t < openEnd) (kind : PageKind A n t) wh
 
     pub finish-holds : (tr : List (Slot A)) (rs : List Row) → Chain (kind .under s Now) lo hi tr
         → ((f : Entry → ℕ) → sumSlots f tr ≡ sumLive t f rs) → ((q : ℕ) → lo ≤ q → q < hi → pageLookup kind tr q ≈ L q)
-        → Enough kind M false tr → kind .own (length rs) (length tr) + sumBelow (kind .potentialIn s) tr + 18 * (u + m) ≤ B
+        → Enough kind M false lo hi p tr → kind .own (length rs) (length tr) + sumBelow (kind .potentialIn s) tr + 18 * (u + m) ≤ B
         → StandsIn (finish t s alloc m p rs)
     finish-holds tr rs c same adds each budget = go (split (length rs) rowLimit)
       where

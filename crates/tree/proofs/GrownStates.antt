@@ -162,9 +162,9 @@ module _ (t : ℕ) (now : t < openEnd) (n : ℕ) (rs : ℕ → ℕ) (s : ℕ →
 
   grown-now : (parts : Parts) → rs t ≡ p → (old : ℕ) → (0 < n → 2 ≤ old)
       → (y : Yields (λ a b c x. Holds n s Now t a b c x) (λ l q. lookupTree n q l) L
-      (λ b l. Full IsKnown n l × (cond b 20 old ≤ slotCount n l)) 0 keyLimit p parts)
+      (λ b lo′ hi′ x l. Full IsKnown n l × (cond b 20 old ≤ slotCount n l)) 0 keyLimit p parts)
       → (B : ℕ)
-      → Cost (λ a b c x. Holds n s Now t a b c x) (λ l q. lookupTree n q l) L (λ b l. Full IsKnown n l × (cond b 20 old ≤ slotCount n l))
+      → Cost (λ a b c x. Holds n s Now t a b c x) (λ l q. lookupTree n q l) L (λ b lo′ hi′ x l. Full IsKnown n l × (cond b 20 old ≤ slotCount n l))
       0 keyLimit p (potential n s) (u + m) B parts y
       → let st = grew parts in
       Paid IsKnown (st .store) (After In alloc (st .made)) (u + st .made) t L (st .root t) (B + 18 * (topLevel - n))
@@ -293,7 +293,7 @@ entering-keeps t₀ t k v s In alloc allocates u rs L C IsKnown IsKnown′ wider
 
     ok : EnterResult (λ s′ In′ a b c x. Holds n s′ In′ t a b c x) (λ l q. lookupTree n q l) (λ s′ x l. potential n s′ x l) n t s In alloc u
         0 keyLimit p (λ q. lookupTree n q (ver .tree) + onlyIf (leb k q) v)
-        (λ b l. Full IsKnown′ n l × (cond b 20 (slotCount n (ver .tree)) ≤ slotCount n l))
+        (λ b lo′ hi′ x l. Full IsKnown′ n l × (cond b 20 (slotCount n (ver .tree)) ≤ slotCount n l))
         (18 * u + potential n s p (ver .tree) + 5 + n) o
     ok =
         enter-keeps t now k v IsKnown′ known s In alloc allocates u n 0 keyLimit p (ver .tree) (omega arith) j (ver .held)

@@ -13,12 +13,12 @@ use Rattle.tree.proofs.ModelTrees.{Slot, Tree, Alike}
 use Rattle.tree.proofs.ModelSteps.{Parts, stay, copy, two, Outcome}
 use Rattle.tree.proofs.TakenPages.{After}
 
--- Page x holds over keys lo up to hi, as H says, a tree whose lookups W are L, and for which G holds
-abbrev pub Made : {X : Type 0} → (ℕ → ℕ → ℕ → X → Type 0) → (X → ℕ → ℕ) → (ℕ → ℕ) → (X → Type 0) → ℕ → ℕ → ℕ → Type 0
-Made {X} H W L G lo hi x = (tr : X) × H lo hi x tr × ((q : ℕ) → lo ≤ q → q < hi → W tr q ≈ L q) × G tr
+-- Page x holds over keys lo up to hi, as H says, a tree whose lookups W are L, and of all that G holds
+abbrev pub Made : {X : Type 0} → (ℕ → ℕ → ℕ → X → Type 0) → (X → ℕ → ℕ) → (ℕ → ℕ) → (ℕ → ℕ → ℕ → X → Type 0) → ℕ → ℕ → ℕ → Type 0
+Made {X} H W L G lo hi x = (tr : X) × H lo hi x tr × ((q : ℕ) → lo ≤ q → q < hi → W tr q ≈ L q) × G lo hi x tr
 
--- The pages that stand in for page p; G is told whether there are two
-abbrev pub Yields : {X : Type 0} → (ℕ → ℕ → ℕ → X → Type 0) → (X → ℕ → ℕ) → (ℕ → ℕ) → (Bool → X → Type 0) → ℕ → ℕ → ℕ → Parts → Type 0
+-- The pages that stand in for page p; G is told whether there are two, and of each its key range, its number and its tree
+abbrev pub Yields : {X : Type 0} → (ℕ → ℕ → ℕ → X → Type 0) → (X → ℕ → ℕ) → (ℕ → ℕ) → (Bool → ℕ → ℕ → ℕ → X → Type 0) → ℕ → ℕ → ℕ → Parts → Type 0
 Yields H W L G lo hi p stay = Made H W L (G false) lo hi p
 Yields H W L G lo hi p (copy x) = Made H W L (G false) lo hi x
 Yields H W L G lo hi p (two x y m) = Made H W L (G true) lo m x × Made H W L (G true) m hi y
@@ -52,7 +52,7 @@ potential zero s p tr = leafPotential (length ((s p) .rows)) (length tr) + sumBe
 potential (suc n) s p tr = indexPotential (length ((s p) .rows)) (length tr) + sumBelow (potential n s) tr
 
 -- The pages that stand in for page p cost no more than B, with what the rows for them in the parent will cost
-abbrev pub Cost : {X : Type 0} (H : ℕ → ℕ → ℕ → X → Type 0) (W : X → ℕ → ℕ) (L : ℕ → ℕ) (G : Bool → X → Type 0) (lo hi p : ℕ)
+abbrev pub Cost : {X : Type 0} (H : ℕ → ℕ → ℕ → X → Type 0) (W : X → ℕ → ℕ) (L : ℕ → ℕ) (G : Bool → (lo hi page : ℕ) → X → Type 0) (lo hi p : ℕ)
     → (ℕ → X → ℕ) → ℕ → ℕ → (parts : Parts) → Yields H W L G lo hi p parts → Type 0
 Cost H W L G lo hi p R u B stay y = R p (y .0) + 18 * u ≤ B
 Cost H W L G lo hi p R u B (copy x) y = R x (y .0) + 1 + 18 * u ≤ B
@@ -73,7 +73,7 @@ Apart n lo hi g = (n < g .level) ⊎ ((g .low < lo) ⊎ (hi ≤ g .low))
 -- Entering a point at tick t into page p of the store s, of which the pages In were in use, u of them counted; `alloc` allocates. Those that are
 -- left alone stay in use, and those that are older than t.
 pub record EnterResult {X : Type 0} (H : (s : ℕ → Page) → (In : ℕ → Type 0) → (lo hi p : ℕ) → X → Type 0) (W : X → ℕ → ℕ)
-    (R : (ℕ → Page) → ℕ → X → ℕ) (n t : ℕ) (s : ℕ → Page) (In : ℕ → Type 0) (alloc : ℕ → ℕ) (u lo hi p : ℕ) (L : ℕ → ℕ) (G : Bool → X → Type 0)
+    (R : (ℕ → Page) → ℕ → X → ℕ) (n t : ℕ) (s : ℕ → Page) (In : ℕ → Type 0) (alloc : ℕ → ℕ) (u lo hi p : ℕ) (L : ℕ → ℕ) (G : Bool → (lo hi page : ℕ) → X → Type 0)
     (B : ℕ) (o : Outcome) : Type 0 where
   pub yields : Yields (H (o .store) (After In alloc (o .made))) W L G lo hi p (o .parts)
   pub spent : Cost (H (o .store) (After In alloc (o .made))) W L G lo hi p (R (o .store)) (u + o .made) B (o .parts) yields

@@ -42,8 +42,8 @@ module _ {A : Type 0} {n t : ℕ} (kind : PageKind A n t) where
   pagePotential s p tr = kind .own (length ((s p) .rows)) (length tr) + sumBelow (kind .potentialIn s) tr
 
   -- Full enough: as many slots as before, and each of two pages at least 20
-  abbrev pub Enough : ℕ → Bool → List (Slot A) → Type 0
-  Enough before are-two tr = All (kind .Fill) tr × (cond are-two 20 before ≤ length tr)
+  abbrev pub Enough : ℕ → Bool → (lo hi page : ℕ) → List (Slot A) → Type 0
+  Enough before are-two lo hi page tr = All (kind .Fill) tr × (cond are-two 20 before ≤ length tr)
 
 pub leaf-copy : (r l : ℕ) → rowLimit < r → l ≤ copyLimit → l ≤ r → leafPotential l l + 19 ≤ leafPotential r l
 leaf-copy r l a b c = omega arith

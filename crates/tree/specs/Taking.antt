@@ -2,11 +2,16 @@
 use Prim.Native.Nat.{ℕ, _*_, _≤_}
 use mathlib.Core.Path.{_≡_}
 use mathlib.Core.Bool.{true}
-use mathlib.Core.List.{List}
+use mathlib.Core.List.{List, []}
 use lib.ListN.{length}
 use Rattle.tree.specs.Row.{pageWords}
 use Rattle.tree.specs.declared.types.TreeUse.{TreeUse}
 use Rattle.tree.specs.Use.{inUse, pagesAfter, pageLimit}
+use Rattle.tree.specs.Tree.{Tree}
+
+-- A tree of which the root list does not matter
+abbrev pub rootless : List ℕ → TreeUse → Tree
+rootless table used = record { table = table; roots = []; used = used }
 
 abbrev pub InUse : TreeUse → ℕ → Type 0
 InUse used page = inUse used page ≡ true

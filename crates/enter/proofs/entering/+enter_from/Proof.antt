@@ -9,10 +9,11 @@ use Rattle.tree.specs.declared.types.Row.{Row}
 use Rattle.tree.specs.Tree.{Tree, pageAt}
 use Rattle.tree.specs.RowSteps.{Point}
 use Rattle.tree.specs.Enter.{enterFrom}
+use Rattle.tree.specs.Taking.{rootless}
 use Rattle.live.specs.declared.survey.Survey.{Survey}
 use Rattle.ranges.specs.declared.search.Place.the-variants.{At}
 use Rattle.live.specs.Survey.{surveyOf}
-use Rattle.enter.specs.EnterWords.{useOf, pointAt, CanEnter, DoneAs, leafEdited, gainEdited, linkEdited}
+use Rattle.enter.specs.EnterWords.{pointAt, CanEnter, DoneAs, leafEdited, gainEdited, linkEdited}
 use Rattle.row_steps.specs.PageEdits.{Within}
 use Rattle.tree.proofs.TableLaws.{page-length}
 use Rattle.enter.proofs.EnterLaws.{few-rows, inside}
@@ -66,7 +67,7 @@ module _ (t : ℕ) (s : enter-from-lts.Start (calls t) (enter-from-at t) enter-f
   table = s .args .table .now
 
   abbrev tree : Tree
-  tree = useOf table (s .args .used)
+  tree = rootless table (s .args .used)
 
   abbrev point : Point
   point = pointAt (s .args .t) (s .args .k) (s .args .value)

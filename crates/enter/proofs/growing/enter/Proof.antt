@@ -11,7 +11,8 @@ use Rattle.tree.specs.Tree.{Tree, rootAt, putPage}
 use Rattle.tree.specs.RowSteps.{Point}
 use Rattle.tree.specs.Enter.{enterFrom}
 use Rattle.tree.specs.Limits.{mostMade}
-use Rattle.enter.specs.EnterWords.{pointAt, useOf, DoneAs}
+use Rattle.tree.specs.Taking.{rootless}
+use Rattle.enter.specs.EnterWords.{pointAt, DoneAs}
 use Rattle.enter.proofs.EnterRootLaws.{level, rootPage, level-same, in-table, low-level, no-missing, can-enter-at, done-at, few-made, same-size, stays-way, copied-can, copied-way, halved-can, halved-room, halved-way}
 use borrow.Author.Needs.{needs}
 use Rattle.enter.proofs.growing.enter.Statement.{statement}
@@ -84,7 +85,7 @@ module _ (e : lts.After-enter-from calls reads.Pre reads.Post) where
   abbrev first : lts.Start calls reads.Pre reads.Post
   first = start found
 
-  done-is : DoneAs (enterFrom (useOf (first .args .table .now) (first .args .used)) (point first) (level (tree first) (point first) (first .pre)) (rootPage (tree first) (point first) (first .pre)))
+  done-is : DoneAs (enterFrom (rootless (first .args .table .now) (first .args .used)) (point first) (level (tree first) (point first) (first .pre)) (rootPage (tree first) (point first) (first .pre)))
       (e .enter-from .last .0) (e .enter-from .result)
   done-is = done-at (tree first) (point first) (first .pre) (root found) (root-level found) (root-is found) (started found .level-is) (e .enter-from .result) (e .enter-from .last .0) (e .enter-from .ensures)
 
