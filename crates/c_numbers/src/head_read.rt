@@ -22,27 +22,7 @@ fn read_pass(numbers: &[u32], at: usize) -> OpenPass
     }
 }
 
-// The passes that the numbers stand for.
-pub fn read_passes(numbers: &[u32]) -> [OpenPass; Head::PLACES]
-    requires { ⌜ length (now numbers) ≡ passNumbers ⌝ }
-    ensures { λ r. ⌜ r ≡ passesFrom (now (numbers .entry)) 0 openLimit ⌝ }
-{
-    let none = OpenPass {
-        number: 0,
-        key: 0,
-        weight: 0,
-        start: 0,
-    };
-    let mut passes = [none; Head::PLACES];
-    let mut place: usize = 0;
-    while place < Head::PLACES {
-        passes[place] = read_pass(numbers, OpenPass::NUMBERS * place);
-        place += 1;
-    }
-    passes
-}
-
-// The head that fields and open passes make.
+// The head that fields and open passes make. The passes are stored into it one by one: made first and then handed on, all 64 would be copied.
 pub fn head_of(
     last: u32,
     started: u32,
@@ -60,12 +40,17 @@ pub fn head_of(
       let fields : Fields = record { last = last; started = started; count = count; starts = starts; ends = ends }
       ⌜ r ≡ headOf fields (now (passes .entry)) ⌝ }
 {
-    let open = read_passes(passes);
-    Head {
+    let none = OpenPass {
+        number: 0,
+        key: 0,
+        weight: 0,
+        start: 0,
+    };
+    let mut head = Head {
         last,
         started,
         count,
-        passes: open,
+        passes: [none; Head::PLACES],
         starts: TreeUse {
             pages: start_pages_used,
             roots: start_roots_used,
@@ -74,5 +59,11 @@ pub fn head_of(
             pages: end_pages_used,
             roots: end_roots_used,
         },
+    };
+    let mut place: usize = 0;
+    while place < Head::PLACES {
+        head.passes[place] = read_pass(passes, OpenPass::NUMBERS * place);
+        place += 1;
     }
+    head
 }
