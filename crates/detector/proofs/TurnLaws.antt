@@ -21,8 +21,8 @@ use Rattle.command.specs.Pieces as piece
 use Rattle.command.specs.Pieces.{runPiece, Piece, Feed, programFeed, handedOver, fedWith, feedAfter, feedAll, writtenAll, inputOf, EndsOnce}
 use Rattle.command.proofs.AnyPieces.{any-pieces}
 use Rattle.command.proofs.PieceReadings.{takes-inside, room-enough, unfinished-short}
-use Rattle.interpret.specs.declared.pieces.Fed.{Fed}
-use Rattle.interpret.specs.Runs.{FedAs}
+use Rattle.pieces.specs.declared.pieces.Fed.{Fed}
+use Rattle.pieces.specs.Fed.{FedAs}
 use Rattle.detector.specs.Turns.{pieceRead, feedOf, mostWaiting, Turned, mostTurns, Served}
 use Rattle.detector.proofs.BufferLaws.{rest-waits}
 

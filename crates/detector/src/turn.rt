@@ -1,9 +1,9 @@
 // One turn of the program: read, run, write.
 use crate::input::keep_rest;
 use crate::input::read_behind;
-use interpret::Fed;
-use interpret::run_piece;
 use libc::STDOUT_FILENO;
+use pieces::Fed;
+use pieces::run_piece;
 use store::Head;
 ghost use mathlib.Core.Path.{_≡_};
 ghost use Prim.Native.Nat.{_+_, _*_, _≤_};
@@ -12,7 +12,7 @@ ghost use lib.ListN.{length, take};
 ghost use Rattle.store.specs.Trees.{Lent, lentOf, Store, storeOf};
 ghost use Rattle.command.specs.Stream.{longestAnswer};
 ghost use Rattle.command.specs.Pieces.{runPiece};
-ghost use Rattle.interpret.specs.Runs.{FedAs};
+ghost use Rattle.pieces.specs.Fed.{FedAs};
 ghost use Rattle.detector.specs.Turns.{feedOf, mostWaiting, Turned};
 
 // What a turn leaves: the head, how many bytes wait at the front of the buffer, and whether the run is over.

@@ -15,8 +15,8 @@ use Rattle.command.specs.Stream.{Kind, unknown, command, kindOf, cutShort, stop
 use Rattle.command.specs.Pieces as piece
 use Rattle.command.specs.Pieces.{takesNothing, runPiece, Piece, Feed, handedOver, fedWith, feedAfter, writtenAll}
 use Rattle.command.proofs.PieceSteps.{each-piece}
-use Rattle.interpret.specs.declared.pieces.Fed.{Fed}
-use Rattle.interpret.specs.Runs.{FedAs}
+use Rattle.pieces.specs.declared.pieces.Fed.{Fed}
+use Rattle.pieces.specs.Fed.{FedAs}
 use Rattle.c_numbers.specs.Heads.{Fields, passNumbers, headOf, fieldsOf, numbersOf}
 use Rattle.c_numbers.proofs.HeadNumbers.{passes-length, others-kept}
 use Rattle.firmware.specs.Exported.{Handed, storeIn, handedBack}

@@ -1,7 +1,7 @@
 // The command stream, for C: a packet of bytes with several commands.
 use c_numbers::head_of;
 use c_numbers::put_head;
-use interpret::run_piece;
+use pieces::run_piece;
 use store::Head;
 ghost use mathlib.Core.Path.{_≡_};
 ghost use mathlib.Core.Bool.{Bool, not};

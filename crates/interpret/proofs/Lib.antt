@@ -1,4 +1,3 @@
 -- Laws of the commands' code.
 pub mod AnswerLaws
 pub mod RunLaws
-pub mod PieceRuns

@@ -1,8 +1,7 @@
-// The commands of the stream, run on lent slices: operands from bytes, calls of the store, their answers to bytes.
+// One command of the stream, run on lent slices: operands from bytes, a call of the store, its answer to bytes.
 mod answers;
-mod pieces;
 mod run;
 
 pub use answers::LONGEST_ANSWER;
-pub use pieces::Fed;
-pub use pieces::run_piece;
+pub use run::Ran;
+pub use run::run_command;

@@ -1,8 +1,8 @@
 use mathlib.Core.Path.{ap, sym}
 use Rattle.command.specs.Stream.{operandBytes}
 use Rattle.command.proofs.KindLaws.{kind-start, kind-end, kind-question, kind-unknown}
-use Rattle.interpret.proofs.pieces.operand_count.Statement.{statement}
-use Rattle.interpret.proofs.pieces.operand_count.Tie as tie
+use Rattle.framing.proofs.framing.operand_count.Statement.{statement}
+use Rattle.framing.proofs.framing.operand_count.Tie as tie
 
 returns : tie.Need-returns
 returns c = sym (ap operandBytes (kind-start _ (c .if1 .taken)))

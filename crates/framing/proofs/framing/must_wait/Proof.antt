@@ -1,7 +1,7 @@
-use Rattle.interpret.proofs.PieceRuns.{waits-for-room, ended-runs, waits-for-bytes}
+use Rattle.framing.proofs.FramingLaws.{waits-for-room, ended-runs, waits-for-bytes}
 use borrow.Author.Needs.{needs}
-use Rattle.interpret.proofs.pieces.must_wait.Statement.{statement}
-use Rattle.interpret.proofs.pieces.must_wait.Tie as tie
+use Rattle.framing.proofs.framing.must_wait.Statement.{statement}
+use Rattle.framing.proofs.framing.must_wait.Tie as tie
 
 returns : tie.Need-returns
 returns c = let a = c .before .before .args in waits-for-room (a .input .now) (a .at) (a .room) (a .ended) (c .if1 .taken)

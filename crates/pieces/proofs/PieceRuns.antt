@@ -3,56 +3,25 @@ use Prim.Native.Nat.{ℕ, zero, suc, _+_, _-_, _≤_, _<_, min}
 use native.Mathlib.Nat.{zero-add, sub-zero}
 use native.Mathlib.Omega.{arith}
 use mathlib.Core.Path.{_≡_, refl, ap, ap₂, sym, subst, _∙_}
-use mathlib.Core.Bool.{Bool, true, false, not, _&&_, _||_}
+use mathlib.Core.Bool.{Bool, true, false, not}
 use mathlib.Core.List.{List, [], _∷_, _++_, append-assoc, append-nil}
 use lib.ListN.{length, getD, drop, length-append, length-drop}
 use lib.Seq.{drop-cons, drop-drop}
-use lib.Dec.{ltb}
-use borrow.Author.Tests.{lt-ltb, le-ltb, not-true, not-false}
+use borrow.Author.Tests.{not-true, not-false}
 use Rattle.words.specs.Overwrite.{overwrite}
 use Rattle.words.proofs.OverwriteLaws.{overwrite-none, overwrite-more}
 use Rattle.store.specs.Trees.{Lent, Store}
 use Rattle.command.specs.Stream as stream
 use Rattle.command.specs.Stream.{kindOf, operandBytes, longestAnswer, runOne}
 use Rattle.command.specs.Pieces as piece
-use Rattle.command.specs.Pieces.{takesNothing, followed, commandLength, isUnfinished, mustWait, overAfter, runPiece}
+use Rattle.command.specs.Pieces.{takesNothing, followed, commandLength, mustWait, overAfter, runPiece}
 use Rattle.command.proofs.AnswerLengths.{output-fits}
 use Rattle.command.proofs.PieceSteps.{on-whole, has-room, piece-none, piece-waits, piece-stops, piece-goes-on}
+use Rattle.framing.proofs.FramingLaws.{code, behind}
 use Rattle.interpret.specs.declared.run.Ran.{Ran}
-use Rattle.interpret.specs.declared.pieces.Fed.{Fed}
-use Rattle.interpret.specs.Runs.{RanAs, RanAt, FedAs}
-
--- The command at a place of the piece
-module _ (input : List ℕ) (at : ℕ) where
-  abbrev pub code : ℕ
-  code = getD input at 0
-
-  abbrev pub behind : List ℕ
-  behind = drop (at + 1) input
-
-  -- Whether it waits, test by test
-  module _ (room : ℕ) (ended : Bool) where
-    pub waits-for-room : room < longestAnswer → true ≡ mustWait room ended code behind
-    waits-for-room h = ap (λ (x : Bool). x || (not ended && isUnfinished code behind)) (sym (lt-ltb room longestAnswer h))
-
-    roomy : longestAnswer ≤ room → mustWait room ended code behind ≡ (not ended && isUnfinished code behind)
-    roomy h = ap (λ (x : Bool). x || (not ended && isUnfinished code behind)) (le-ltb room longestAnswer h)
-
-    pub ended-runs : longestAnswer ≤ room → ended ≡ true → false ≡ mustWait room ended code behind
-    ended-runs h e = sym (roomy h ∙ ap (λ (x : Bool). not x && isUnfinished code behind) e)
-
-    pub waits-for-bytes : longestAnswer ≤ room → ended ≡ false → (operands : ℕ) → operands ≡ operandBytes (kindOf code)
-        → ltb (length input - (at + 1)) operands ≡ mustWait room ended code behind
-    waits-for-bytes h e operands is =
-        ap₂ ltb (sym (length-drop (at + 1) input)) is ∙ sym (roomy h ∙ ap (λ (x : Bool). not x && isUnfinished code behind) e)
-
-  -- Where it ends, operands missing or not
-  module _ (operands : ℕ) (is : operands ≡ operandBytes (kindOf code)) (inside : at < length input) where
-    pub short-end : length input - (at + 1) < operands → length input ≡ at + commandLength code behind
-    short-end h = omega (arith, is, inside, h, length-drop (at + 1) input)
-
-    pub full-end : operands ≤ length input - (at + 1) → at + 1 + operands ≡ at + commandLength code behind
-    full-end h = omega (arith, is, h, length-drop (at + 1) input)
+use Rattle.interpret.specs.Runs.{RanAs}
+use Rattle.pieces.specs.declared.pieces.Fed.{Fed}
+use Rattle.pieces.specs.Fed.{RanAt, FedAs}
 
 -- A command that ran, counted from the front of the piece
 pub ran-at : (s : Store) (input : List ℕ) (at : ℕ) {r : Ran} {from : ℕ} {before out : List ℕ} {lent : Lent} {operands : List ℕ} → operands ≡ drop (at + 1) input

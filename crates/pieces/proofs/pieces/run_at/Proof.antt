@@ -3,10 +3,10 @@ use native.Mathlib.Omega.{arith}
 use lib.ListN.{length, drop, length-drop}
 use lib.Seq.{take-all}
 use Rattle.store.specs.Trees.{storeOf}
-use Rattle.interpret.proofs.PieceRuns.{ran-at}
+use Rattle.pieces.proofs.PieceRuns.{ran-at}
 use borrow.Author.Needs.{needs}
-use Rattle.interpret.proofs.pieces.run_at.Statement.{statement}
-use Rattle.interpret.proofs.pieces.run_at.Tie as tie
+use Rattle.pieces.proofs.pieces.run_at.Statement.{statement}
+use Rattle.pieces.proofs.pieces.run_at.Tie as tie
 
 command-end-requires : tie.Need-command-end-requires
 command-end-requires c κs = search needs

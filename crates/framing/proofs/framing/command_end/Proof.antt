@@ -1,8 +1,8 @@
 use native.Mathlib.Omega.{arith}
-use Rattle.interpret.proofs.PieceRuns.{short-end, full-end}
+use Rattle.framing.proofs.FramingLaws.{short-end, full-end}
 use borrow.Author.Needs.{needs}
-use Rattle.interpret.proofs.pieces.command_end.Statement.{statement}
-use Rattle.interpret.proofs.pieces.command_end.Tie as tie
+use Rattle.framing.proofs.framing.command_end.Statement.{statement}
+use Rattle.framing.proofs.framing.command_end.Tie as tie
 
 shared-slice-read-operand-count : tie.Need-shared-slice-read-operand-count
 shared-slice-read-operand-count c = search needs

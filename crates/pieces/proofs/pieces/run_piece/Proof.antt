@@ -5,10 +5,10 @@ use mathlib.Core.Bool.{false}
 use lib.ListN.{length, getD, drop}
 use Rattle.store.specs.Trees.{storeOf}
 use Rattle.command.specs.Pieces.{mustWait}
-use Rattle.interpret.proofs.PieceRuns.{Going, begin, all-taken, command-waits, still-fits, run-stops, run-goes-on}
+use Rattle.pieces.proofs.PieceRuns.{Going, begin, all-taken, command-waits, still-fits, run-stops, run-goes-on}
 use borrow.Author.Needs.{needs}
-use Rattle.interpret.proofs.pieces.run_piece.Statement.{statement}
-use Rattle.interpret.proofs.pieces.run_piece.Tie as tie
+use Rattle.pieces.proofs.pieces.run_piece.Statement.{statement}
+use Rattle.pieces.proofs.pieces.run_piece.Tie as tie
 
 abbrev Inv-loop : tie.InvT-loop
 Inv-loop start-table₀ start-roots₀ end-table₀ end-roots₀ input ended out₀ fed₀ start-table start-roots end-table end-roots out fed =

@@ -1,14 +1,15 @@
 // A piece of the stream: as many of its commands as have come and as there is room for answers.
-use crate::answers::LONGEST_ANSWER;
-use crate::run::run_command;
+use framing::command_end;
+use framing::must_wait;
+use interpret::run_command;
 use store::Head;
 ghost use mathlib.Core.Path.{_≡_};
 ghost use Prim.Native.Nat.{_+_, _≤_, _<_};
-ghost use lib.ListN.{length, getD, drop};
+ghost use lib.ListN.{length};
 ghost use Rattle.store.specs.Trees.{Lent, lentOf, Store, storeOf};
-ghost use Rattle.command.specs.Stream.{kindOf, operandBytes, longestAnswer};
-ghost use Rattle.command.specs.Pieces.{commandLength, mustWait, runPiece};
-ghost use Rattle.interpret.specs.Runs.{RanAt, FedAs};
+ghost use Rattle.command.specs.Stream.{longestAnswer};
+ghost use Rattle.command.specs.Pieces.{runPiece};
+ghost use Rattle.pieces.specs.Fed.{RanAt, FedAs};
 
 // What a piece leaves: the head for the next one, how many bytes were taken and written, and whether the run is over.
 pub struct Fed {
@@ -16,49 +17,6 @@ pub struct Fed {
     pub taken: usize,
     pub written: usize,
     pub over: bool,
-}
-
-// How many operand bytes follow a command byte. An unknown command has none: nothing more is read after it.
-fn operand_count(code: u8) -> usize
-    ensures { λ r. ⌜ r ≡ operandBytes (kindOf code) ⌝ }
-{
-    if code == 1 {
-        return 8;
-    }
-    if code == 2 {
-        return 8;
-    }
-    if code == 3 {
-        return 12;
-    }
-    0
-}
-
-// Whether the command at a place waits: an answer might not have room, or operands of it may still come.
-fn must_wait(input: &[u8], at: usize, ended: bool, room: usize) -> bool
-    requires { ⌜ at < length (now input) ⌝ }
-    ensures { λ r. ⌜ r ≡ mustWait room ended (getD (now (input .entry)) at 0) (drop (at + 1) (now (input .entry))) ⌝ }
-{
-    if room < LONGEST_ANSWER {
-        return true;
-    }
-    if ended {
-        return false;
-    }
-    input.len() - (at + 1) < operand_count(input[at])
-}
-
-// Where the command at a place ends, as far as it has come.
-fn command_end(input: &[u8], at: usize) -> usize
-    requires { ⌜ at < length (now input) ⌝ }
-    ensures { λ r. ⌜ r ≡ at + commandLength (getD (now (input .entry)) at 0) (drop (at + 1) (now (input .entry))) ⌝ }
-    ensures { λ r. ⌜ r ≤ length (now (input .entry)) ⌝ }
-{
-    let operands = operand_count(input[at]);
-    if input.len() - (at + 1) < operands {
-        return input.len();
-    }
-    at + 1 + operands
 }
 
 // Runs the command at a place of the piece, and writes what it says into `out` from a place on.

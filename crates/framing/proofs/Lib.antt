@@ -1,0 +1,2 @@
+-- Laws of commands in a piece.
+pub mod FramingLaws

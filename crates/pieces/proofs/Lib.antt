@@ -1,0 +1,2 @@
+-- Laws of pieces.
+pub mod PieceRuns

@@ -1,0 +1,2 @@
+-- Pieces of the stream, as the code runs them.
+pub mod Fed
