@@ -1,3 +1,2 @@
 -- Laws of the command program.
-pub mod BufferLaws
-pub mod TurnLaws
+pub mod ProgramLaws

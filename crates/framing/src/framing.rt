@@ -6,7 +6,7 @@ ghost use Rattle.command.specs.Stream.{kindOf, operandBytes};
 ghost use Rattle.command.specs.Pieces.{commandLength, mustWait};
 
 // No command writes more bytes than a question.
-const LONGEST_ANSWER: usize = 18;
+pub const LONGEST_ANSWER: usize = 18;
 
 // How many operand bytes follow a command byte. An unknown command has none: nothing more is read after it.
 fn operand_count(code: u8) -> usize

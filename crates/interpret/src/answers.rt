@@ -1,5 +1,6 @@
 // Answers as the bytes that a command writes.
 use codec::put_number;
+use framing::LONGEST_ANSWER;
 use store::Answer;
 ghost use mathlib.Core.Path.{_≡_};
 ghost use Prim.Native.Nat.{_+_, _≤_};
@@ -7,9 +8,6 @@ ghost use lib.ListN.{length};
 ghost use Rattle.words.specs.Overwrite.{overwrite};
 ghost use Rattle.store.specs.declared.types.Answer.the-variants as said;
 ghost use Rattle.command.specs.Stream.{written, longestAnswer};
-
-// No command writes more bytes than a question.
-pub const LONGEST_ANSWER: usize = 18;
 
 // "00h, pass number 4".
 fn put_started(out: &mut [u8], from: usize, number: u32)

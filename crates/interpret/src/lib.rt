@@ -2,6 +2,5 @@
 mod answers;
 mod run;
 
-pub use answers::LONGEST_ANSWER;
 pub use run::Ran;
 pub use run::run_command;

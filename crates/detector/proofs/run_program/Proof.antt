@@ -2,7 +2,7 @@ use mathlib.Core.Path.{_≡_}
 use Rattle.store.specs.Trees.{Store, storeOf}
 use Rattle.store.specs.Head.{openedHead}
 use Rattle.command.specs.Stream.{programTree, programLent}
-use Rattle.detector.proofs.TurnLaws.{from-opened}
+use Rattle.detector.proofs.ProgramLaws.{from-opened}
 use borrow.Author.Needs.{needs}
 use Rattle.detector.proofs.run_program.Statement.{statement}
 use Rattle.detector.proofs.run_program.Tie as tie

@@ -4,10 +4,10 @@ use mathlib.Core.Path.{refl, _∙_}
 use lib.ListN.{length}
 use Rattle.store.specs.Trees.{Store, storeOf}
 use Rattle.command.specs.Stream.{longestAnswer}
-use Rattle.detector.proofs.TurnLaws.{turned, waits-short}
+use Rattle.turns.proofs.TurnLaws.{turned, waits-short}
 use borrow.Author.Needs.{needs}
-use Rattle.detector.proofs.turn.turn.Statement.{statement}
-use Rattle.detector.proofs.turn.turn.Tie as tie
+use Rattle.turns.proofs.turn.turn.Statement.{statement}
+use Rattle.turns.proofs.turn.turn.Tie as tie
 
 read-behind-requires : tie.Need-read-behind-requires
 read-behind-requires c κs = search needs

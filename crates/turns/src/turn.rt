@@ -13,7 +13,7 @@ ghost use Rattle.store.specs.Trees.{Lent, lentOf, Store, storeOf};
 ghost use Rattle.command.specs.Stream.{longestAnswer};
 ghost use Rattle.command.specs.Pieces.{runPiece};
 ghost use Rattle.pieces.specs.Fed.{FedAs};
-ghost use Rattle.detector.specs.Turns.{feedOf, mostWaiting, Turned};
+ghost use Rattle.turns.specs.Turns.{feedOf, mostWaiting, Turned};
 
 // What a turn leaves: the head, how many bytes wait at the front of the buffer, and whether the run is over.
 pub struct Left {

@@ -1,8 +1,8 @@
 use mathlib.Core.Path.{sym}
 use lib.Seq.{length-take-le}
 use borrow.Author.Needs.{needs}
-use Rattle.detector.proofs.turn.write_front.Statement.{statement}
-use Rattle.detector.proofs.turn.write_front.Tie as tie
+use Rattle.turns.proofs.turn.write_front.Statement.{statement}
+use Rattle.turns.proofs.turn.write_front.Tie as tie
 
 slice-aggregate-write-all : tie.Need-slice-aggregate-write-all
 slice-aggregate-write-all c = sym (length-take-le _ _ (c .before .before .pre))

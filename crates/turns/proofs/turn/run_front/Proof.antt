@@ -7,8 +7,8 @@ use lib.Seq.{length-take-le}
 use Rattle.store.specs.Trees.{Store, storeOf}
 use Rattle.command.proofs.PieceReadings.{takes-inside, writes-inside}
 use borrow.Author.Needs.{needs}
-use Rattle.detector.proofs.turn.run_front.Statement.{statement}
-use Rattle.detector.proofs.turn.run_front.Tie as tie
+use Rattle.turns.proofs.turn.run_front.Statement.{statement}
+use Rattle.turns.proofs.turn.run_front.Tie as tie
 
 slice-aggregate-run-piece : tie.Need-slice-aggregate-run-piece
 slice-aggregate-run-piece c = sym (length-take-le _ _ (c .before .before .before .before .before .before .before .before .before .before .before .pre))

@@ -1,7 +1,7 @@
 -- A turn is a piece, and a run is a list of pieces.
 use Prim.Native.Nat.{ℕ, zero, suc, _+_, _-_, _*_, _≤_, _<_}
 use native.Mathlib.Omega.{arith}
-use mathlib.Core.Path.{_≡_, refl, ap, ap₂, sym, subst, _∙_}
+use mathlib.Core.Path.{_≡_, refl, ap, ap₂, sym, _∙_}
 use mathlib.Core.Bool.{Bool, true, false, true≢false}
 use mathlib.Core.Logic.{inl, inr}
 use mathlib.Core.List.{List, [], _∷_, _++_}
@@ -11,20 +11,14 @@ use lib.Dec.{eqb}
 use Rattle.words.specs.Overwrite.{overwrite}
 use Rattle.words.specs.Lists.{All}
 use Rattle.store.specs.Trees.{Lent, Store}
-use Rattle.store.specs.Head.{openedHead}
-use Rattle.store.specs.Calls.{opening}
-use Rattle.store.specs.Performing.{perform}
-use Rattle.updates.specs.declared.types.Reply.{Reply}
-use Rattle.updates.specs.Replies.{RepliedAs}
-use Rattle.command.specs.Stream.{longestAnswer, programLent, programStore, output}
+use Rattle.command.specs.Stream.{longestAnswer}
 use Rattle.command.specs.Pieces as piece
-use Rattle.command.specs.Pieces.{runPiece, Piece, Feed, programFeed, handedOver, fedWith, feedAfter, feedAll, writtenAll, inputOf, EndsOnce}
-use Rattle.command.proofs.AnyPieces.{any-pieces}
+use Rattle.command.specs.Pieces.{runPiece, Piece, Feed, handedOver, fedWith, feedAfter, feedAll, inputOf, EndsOnce}
 use Rattle.command.proofs.PieceReadings.{takes-inside, room-enough, unfinished-short}
 use Rattle.pieces.specs.declared.pieces.Fed.{Fed}
 use Rattle.pieces.specs.Fed.{FedAs}
-use Rattle.detector.specs.Turns.{pieceRead, feedOf, mostWaiting, Turned, mostTurns, Served}
-use Rattle.detector.proofs.BufferLaws.{rest-waits}
+use Rattle.turns.specs.Turns.{pieceRead, feedOf, mostWaiting, Turned, mostTurns, Served}
+use Rattle.turns.proofs.BufferLaws.{rest-waits}
 
 module _ (s : Store) (room : ℕ) (before : List ℕ) (waiting : ℕ) (read : List ℕ) (came : ℕ) (front : take waiting read ≡ take waiting before)
     (inside : waiting + came ≤ length read) where
@@ -155,17 +149,3 @@ no-turn-left g all e =
       over-is = e ∙ ap (λ (f : Feed). f .over) (g .feeds);
       finished = inr (g .count ∙ all);
     }
-
--- What runs on the opened store is the program's
-pub from-opened : {s : Store} → s ≡ record { head = openedHead; lent = programLent } → {reply : Reply} {lent : Lent} → RepliedAs (perform s opening) reply lent
-    → {left : Store} {over : Bool} → Served (record { store = record { head = reply .head; lent = lent }; waiting = []; over = false }) left over
-    → Served programFeed left over
-unfolding programStore
-from-opened {s} e {reply} {lent} replied {left} {over} h =
-    let opened : record { head = reply .head; lent = lent } ≡ perform s opening .store = λ i. record { head = replied .head i; lent = replied .lent-is i } in
-    let ours : record { head = reply .head; lent = lent } ≡ programStore = opened ∙ ap (λ (x : Store). perform x opening .store) e in
-    subst (λ (x : Store). Served (record { store = x; waiting = []; over = false }) left over) ours h
-
--- A run that is over has written, piece by piece, the output of its whole input
-pub run-writes : {left : Store} {over : Bool} (h : Served programFeed left over) → over ≡ true → writtenAll programFeed (h .pieces) ≡ output (inputOf (h .pieces))
-run-writes h e = any-pieces (h .pieces) (h .ends) (sym (h .over-is) ∙ e)

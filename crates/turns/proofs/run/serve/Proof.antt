@@ -6,11 +6,11 @@ use mathlib.Core.List.{[]}
 use lib.ListN.{length, length-replicate}
 use Rattle.store.specs.Trees.{storeOf}
 use Rattle.command.specs.Pieces.{Feed}
-use Rattle.detector.specs.Turns.{feedOf, mostWaiting, mostTurns}
-use Rattle.detector.proofs.TurnLaws.{Going, first-turn, one-turn-more, last-turn, no-turn-left}
+use Rattle.turns.specs.Turns.{feedOf, mostWaiting, mostTurns}
+use Rattle.turns.proofs.TurnLaws.{Going, first-turn, one-turn-more, last-turn, no-turn-left}
 use borrow.Author.Needs.{needs}
-use Rattle.detector.proofs.serve.Statement.{statement}
-use Rattle.detector.proofs.serve.Tie as tie
+use Rattle.turns.proofs.run.serve.Statement.{statement}
+use Rattle.turns.proofs.run.serve.Tie as tie
 
 abbrev Inv-loop : tie.InvT-loop
 Inv-loop start-table₀ start-roots₀ end-table₀ end-roots₀ buffer₀ out₀ now₀ left₀ start-table start-roots end-table end-roots buffer out now left =

@@ -1,2 +1,0 @@
--- The command program: what a turn of it does.
-pub mod Turns

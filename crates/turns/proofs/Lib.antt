@@ -1,0 +1,3 @@
+-- Laws of the turns.
+pub mod BufferLaws
+pub mod TurnLaws

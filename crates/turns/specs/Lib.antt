@@ -1,0 +1,2 @@
+-- The turns of the command program.
+pub mod Turns

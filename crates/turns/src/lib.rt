@@ -1,0 +1,7 @@
+// The turns of the command program: read, run, write.
+mod input;
+mod run;
+mod turn;
+
+pub use run::serve;
+pub use turn::Left;
