@@ -1,9 +1,9 @@
 // The calls that only read: the lookup of each tree, and the question, which is made of lookups.
+use grounds::lookup_input;
+use grounds::question_input;
 use lookup::lookup_at;
 use lookup_two::lookup_two_at;
 use refusals::head_refusal;
-use refusals::lookup_input;
-use refusals::question_input;
 use roots::find_root;
 use store::Answer;
 use store::Head;

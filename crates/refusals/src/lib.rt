@@ -1,9 +1,6 @@
 // The refusal lists of the calls: the number of the first ground that is met, or 0.
-mod grounds;
 mod refusals;
 
-pub use grounds::lookup_input;
-pub use grounds::question_input;
 pub use refusals::end_refusal;
 pub use refusals::head_refusal;
 pub use refusals::opening_refusal;

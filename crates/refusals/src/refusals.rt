@@ -1,9 +1,9 @@
 // The refusal lists: the number of the first ground that is met, or 0. What a ground reads is looked at only where no earlier one is met,
 // since only then may it be trusted: the head after 20, the open passes and the trees after that. The plan, which opens pages, comes last.
-use crate::grounds::end_input;
-use crate::grounds::end_state;
-use crate::grounds::start_input;
-use crate::grounds::start_state;
+use grounds::end_input;
+use grounds::end_state;
+use grounds::start_input;
+use grounds::start_state;
 use head::find_pass;
 use head::head_fits;
 use store::FoundPass;

@@ -1,8 +1,8 @@
 use borrow.Author.Tests.{lt-ltb, le-ltb, eq-eqb, ne-eqb}
 use Rattle.store.specs.Refusals.{firstMet}
 use borrow.Author.Needs.{needs}
-use Rattle.refusals.proofs.grounds.end_state.Statement.{statement}
-use Rattle.refusals.proofs.grounds.end_state.Tie as tie
+use Rattle.grounds.proofs.grounds.end_state.Statement.{statement}
+use Rattle.grounds.proofs.grounds.end_state.Tie as tie
 
 returns : tie.Need-returns
 unfolding firstMet

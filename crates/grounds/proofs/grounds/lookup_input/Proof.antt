@@ -1,8 +1,8 @@
 use Rattle.tree.proofs.ReplacedRows.{tests}
 use Rattle.store.specs.Refusals.{firstMet}
 use borrow.Author.Needs.{needs}
-use Rattle.refusals.proofs.grounds.lookup_input.Statement.{statement}
-use Rattle.refusals.proofs.grounds.lookup_input.Tie as tie
+use Rattle.grounds.proofs.grounds.lookup_input.Statement.{statement}
+use Rattle.grounds.proofs.grounds.lookup_input.Tie as tie
 
 returns : tie.Need-returns
 unfolding firstMet
