@@ -20,10 +20,10 @@ const ROOTS: [(&str, &str); 11] = [
     ("the calls for C", "firmware"),
     ("lists of calls for C", "firmware/proofs/ExportedLists.antt:exported-list"),
     ("packets of commands for C, one after the other", "firmware/proofs/PacketLaws.antt:exported-packets"),
-    ("a piece of the command stream on lent slices", "interpret"),
+    ("a piece of the command stream on lent slices", "pieces"),
     ("the command program", "command/specs/Stream.antt:output"),
     ("any pieces of the stream", "command/proofs/AnyPieces.antt:any-pieces"),
-    ("a run of the program", "detector/specs/Turns.antt:Served"),
+    ("a run of the program", "turns/specs/Turns.antt:Served"),
     ("demand 3", "store/proofs/Main.antt:demand-3"),
     ("the table of trials", "trials_proved/proofs/Table.antt:table"),
 ];
