@@ -70,7 +70,7 @@ pub record Feed : Type 0 where
 abbrev pub programFeed : Feed
 programFeed = record { store = programStore; waiting = []; over = false }
 
--- What was not taken is handed over again, with what came since in behind it
+-- What was not taken is handed over again, with what came since behind it
 abbrev pub handedOver : Feed → Piece → List ℕ
 handedOver f p = f .waiting ++ p .bytes
 

@@ -17,7 +17,7 @@ use Rattle.command.specs.Pieces.{runPiece, Piece, Feed, handedOver, fedWith, fe
 use Rattle.command.proofs.PieceReadings.{takes-inside, room-enough, unfinished-short}
 use Rattle.pieces.specs.declared.pieces.Fed.{Fed}
 use Rattle.pieces.specs.Fed.{FedAs}
-use Rattle.turns.specs.Turns.{pieceRead, feedOf, mostWaiting, Turned, mostTurns, Served}
+use Rattle.turns.specs.Turns.{pieceRead, IsRead, feedOf, mostWaiting, Turned, mostTurns, Served}
 use Rattle.turns.proofs.BufferLaws.{rest-waits}
 
 module _ (s : Store) (room : ℕ) (before : List ℕ) (waiting : ℕ) (read : List ℕ) (came : ℕ) (front : take waiting read ≡ take waiting before)
@@ -85,6 +85,7 @@ module _ (s : Store) (room : ℕ) (before : List ℕ) (waiting : ℕ) (read : Li
 -- Turns so far: pieces of which none was the last
 pub record Going (before now : Feed) (turns : ℕ) : Type 0 where
   pub pieces : List Piece
+  pub reads : All IsRead pieces
   pub open-yet : All (λ (p : Piece). p .ended ≡ false) pieces
   pub feeds : now ≡ feedAll before pieces
   pub count : length pieces ≡ turns
@@ -110,7 +111,7 @@ ends-last (q ∷ pieces) p h = (λ e. absurd (true≢false (sym e ∙ h .0)), en
 
 pub first-turn : (f : Feed) → Going f f 0
 unfolding feedAll
-first-turn f = record { pieces = []; open-yet = tt; feeds = refl; count = refl }
+first-turn f = record { pieces = []; reads = tt; open-yet = tt; feeds = refl; count = refl }
 
 module _ {before now after : Feed} {turns room : ℕ} (g : Going before now turns) (t : Turned room now after) where
   abbrev next : Piece
@@ -125,6 +126,7 @@ module _ {before now after : Feed} {turns room : ℕ} (g : Going before now turn
       let same : record { store = after .store; waiting = after .waiting; over = false } ≡ after = λ i. record { store = after .store; waiting = after .waiting; over = off-so i } in
       record {
         pieces = g .pieces ++ (next ∷ []);
+        reads = all-more IsRead (g .pieces) next (g .reads) refl;
         open-yet = all-more (λ (p : Piece). p .ended ≡ false) (g .pieces) next (g .open-yet) (t .goes-on off);
         feeds = same ∙ fed-so-far;
         count = omega (arith, length-append (g .pieces) (next ∷ []), g .count, e);
@@ -134,6 +136,7 @@ module _ {before now after : Feed} {turns room : ℕ} (g : Going before now turn
   last-turn e =
       record {
         pieces = g .pieces ++ (next ∷ []);
+        reads = all-more IsRead (g .pieces) next (g .reads) refl;
         ends = ends-last (g .pieces) next (g .open-yet);
         store = ap (λ (f : Feed). f .store) fed-so-far;
         over-is = ap (λ (f : Feed). f .over) fed-so-far;
@@ -144,6 +147,7 @@ pub no-turn-left : {before now : Feed} {turns : ℕ} → Going before now turns 
 no-turn-left g all e =
     record {
       pieces = g .pieces;
+      reads = g .reads;
       ends = ends-open (g .pieces) (g .open-yet);
       store = ap (λ (f : Feed). f .store) (g .feeds);
       over-is = e ∙ ap (λ (f : Feed). f .over) (g .feeds);

@@ -6,7 +6,7 @@ use pieces::Fed;
 use pieces::run_piece;
 use store::Head;
 ghost use mathlib.Core.Path.{_≡_};
-ghost use Prim.Native.Nat.{_+_, _*_, _≤_};
+ghost use Prim.Native.Nat.{_+_, _*_, _≤_, _<_};
 ghost use mathlib.Core.Bool.{false};
 ghost use lib.ListN.{length, take};
 ghost use Rattle.store.specs.Trees.{Lent, lentOf, Store, storeOf};
@@ -74,7 +74,7 @@ pub fn turn(
     out: &mut [u8],
 ) -> Left
     requires { ⌜ waiting ≤ mostWaiting ⌝ }
-    requires { ⌜ mostWaiting ≤ length (now buffer) ⌝ }
+    requires { ⌜ mostWaiting < length (now buffer) ⌝ }
     requires { ⌜ 2 * length (now buffer) + longestAnswer ≤ length (now out) ⌝ }
     ensures { λ r. do
       let s : Store = storeOf head (now («start_table» .entry)) (now («start_roots» .entry)) (now («end_table» .entry)) (now («end_roots» .entry))
