@@ -2,17 +2,14 @@
 use Prim.Native.Nat.{ℕ, _+_, _≤_}
 use native.Mathlib.Omega.{arith}
 use mathlib.Core.Path.{_≡_, ap, _∙_}
-use mathlib.Core.Bool.{Bool, true, false, cond}
 use mathlib.Core.List.{List, [], _++_, append-nil}
 use lib.ListN.{length, length-append}
-use lib.Dec.{ltb}
 use Rattle.store.specs.declared.types.Answer.{Answer}
 use Rattle.store.specs.declared.types.Answer.the-variants.{Refused, Opened, Started, Ended, Totals}
 use Rattle.store.specs.Trees.{Store}
-use Rattle.store.specs.Performing.{perform}
 use Rattle.codec.specs.Bytes.{bytesOf}
 use Rattle.codec.proofs.ByteLaws.{bytes-length}
-use Rattle.command.specs.Stream.{Kind, unknown, command, kindOf, written, longestAnswer, cutShort, stops, answers, runKind, runOne}
+use Rattle.command.specs.Stream.{kindOf, written, longestAnswer, answered, runOne}
 
 -- A code with no value behind it
 pub code-only : (n : ℕ) → bytesOf 1 n ++ [] ≡ bytesOf 1 n
@@ -51,13 +48,5 @@ written-fits (Started n) = omega (arith, started-length n)
 written-fits Ended = omega (arith, code-length 0)
 written-fits (Totals count sum pages) = omega (arith, totals-length count sum pages)
 
-kind-fits : (s : Store) (bytes : List ℕ) (kind : Kind) → length (runKind s bytes kind .output) ≤ longestAnswer
-kind-fits s bytes unknown = omega arith
-kind-fits s bytes (command n call) = go (ltb (length bytes) n)
-  where
-    go : (b : Bool) → length (cond b (stops s cutShort) (answers (perform s (call bytes))) .output) ≤ longestAnswer
-    go true = omega arith
-    go false = written-fits (perform s (call bytes) .answer)
-
 pub output-fits : (s : Store) (code : ℕ) (bytes : List ℕ) → length (runOne s code bytes .output) ≤ longestAnswer
-output-fits s code bytes = kind-fits s bytes (kindOf code)
+output-fits s code bytes = written-fits (answered s bytes (kindOf code) .answer)

@@ -1,45 +1,58 @@
--- Which command a byte stands for, by the tests that the code makes of it.
-use Prim.Native.Nat.{ℕ, _≤_}
+-- Which command a byte stands for, by the tests that the code makes of it, and what the command answers, by how many bytes follow.
+use Prim.Native.Nat.{ℕ, _≤_, _<_}
 use native.Mathlib.Omega.{arith}
 use mathlib.Core.Path.{_≡_, refl, ap, _∙_}
 use mathlib.Core.Bool.{Bool, true, false, cond}
-use lib.Dec.{eqb}
-use borrow.Author.Tests.{eq-eqb, ne-eqb}
-use Rattle.command.specs.Stream.{Kind, unknown, command, startCommand, endCommand, questionCommand, kindOf, operandBytes}
+use mathlib.Core.List.{List}
+use lib.ListN.{length}
+use lib.Dec.{ltb, eqb}
+use borrow.Author.Tests.{eq-eqb, ne-eqb, lt-ltb, le-ltb}
+use Rattle.store.specs.Trees.{Store}
+use Rattle.store.specs.Calls.{Call}
+use Rattle.store.specs.Performing.{perform}
+use Rattle.command.specs.Stream.{Kind, unknown, command, startCommand, endCommand, questionCommand, eventKind, kindOf, operandBytes, refusedWith, answered}
 
-abbrev kinds : Bool → Bool → Bool → Kind
-kinds x y z = cond x (command 8 startCommand) (cond y (command 8 endCommand) (cond z (command 12 questionCommand) unknown))
+abbrev events : Bool → Bool → Kind
+events x y = cond x (command 8 startCommand) (cond y (command 8 endCommand) unknown)
 
 module _ (code : ℕ) where
-  pub kind-start : code ≡ 1 → kindOf code ≡ command 8 startCommand
-  kind-start e = ap (λ (x : Bool). kinds x (eqb code 2) (eqb code 3)) (eq-eqb code 1 e)
+  pub event-start : code ≡ 1 → eventKind code ≡ command 8 startCommand
+  event-start e = ap (λ (x : Bool). events x (eqb code 2)) (eq-eqb code 1 e)
 
-  not-start : (code ≡ 1 → ⊥) → kindOf code ≡ cond (eqb code 2) (command 8 endCommand) (cond (eqb code 3) (command 12 questionCommand) unknown)
-  not-start n = ap (λ (x : Bool). kinds x (eqb code 2) (eqb code 3)) (ne-eqb code 1 n)
+  not-start : (code ≡ 1 → ⊥) → eventKind code ≡ cond (eqb code 2) (command 8 endCommand) unknown
+  not-start n = ap (λ (x : Bool). events x (eqb code 2)) (ne-eqb code 1 n)
 
-  pub kind-end : (code ≡ 1 → ⊥) → code ≡ 2 → kindOf code ≡ command 8 endCommand
-  kind-end n e = not-start n ∙ ap (λ (y : Bool). cond y (command 8 endCommand) (cond (eqb code 3) (command 12 questionCommand) unknown)) (eq-eqb code 2 e)
+  pub event-end : (code ≡ 1 → ⊥) → code ≡ 2 → eventKind code ≡ command 8 endCommand
+  event-end n e = not-start n ∙ ap (λ (y : Bool). cond y (command 8 endCommand) unknown) (eq-eqb code 2 e)
 
-  neither : (code ≡ 1 → ⊥) → (code ≡ 2 → ⊥) → kindOf code ≡ cond (eqb code 3) (command 12 questionCommand) unknown
-  neither n m = not-start n ∙ ap (λ (y : Bool). cond y (command 8 endCommand) (cond (eqb code 3) (command 12 questionCommand) unknown)) (ne-eqb code 2 m)
+  pub event-unknown : (code ≡ 1 → ⊥) → (code ≡ 2 → ⊥) → eventKind code ≡ unknown
+  event-unknown n m = not-start n ∙ ap (λ (y : Bool). cond y (command 8 endCommand) unknown) (ne-eqb code 2 m)
 
-  pub kind-question : (code ≡ 1 → ⊥) → (code ≡ 2 → ⊥) → code ≡ 3 → kindOf code ≡ command 12 questionCommand
-  kind-question n m e = neither n m ∙ ap (λ (z : Bool). cond z (command 12 questionCommand) unknown) (eq-eqb code 3 e)
+  pub kind-question : code ≡ 3 → kindOf code ≡ command 12 questionCommand
+  kind-question e = ap (λ (x : Bool). cond x (command 12 questionCommand) (eventKind code)) (eq-eqb code 3 e)
 
-  pub kind-unknown : (code ≡ 1 → ⊥) → (code ≡ 2 → ⊥) → (code ≡ 3 → ⊥) → kindOf code ≡ unknown
-  kind-unknown n m l = neither n m ∙ ap (λ (z : Bool). cond z (command 12 questionCommand) unknown) (ne-eqb code 3 l)
+  pub kind-event : (code ≡ 3 → ⊥) → kindOf code ≡ eventKind code
+  kind-event n = ap (λ (x : Bool). cond x (command 12 questionCommand) (eventKind code)) (ne-eqb code 3 n)
 
 -- What holds of the three commands and of an unknown byte holds of every byte
 pub by-kind : (P : Kind → Type 0) → P (command 8 startCommand) → P (command 8 endCommand) → P (command 12 questionCommand) → P unknown
     → (code : ℕ) → P (kindOf code)
-by-kind P s e q u code = go (eqb code 1) (eqb code 2) (eqb code 3)
+by-kind P s e q u code = go (eqb code 3) (eqb code 1) (eqb code 2)
   where
-    go : (x y z : Bool) → P (kinds x y z)
-    go true y z = s
-    go false true z = e
-    go false false true = q
+    go : (x y z : Bool) → P (cond x (command 12 questionCommand) (events y z))
+    go true y z = q
+    go false true z = s
+    go false false true = e
     go false false false = u
 
 -- No command has more operands than a question
 pub few-operands : (code : ℕ) → operandBytes (kindOf code) ≤ 12
 few-operands = by-kind (λ (kind : Kind). operandBytes kind ≤ 12) (omega arith) (omega arith) (omega arith) (omega arith)
+
+-- Too few operand bytes, or enough
+module _ (s : Store) (bytes : List ℕ) (n : ℕ) (call : List ℕ → Call) where
+  pub cut-short : length bytes < n → answered s bytes (command n call) ≡ refusedWith 7 s
+  cut-short h = ap (λ (x : Bool). cond x (refusedWith 7 s) (perform s (call bytes))) (lt-ltb (length bytes) n h)
+
+  pub whole : n ≤ length bytes → answered s bytes (command n call) ≡ perform s (call bytes)
+  whole h = ap (λ (x : Bool). cond x (refusedWith 7 s) (perform s (call bytes))) (le-ltb (length bytes) n h)

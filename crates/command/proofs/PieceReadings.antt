@@ -2,40 +2,35 @@
 use Prim.Native.Nat.{ℕ, zero, suc, _+_, _-_, _*_, _≤_, _<_, min}
 use native.Mathlib.Omega.{arith}
 use mathlib.Core.Path.{_≡_, refl, ap, sym, subst, _∙_}
-use mathlib.Core.Bool.{Bool, true, false, true≢false, cond, not, _&&_, _||_}
+use mathlib.Core.Bool.{Bool, true, false, true≢false, not, _&&_, _||_}
 use mathlib.Core.Logic.{_⊎_, inl, inr}
 use mathlib.Core.List.{List, [], _∷_, _++_}
 use lib.ListN.{length, drop, length-append, length-drop}
 use lib.Dec.{ltb}
-use borrow.Author.Tests.{ltb-true}
+use borrow.Author.Tests.{ltb-true, not-false}
 use Rattle.store.specs.Trees.{Store}
-use Rattle.store.specs.Performing.{perform}
-use Rattle.command.specs.Stream.{Kind, unknown, command, kindOf, operandBytes, longestAnswer, cutShort, Ran, stops, answers, runKind, runOne}
+use Rattle.store.specs.Answers.{Answered}
+use Rattle.command.specs.Stream.{Kind, unknown, command, kindOf, operandBytes, written, longestAnswer, goesOn, runKind, runOne}
 use Rattle.command.specs.Pieces.{Fed, takesNothing, followed, commandLength, isUnfinished, mustWait, runPiece}
-use Rattle.command.proofs.KindLaws.{by-kind, few-operands}
-use Rattle.command.proofs.AnswerLengths.{output-fits}
+use Rattle.command.proofs.KindLaws.{by-kind, few-operands, cut-short}
+use Rattle.command.proofs.AnswerLengths.{code-length, output-fits}
 use Rattle.command.proofs.PieceSteps.{on-whole, has-room, taken-on, each-piece}
 
 -- A command byte with its operands has 9 bytes at least; 6 and 7 are one byte
-kind-long : (s : Store) (b : ℕ) (bytes : List ℕ) → runOne s b bytes .on ≡ true → 8 ≤ operandBytes (kindOf b)
-kind-long s b bytes =
-    by-kind (λ (kind : Kind). runKind s bytes kind .on ≡ true → 8 ≤ operandBytes kind)
+kind-long : (b : ℕ) (bytes : List ℕ) → goesOn bytes (kindOf b) ≡ true → 8 ≤ operandBytes (kindOf b)
+kind-long b bytes =
+    by-kind (λ (kind : Kind). goesOn bytes kind ≡ true → 8 ≤ operandBytes kind)
     (λ e. omega arith)
     (λ e. omega arith)
     (λ e. omega arith)
     (λ e. absurd (true≢false (sym e)))
     b
 
-stop-short : (s : Store) (bytes : List ℕ) (kind : Kind) → runKind s bytes kind .on ≡ false → length (runKind s bytes kind .output) ≡ 1
-stop-short s bytes unknown e = refl
-stop-short s bytes (command n call) e = go (ltb (length bytes) n) e
-  where
-    ran : Bool → Ran
-    ran x = cond x (stops s cutShort) (answers (perform s (call bytes)))
-
-    go : (x : Bool) → ran x .on ≡ false → length (ran x .output) ≡ 1
-    go true e = refl
-    go false e = absurd (true≢false e)
+stop-short : (s : Store) (bytes : List ℕ) (kind : Kind) → goesOn bytes kind ≡ false → length (runKind s bytes kind .output) ≡ 1
+stop-short s bytes unknown e = code-length 6
+stop-short s bytes (command n call) e =
+    ap (λ (a : Answered). length (written (a .answer))) (cut-short s bytes n call (ltb-true (length bytes) n (not-false (ltb (length bytes) n) e)))
+    ∙ code-length 7
 
 -- No more bytes than there are
 pub takes-inside : (room : ℕ) (ended : Bool) (s : Store) (bytes : List ℕ) → runPiece room ended s bytes .taken ≤ length bytes
@@ -60,7 +55,7 @@ writes-few room ended s bytes =
       h,
       length-append (runOne s b bytes .output) (f .output),
       output-fits s b bytes,
-      kind-long s b bytes o,
+      kind-long b bytes o,
       on-whole s b bytes o,
     ))
     room ended s bytes

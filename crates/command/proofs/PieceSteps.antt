@@ -7,24 +7,19 @@ use mathlib.Core.List.{List, [], _∷_}
 use lib.ListN.{length, drop, length-drop}
 use lib.Seq.{drop-drop}
 use lib.Dec.{ltb}
-use borrow.Author.Tests.{ltb-false}
+use borrow.Author.Tests.{ltb-false, not-true}
 use Rattle.store.specs.Trees.{Store}
-use Rattle.store.specs.Performing.{perform}
 use Rattle.store.proofs.RefusalLaws.{or-false}
-use Rattle.command.specs.Stream.{Kind, unknown, command, kindOf, operandBytes, longestAnswer, cutShort, Ran, stops, answers, runKind, runOne}
+use Rattle.command.specs.Stream.{Kind, unknown, command, kindOf, operandBytes, longestAnswer, goesOn, Ran, runOne}
 use Rattle.command.specs.Pieces.{Fed, takesNothing, followed, commandLength, mustWait, overAfter, thenPiece, runPieceFor, runPiece}
 
 -- A run goes on only after a whole command
-kind-whole : (s : Store) (bytes : List ℕ) (kind : Kind) → runKind s bytes kind .on ≡ true → operandBytes kind ≤ length bytes
-kind-whole s bytes unknown e = absurd (true≢false (sym e))
-kind-whole s bytes (command n call) e = go (ltb (length bytes) n) refl e
-  where
-    go : (x : Bool) → ltb (length bytes) n ≡ x → cond x (stops s cutShort) (answers (perform s (call bytes))) .on ≡ true → n ≤ length bytes
-    go true t e = absurd (true≢false (sym e))
-    go false t e = ltb-false (length bytes) n t
+kind-whole : (bytes : List ℕ) (kind : Kind) → goesOn bytes kind ≡ true → operandBytes kind ≤ length bytes
+kind-whole bytes unknown e = absurd (true≢false (sym e))
+kind-whole bytes (command n call) e = ltb-false (length bytes) n (not-true (ltb (length bytes) n) e)
 
 pub on-whole : (s : Store) (b : ℕ) (bytes : List ℕ) → runOne s b bytes .on ≡ true → operandBytes (kindOf b) ≤ length bytes
-on-whole s b bytes = kind-whole s bytes (kindOf b)
+on-whole s b bytes = kind-whole bytes (kindOf b)
 
 -- A command that does not wait has room for its answer
 pub has-room : (room : ℕ) (ended : Bool) (b : ℕ) (bytes : List ℕ) → mustWait room ended b bytes ≡ false → longestAnswer ≤ room

@@ -3,7 +3,7 @@
 use Prim.Native.Nat.{ℕ, zero, suc, _+_, _≤_}
 use native.Mathlib.Omega.{arith}
 use mathlib.Core.Path.{_≡_, refl, ap, ap₂, sym, _∙_}
-use mathlib.Core.Bool.{Bool, true, false, cond}
+use mathlib.Core.Bool.{Bool, true, false, cond, not}
 use mathlib.Core.List.{List, [], _∷_, _++_}
 use lib.ListN.{length, take, drop, length-take, length-drop}
 use lib.Dec.{ltb}
@@ -11,10 +11,11 @@ use lib.Seq.{take-take}
 use native.Mathlib.Decide.{decLe}
 use borrow.Author.Tests.{lt-ltb, le-ltb}
 use Rattle.store.specs.Trees.{Store}
+use Rattle.store.specs.Answers.{Answered}
 use Rattle.store.specs.Calls.{Call, start, end, question}
 use Rattle.store.specs.Performing.{perform}
 use Rattle.codec.specs.Bytes.{numberOf, operand}
-use Rattle.command.specs.Stream.{Kind, unknown, command, startCommand, endCommand, questionCommand, kindOf, operandBytes, cutShort, Ran, stops, answers, runKind, runOne, thenRest, runFor}
+use Rattle.command.specs.Stream.{Kind, unknown, command, startCommand, endCommand, questionCommand, kindOf, operandBytes, written, refusedWith, Ran, runKind, runOne, thenRest, runFor}
 use Rattle.command.proofs.KindLaws.{by-kind}
 
 -- The rest of the input, where two ways to go on agree on it
@@ -79,7 +80,10 @@ cut-same bytes n = go (decLe n (length bytes))
 one-front : (s : Store) (bytes : List ℕ) (n : ℕ) (call : List ℕ → Call) → call (take n bytes) ≡ call bytes
     → runKind s (take n bytes) (command n call) ≡ runKind s bytes (command n call)
 one-front s bytes n call same =
-    ap₂ (λ (b : Bool) (c : Call). cond b (stops s cutShort) (answers (perform s c))) (cut-same bytes n) same
+    ap₂ (λ (x : Bool) (c : Call). ran x (cond x (refusedWith 7 s) (perform s c))) (cut-same bytes n) same
+  where
+    ran : Bool → Answered → Ran
+    ran x a = record { output = written (a .answer); store = a .store; on = not x }
 
 pub front-enough : (s : Store) (byte : ℕ) (bytes : List ℕ) → runOne s byte (take (operandBytes (kindOf byte)) bytes) ≡ runOne s byte bytes
 front-enough s byte bytes =

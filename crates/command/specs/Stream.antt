@@ -1,7 +1,7 @@
 -- The command program, from its whole input to its whole output: document 01, "Commands".
 use Prim.Native.Nat.{ℕ, zero, suc, _*_}
 use mathlib.Core.List.{List, [], _∷_, _++_}
-use mathlib.Core.Bool.{Bool, true, false, cond}
+use mathlib.Core.Bool.{Bool, true, false, cond, not}
 use lib.ListN.{length, drop, replicate}
 use lib.Dec.{ltb, eqb}
 use Rattle.tree.specs.Row.{pageWords}
@@ -31,9 +31,12 @@ endCommand b = end (operand b 0 4) (operand b 4 4)
 abbrev pub questionCommand : List ℕ → Call
 questionCommand b = question (operand b 0 2) (operand b 2 2) (operand b 4 4) (operand b 8 4)
 
+-- The commands that enter a point, "01h start" and "02h end"
+abbrev pub eventKind : ℕ → Kind
+eventKind byte = cond (eqb byte 1) (command 8 startCommand) (cond (eqb byte 2) (command 8 endCommand) unknown)
+
 abbrev pub kindOf : ℕ → Kind
-kindOf byte =
-    cond (eqb byte 1) (command 8 startCommand) (cond (eqb byte 2) (command 8 endCommand) (cond (eqb byte 3) (command 12 questionCommand) unknown))
+kindOf byte = cond (eqb byte 3) (command 12 questionCommand) (eventKind byte)
 
 -- So many bytes for each value of an answer: "Writes 00h, pass number 4."; "Writes 00h."; "Writes 00h, count 8, sum 8, pages opened 1."
 abbrev pub widthsOf : Answer → List ℕ
@@ -56,13 +59,19 @@ written a = bytesOf 1 (refusalOf a) ++ spelled (widthsOf a) (valuesOf a)
 abbrev pub longestAnswer : ℕ
 longestAnswer = 18
 
--- "6 unknown command byte."
-abbrev pub unknownCommand : List ℕ
-unknownCommand = 6 ∷ []
+-- "A refusal returns its number and no other field", "every lent word and the head are as before"
+abbrev pub refusedWith : ℕ → Store → Answered
+refusedWith n s = record { answer = Refused n; store = s }
 
--- "7 command cut short."
-abbrev pub cutShort : List ℕ
-cutShort = 7 ∷ []
+-- What a command answers and leaves, from the bytes that follow its byte: the operands, and more. "6 unknown command byte.", "7 command cut short."
+abbrev pub answered : Store → List ℕ → Kind → Answered
+answered s bytes unknown = refusedWith 6 s
+answered s bytes (command n call) = cond (ltb (length bytes) n) (refusedWith 7 s) (perform s (call bytes))
+
+-- "After 6 or 7 nothing more is read."
+abbrev pub goesOn : List ℕ → Kind → Bool
+goesOn bytes unknown = false
+goesOn bytes (command n call) = not (ltb (length bytes) n)
 
 -- What one command writes, what it leaves, and whether the run goes on
 pub record Ran : Type 0 where
@@ -70,16 +79,9 @@ pub record Ran : Type 0 where
   pub store : Store
   pub on : Bool
 
-abbrev pub stops : Store → List ℕ → Ran
-stops s output = record { output = output; store = s; on = false }
-
-abbrev pub answers : Answered → Ran
-answers a = record { output = written (a .answer); store = a .store; on = true }
-
--- The bytes that follow the command byte: the operands, and more. "7 command cut short"
 abbrev pub runKind : Store → List ℕ → Kind → Ran
-runKind s bytes unknown = stops s unknownCommand
-runKind s bytes (command n call) = cond (ltb (length bytes) n) (stops s cutShort) (answers (perform s (call bytes)))
+runKind s bytes kind =
+    record { output = written (answered s bytes kind .answer); store = answered s bytes kind .store; on = goesOn bytes kind }
 
 abbrev pub runOne : Store → ℕ → List ℕ → Ran
 runOne s byte bytes = runKind s bytes (kindOf byte)
@@ -88,7 +90,7 @@ abbrev pub operandBytes : Kind → ℕ
 operandBytes unknown = 0
 operandBytes (command n call) = n
 
--- The output of one command, then that of the rest of the input. "After 6 or 7 nothing more is read."
+-- The output of one command, then that of the rest of the input, where the run goes on
 abbrev pub thenRest : (Store → List ℕ → List ℕ) → List ℕ → Ran → List ℕ
 thenRest onward rest r = r .output ++ cond (r .on) (onward (r .store) rest) []
 

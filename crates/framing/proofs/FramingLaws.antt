@@ -1,43 +1,60 @@
--- The command at a place of a piece: whether it waits, and where it ends.
-use Prim.Native.Nat.{ℕ, suc, _+_, _-_, _≤_, _<_, min}
+-- A command by its byte and the bytes behind it: how many operands it has, whether it waits, and whether the run goes on after it.
+use Prim.Native.Nat.{ℕ, _≤_, _<_}
 use native.Mathlib.Omega.{arith}
-use mathlib.Core.Path.{_≡_, ap, ap₂, sym, _∙_}
+use mathlib.Core.Path.{_≡_, refl, ap, sym, _∙_}
 use mathlib.Core.Bool.{Bool, true, false, not, _&&_, _||_}
 use mathlib.Core.List.{List}
-use lib.ListN.{length, getD, drop, length-drop}
+use lib.ListN.{length}
 use lib.Dec.{ltb}
 use borrow.Author.Tests.{lt-ltb, le-ltb}
-use Rattle.command.specs.Stream.{kindOf, operandBytes, longestAnswer}
-use Rattle.command.specs.Pieces.{commandLength, isUnfinished, mustWait}
+use Rattle.command.specs.Stream.{Kind, kindOf, operandBytes, goesOn, longestAnswer}
+use Rattle.command.specs.Pieces.{isUnfinished, mustWait}
+use Rattle.command.proofs.KindLaws.{by-kind, kind-question, kind-event, event-start, event-end, event-unknown}
 
--- The command at a place of the piece
-module _ (input : List ℕ) (at : ℕ) where
-  abbrev pub code : ℕ
-  code = getD input at 0
+-- How many operands a byte has, test by test
+module _ (code : ℕ) where
+  pub question-operands : code ≡ 3 → 12 ≡ operandBytes (kindOf code)
+  question-operands e = sym (ap operandBytes (kind-question code e))
 
-  abbrev pub behind : List ℕ
-  behind = drop (at + 1) input
+  pub start-operands : (code ≡ 3 → ⊥) → code ≡ 1 → 8 ≡ operandBytes (kindOf code)
+  start-operands n e = sym (ap operandBytes (kind-event code n ∙ event-start code e))
 
+  pub end-operands : (code ≡ 3 → ⊥) → (code ≡ 1 → ⊥) → code ≡ 2 → 8 ≡ operandBytes (kindOf code)
+  end-operands n m e = sym (ap operandBytes (kind-event code n ∙ event-end code m e))
+
+  pub no-operands : (code ≡ 3 → ⊥) → (code ≡ 1 → ⊥) → (code ≡ 2 → ⊥) → 0 ≡ operandBytes (kindOf code)
+  no-operands n m l = sym (ap operandBytes (kind-event code n ∙ event-unknown code m l))
+
+module _ (code : ℕ) (rest : List ℕ) where
   -- Whether it waits, test by test
   module _ (room : ℕ) (ended : Bool) where
-    pub waits-for-room : room < longestAnswer → true ≡ mustWait room ended code behind
-    waits-for-room h = ap (λ (x : Bool). x || (not ended && isUnfinished code behind)) (sym (lt-ltb room longestAnswer h))
+    pub waits-for-room : room < longestAnswer → true ≡ mustWait room ended code rest
+    waits-for-room h = ap (λ (x : Bool). x || (not ended && isUnfinished code rest)) (sym (lt-ltb room longestAnswer h))
 
-    roomy : longestAnswer ≤ room → mustWait room ended code behind ≡ (not ended && isUnfinished code behind)
-    roomy h = ap (λ (x : Bool). x || (not ended && isUnfinished code behind)) (le-ltb room longestAnswer h)
+    roomy : longestAnswer ≤ room → mustWait room ended code rest ≡ (not ended && isUnfinished code rest)
+    roomy h = ap (λ (x : Bool). x || (not ended && isUnfinished code rest)) (le-ltb room longestAnswer h)
 
-    pub ended-runs : longestAnswer ≤ room → ended ≡ true → false ≡ mustWait room ended code behind
-    ended-runs h e = sym (roomy h ∙ ap (λ (x : Bool). not x && isUnfinished code behind) e)
+    pub ended-runs : longestAnswer ≤ room → ended ≡ true → false ≡ mustWait room ended code rest
+    ended-runs h e = sym (roomy h ∙ ap (λ (x : Bool). not x && isUnfinished code rest) e)
 
-    pub waits-for-bytes : longestAnswer ≤ room → ended ≡ false → (operands : ℕ) → operands ≡ operandBytes (kindOf code)
-        → ltb (length input - (at + 1)) operands ≡ mustWait room ended code behind
-    waits-for-bytes h e operands is =
-        ap₂ ltb (sym (length-drop (at + 1) input)) is ∙ sym (roomy h ∙ ap (λ (x : Bool). not x && isUnfinished code behind) e)
+    pub waits-for-bytes : longestAnswer ≤ room → ended ≡ false → isUnfinished code rest ≡ mustWait room ended code rest
+    waits-for-bytes h e = sym (roomy h ∙ ap (λ (x : Bool). not x && isUnfinished code rest) e)
 
-  -- Where it ends, operands missing or not
-  module _ (operands : ℕ) (is : operands ≡ operandBytes (kindOf code)) (inside : at < length input) where
-    pub short-end : length input - (at + 1) < operands → length input ≡ at + commandLength code behind
-    short-end h = omega (arith, is, inside, h, length-drop (at + 1) input)
+  -- The commands are those that have operands
+  pub unknown-ends : operandBytes (kindOf code) ≡ 0 → false ≡ goesOn rest (kindOf code)
+  unknown-ends =
+      by-kind (λ (kind : Kind). operandBytes kind ≡ 0 → false ≡ goesOn rest kind)
+      (λ e. absurd (omega (arith, e)))
+      (λ e. absurd (omega (arith, e)))
+      (λ e. absurd (omega (arith, e)))
+      (λ e. refl)
+      code
 
-    pub full-end : operands ≤ length input - (at + 1) → at + 1 + operands ≡ at + commandLength code behind
-    full-end h = omega (arith, is, h, length-drop (at + 1) input)
+  pub known-goes-on : (operandBytes (kindOf code) ≡ 0 → ⊥) → not (isUnfinished code rest) ≡ goesOn rest (kindOf code)
+  known-goes-on =
+      by-kind (λ (kind : Kind). (operandBytes kind ≡ 0 → ⊥) → not (ltb (length rest) (operandBytes kind)) ≡ goesOn rest kind)
+      (λ n. refl)
+      (λ n. refl)
+      (λ n. refl)
+      (λ n. absurd (n refl))
+      code

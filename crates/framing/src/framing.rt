@@ -1,9 +1,9 @@
-// The commands in a piece of the stream, by their first bytes.
+// Commands in a stream of bytes, by their command byte and the bytes that follow it.
 ghost use mathlib.Core.Path.{_≡_};
-ghost use Prim.Native.Nat.{_+_, _≤_, _<_};
-ghost use lib.ListN.{length, getD, drop};
-ghost use Rattle.command.specs.Stream.{kindOf, operandBytes};
-ghost use Rattle.command.specs.Pieces.{commandLength, mustWait};
+ghost use Prim.Native.Nat.{_+_, _≤_};
+ghost use lib.ListN.{length};
+ghost use Rattle.command.specs.Stream.{kindOf, operandBytes, goesOn};
+ghost use Rattle.command.specs.Pieces.{commandLength, isUnfinished, mustWait};
 
 // No command writes more bytes than a question.
 pub const LONGEST_ANSWER: usize = 18;
@@ -12,22 +12,28 @@ pub const LONGEST_ANSWER: usize = 18;
 fn operand_count(code: u8) -> usize
     ensures { λ r. ⌜ r ≡ operandBytes (kindOf code) ⌝ }
 {
+    if code == 3 {
+        return 12;
+    }
     if code == 1 {
         return 8;
     }
     if code == 2 {
         return 8;
     }
-    if code == 3 {
-        return 12;
-    }
     0
 }
 
-// Whether the command at a place waits: an answer might not have room, or operands of it may still come.
-pub fn must_wait(input: &[u8], at: usize, ended: bool, room: usize) -> bool
-    requires { ⌜ at < length (now input) ⌝ }
-    ensures { λ r. ⌜ r ≡ mustWait room ended (getD (now (input .entry)) at 0) (drop (at + 1) (now (input .entry))) ⌝ }
+// Whether operands of a command are missing.
+fn is_unfinished(code: u8, rest: &[u8]) -> bool
+    ensures { λ r. ⌜ r ≡ isUnfinished code (now (rest .entry)) ⌝ }
+{
+    rest.len() < operand_count(code)
+}
+
+// Whether a command waits: an answer might not have room, or operands of it may still come.
+pub fn must_wait(code: u8, rest: &[u8], ended: bool, room: usize) -> bool
+    ensures { λ r. ⌜ r ≡ mustWait room ended code (now (rest .entry)) ⌝ }
 {
     if room < LONGEST_ANSWER {
         return true;
@@ -35,18 +41,27 @@ pub fn must_wait(input: &[u8], at: usize, ended: bool, room: usize) -> bool
     if ended {
         return false;
     }
-    input.len() - (at + 1) < operand_count(input[at])
+    is_unfinished(code, rest)
 }
 
-// Where the command at a place ends, as far as it has come.
-pub fn command_end(input: &[u8], at: usize) -> usize
-    requires { ⌜ at < length (now input) ⌝ }
-    ensures { λ r. ⌜ r ≡ at + commandLength (getD (now (input .entry)) at 0) (drop (at + 1) (now (input .entry))) ⌝ }
-    ensures { λ r. ⌜ r ≤ length (now (input .entry)) ⌝ }
+// How many bytes a command has, as far as it has come: the command byte and its operands.
+pub fn command_length(code: u8, rest: &[u8]) -> usize
+    ensures { λ r. ⌜ r ≡ commandLength code (now (rest .entry)) ⌝ }
+    ensures { λ r. ⌜ r ≤ 1 + length (now (rest .entry)) ⌝ }
 {
-    let operands = operand_count(input[at]);
-    if input.len() - (at + 1) < operands {
-        return input.len();
+    let operands = operand_count(code);
+    if rest.len() < operands {
+        return 1 + rest.len();
     }
-    at + 1 + operands
+    1 + operands
+}
+
+// Whether the run goes on after a command: it is known, and all of it has come. "After 6 or 7 nothing more is read."
+pub fn goes_on(code: u8, rest: &[u8]) -> bool
+    ensures { λ r. ⌜ r ≡ goesOn (now (rest .entry)) (kindOf code) ⌝ }
+{
+    if operand_count(code) == 0 {
+        return false;
+    }
+    !is_unfinished(code, rest)
 }

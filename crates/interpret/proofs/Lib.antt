@@ -1,3 +1,2 @@
 -- Laws of the commands' code.
-pub mod AnswerLaws
 pub mod RunLaws

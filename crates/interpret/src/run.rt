@@ -1,39 +1,11 @@
-// One command: its operands taken from bytes, a call of the store, and its answer as bytes.
-use crate::answers::put_answer;
+// One command: its operands taken from bytes, and a call of the store.
 use codec::number2;
 use codec::number4;
-use codec::put_number;
 use store::Head;
-ghost use mathlib.Core.Path.{_≡_};
-ghost use mathlib.Core.Bool.{false};
-ghost use mathlib.Core.List.{[], _∷_};
-ghost use Prim.Native.Nat.{_+_, _≤_};
-ghost use lib.ListN.{length};
-ghost use Rattle.words.specs.Overwrite.{overwrite};
+use updates::Reply;
 ghost use Rattle.store.specs.Trees.{Lent, lentOf, Store, storeOf};
-ghost use Rattle.command.specs.Stream.{command, longestAnswer, startCommand, endCommand, questionCommand, runKind, runOne};
-ghost use Rattle.interpret.specs.Runs.{RanAs};
-
-// What a command leaves: the head for the next one, the place behind what it wrote, and whether the run goes on.
-pub struct Ran {
-    pub head: Head,
-    pub written: usize,
-    pub on: bool,
-}
-
-// Ends the run with a number of its own, as one byte: 6 for an unknown command, 7 for one cut short.
-fn stop(head: Head, out: &mut [u8], from: usize, number: u8) -> Ran
-    requires { ⌜ from + longestAnswer ≤ length (now out) ⌝ }
-    ensures { λ _. ⌜ now (out .exit) ≡ overwrite (now (out .entry)) from (number ∷ []) ⌝ }
-    ensures { λ r. ⌜ r ≡ record { head = head; written = from + 1; on = false } ⌝ }
-{
-    out[from] = number;
-    Ran {
-        head,
-        written: from + 1,
-        on: false,
-    }
-}
+ghost use Rattle.updates.specs.Replies.{RepliedAs};
+ghost use Rattle.command.specs.Stream.{command, startCommand, endCommand, questionCommand, eventKind, kindOf, answered};
 
 // "01h start: tick 4 bytes, key 2, weight 2."
 fn run_start(
@@ -43,22 +15,19 @@ fn run_start(
     end_table: &[u64],
     end_roots: &[u64],
     operands: &[u8],
-    out: &mut [u8],
-    from: usize,
-) -> Ran
-    requires { ⌜ from + longestAnswer ≤ length (now out) ⌝ }
+) -> Reply
     ensures { λ r. do
       let s : Store = storeOf head (now («start_table» .entry)) (now («start_roots» .entry)) (now («end_table» .entry)) (now («end_roots» .entry))
       let left : Lent = lentOf (now («start_table» .exit)) (now («start_roots» .exit)) (now («end_table» .entry)) (now («end_roots» .entry))
-      ⌜ RanAs (runKind s (now (operands .entry)) (command 8 startCommand)) r from (now (out .entry)) (now (out .exit)) left ⌝ }
+      ⌜ RepliedAs (answered s (now (operands .entry)) (command 8 startCommand)) r left ⌝ }
 {
     if operands.len() < 8 {
-        return stop(head, out, from, 7);
+        return Reply::refused(7, head);
     }
     let tick = number4(operands, 0);
     let key = number2(operands, 4);
     let weight = number2(operands, 6);
-    let reply = updates::start(
+    updates::start(
         head,
         start_table,
         start_roots,
@@ -67,15 +36,7 @@ fn run_start(
         tick,
         key,
         weight,
-    );
-    let answer = reply.answer;
-    let written = put_answer(out, from, answer);
-    let after = reply.head;
-    Ran {
-        head: after,
-        written,
-        on: true,
-    }
+    )
 }
 
 // "02h end: tick 4, pass number 4."
@@ -86,21 +47,18 @@ fn run_end(
     end_table: &mut [u64],
     end_roots: &mut [u64],
     operands: &[u8],
-    out: &mut [u8],
-    from: usize,
-) -> Ran
-    requires { ⌜ from + longestAnswer ≤ length (now out) ⌝ }
+) -> Reply
     ensures { λ r. do
       let s : Store = storeOf head (now («start_table» .entry)) (now («start_roots» .entry)) (now («end_table» .entry)) (now («end_roots» .entry))
       let left : Lent = lentOf (now («start_table» .entry)) (now («start_roots» .entry)) (now («end_table» .exit)) (now («end_roots» .exit))
-      ⌜ RanAs (runKind s (now (operands .entry)) (command 8 endCommand)) r from (now (out .entry)) (now (out .exit)) left ⌝ }
+      ⌜ RepliedAs (answered s (now (operands .entry)) (command 8 endCommand)) r left ⌝ }
 {
     if operands.len() < 8 {
-        return stop(head, out, from, 7);
+        return Reply::refused(7, head);
     }
     let tick = number4(operands, 0);
     let number = number4(operands, 4);
-    let reply = updates::end(
+    updates::end(
         head,
         start_table,
         start_roots,
@@ -108,15 +66,7 @@ fn run_end(
         end_roots,
         tick,
         number,
-    );
-    let answer = reply.answer;
-    let written = put_answer(out, from, answer);
-    let after = reply.head;
-    Ran {
-        head: after,
-        written,
-        on: true,
-    }
+    )
 }
 
 // "03h question: k1 2, k2 2, t1 4, t2 4." The head stays, and every lent word.
@@ -127,17 +77,14 @@ fn run_question(
     end_table: &[u64],
     end_roots: &[u64],
     operands: &[u8],
-    out: &mut [u8],
-    from: usize,
-) -> Ran
-    requires { ⌜ from + longestAnswer ≤ length (now out) ⌝ }
+) -> Reply
     ensures { λ r. do
       let s : Store = storeOf head (now («start_table» .entry)) (now («start_roots» .entry)) (now («end_table» .entry)) (now («end_roots» .entry))
       let left : Lent = lentOf (now («start_table» .entry)) (now («start_roots» .entry)) (now («end_table» .entry)) (now («end_roots» .entry))
-      ⌜ RanAs (runKind s (now (operands .entry)) (command 12 questionCommand)) r from (now (out .entry)) (now (out .exit)) left ⌝ }
+      ⌜ RepliedAs (answered s (now (operands .entry)) (command 12 questionCommand)) r left ⌝ }
 {
     if operands.len() < 12 {
-        return stop(head, out, from, 7);
+        return Reply::refused(7, head);
     }
     let k1 = number2(operands, 0);
     let k2 = number2(operands, 2);
@@ -154,16 +101,11 @@ fn run_question(
         t1,
         t2,
     );
-    let written = put_answer(out, from, answer);
-    Ran {
-        head,
-        written,
-        on: true,
-    }
+    Reply { answer, head }
 }
 
-// Runs the command of a byte, with the bytes that follow it, and writes what it says into `out` from a place on.
-pub fn run_command(
+// Runs a start or an end, from its command byte and the bytes that follow it. Every other byte is refused as an unknown command.
+pub fn run_event(
     head: Head,
     start_table: &mut [u64],
     start_roots: &mut [u64],
@@ -171,14 +113,11 @@ pub fn run_command(
     end_roots: &mut [u64],
     code: u8,
     operands: &[u8],
-    out: &mut [u8],
-    from: usize,
-) -> Ran
-    requires { ⌜ from + longestAnswer ≤ length (now out) ⌝ }
+) -> Reply
     ensures { λ r. do
       let s : Store = storeOf head (now («start_table» .entry)) (now («start_roots» .entry)) (now («end_table» .entry)) (now («end_roots» .entry))
       let left : Lent = lentOf (now («start_table» .exit)) (now («start_roots» .exit)) (now («end_table» .exit)) (now («end_roots» .exit))
-      ⌜ RanAs (runOne s code (now (operands .entry))) r from (now (out .entry)) (now (out .exit)) left ⌝ }
+      ⌜ RepliedAs (answered s (now (operands .entry)) (eventKind code)) r left ⌝ }
 {
     if code == 1 {
         return run_start(
@@ -188,8 +127,6 @@ pub fn run_command(
             end_table,
             end_roots,
             operands,
-            out,
-            from,
         );
     }
     if code == 2 {
@@ -200,10 +137,26 @@ pub fn run_command(
             end_table,
             end_roots,
             operands,
-            out,
-            from,
         );
     }
+    Reply::refused(6, head)
+}
+
+// Runs a command, from its command byte and the bytes that follow it.
+pub fn run_command(
+    head: Head,
+    start_table: &mut [u64],
+    start_roots: &mut [u64],
+    end_table: &mut [u64],
+    end_roots: &mut [u64],
+    code: u8,
+    operands: &[u8],
+) -> Reply
+    ensures { λ r. do
+      let s : Store = storeOf head (now («start_table» .entry)) (now («start_roots» .entry)) (now («end_table» .entry)) (now («end_roots» .entry))
+      let left : Lent = lentOf (now («start_table» .exit)) (now («start_roots» .exit)) (now («end_table» .exit)) (now («end_roots» .exit))
+      ⌜ RepliedAs (answered s (now (operands .entry)) (kindOf code)) r left ⌝ }
+{
     if code == 3 {
         return run_question(
             head,
@@ -212,9 +165,15 @@ pub fn run_command(
             end_table,
             end_roots,
             operands,
-            out,
-            from,
         );
     }
-    stop(head, out, from, 6)
+    run_event(
+        head,
+        start_table,
+        start_roots,
+        end_table,
+        end_roots,
+        code,
+        operands,
+    )
 }

@@ -1,2 +1,0 @@
--- One command of the stream, as the code runs it.
-pub mod Runs
