@@ -34,12 +34,17 @@ all-along s b (c ∷ calls) sent a =
       next = all-along (perform s c .store) (nextBook s b c) calls (sent .1) (turn-alike s b c a ends .next);
     }
 
-pub demand-3 : Demand3
+-- A store just opened agrees with the empty book, whatever the memory held
+pub just-opened : (memory : Store) → refusal memory opening ≡ 0 → Agrees (perform memory opening .store) emptyBook
 unfolding served
+just-opened memory takes =
+    let is : perform memory opening .store ≡ served memory opening .store =
+    ap (λ (r : ℕ). unlessRefused r memory (served memory opening) .store) takes in
+    subst (λ (s : Store). Agrees s emptyBook) (sym is) (opened-agrees (memory .lent) (takes-enough memory takes))
+
+pub demand-3 : Demand3
 demand-3 head lent takes calls sent =
     let memory : Store = record { head = head; lent = lent } in
     let opened : Store = perform memory opening .store in
-    let just : opened ≡ served memory opening .store = ap (λ (r : ℕ). unlessRefused r memory (served memory opening) .store) takes in
-    let a : Agrees opened emptyBook =
-    subst (λ (s : Store). Agrees s emptyBook) (sym just) (opened-agrees lent (takes-enough memory takes)) in
+    let a : Agrees opened emptyBook = just-opened memory takes in
     record { answers = same-answers opened emptyBook calls sent a; along = all-along opened emptyBook calls sent a }

@@ -1,0 +1,160 @@
+-- A burst as the code enters it: what has been entered so far, and what is left of the definition.
+use Prim.Native.Nat.{ℕ, zero, suc, _+_, _-_, _*_, _/_, _≤_, _<_}
+use native.Mathlib.Nat.{add-zero, sub-zero}
+use native.Mathlib.Omega.{arith}
+use mathlib.Core.Path.{_≡_, refl, ap, ap₂, sym, subst, _∙_}
+use mathlib.Core.Logic.{_⊎_, inl, inr}
+use mathlib.Core.List.{List, [], _∷_}
+use lib.ListN.{length, getD, take, drop, set, length-take, length-drop}
+use lib.Seq.{drop-drop, getD-drop}
+use Rattle.words.specs.Overwrite.{overwrite}
+use Rattle.words.proofs.OverwriteLaws.{overwrite-none, overwrite-more, overwrite-sets, overwrite-length}
+use Rattle.store.specs.declared.types.Answer.{Answer}
+use Rattle.store.specs.declared.types.Answer.the-variants.{Refused, Opened, Started, Ended, Totals}
+use Rattle.store.specs.declared.types.Head.{Head}
+use Rattle.store.specs.Trees.{Lent, Store}
+use Rattle.store.specs.Answers.{refusalOf, valuesOf, Answered}
+use Rattle.c_numbers.specs.Said.{numberSaid}
+use Rattle.command.specs.Stream.{eventKind, answered}
+use Rattle.updates.specs.declared.types.Reply.{Reply}
+use Rattle.updates.specs.Replies.{RepliedAs}
+use Rattle.demand.specs.Bursts.{mostEvents, eventBytes, eventWords, eventCount, burstRefusal, eventsFrom, eventsOf, firstEvent, answerTo, answersTo, storeBehind, newNumber, resultWords, unlessRefusedWhole, enterBurst}
+use Rattle.demand.proofs.BurstReadings.{Fits, fits-or-31}
+use Rattle.demand.proofs.EventBytes.{event-answer}
+use Rattle.burst.specs.BurstReplies.{EnteredAt, EventsEntered, BurstAs}
+
+-- The pass number that an answer says, or 0
+pub number-new : (a : Answer) → numberSaid 0 (valuesOf a) ≡ newNumber a
+number-new (Refused n) = refl
+number-new Opened = refl
+number-new (Started number) = refl
+number-new Ended = refl
+number-new (Totals count sum pages) = refl
+
+-- An answer's two words, stored one behind the other
+two-set : (l : List ℕ) (at a b : ℕ) → at + 2 ≤ length l → set (set l at a) (at + 1) b ≡ overwrite l at (a ∷ (b ∷ []))
+two-set l at a b h =
+    let next : at + 1 ≡ suc at = omega arith in
+    ap (λ (i : ℕ). set (set l at a) i b) next ∙ overwrite-sets l at (a ∷ (b ∷ [])) h
+
+pub result-put : (l : List ℕ) (at : ℕ) (answer : Answer) {refusal number : ℕ} → refusal ≡ refusalOf answer → number ≡ numberSaid 0 (valuesOf answer)
+    → at + 2 ≤ length l → set (set l at refusal) (at + 1) number ≡ overwrite l at (resultWords (answer ∷ []))
+unfolding resultWords
+result-put l at answer {refusal} {number} e f h =
+    two-set l at refusal number h ∙ ap₂ (λ (a b : ℕ). overwrite l at (a ∷ (b ∷ []))) e (f ∙ number-new answer)
+
+-- The event of a place: its bytes are the first of those from there on
+pub event-entered : (s : Store) (bytes : List ℕ) (place : ℕ) → eventBytes * place + eventBytes ≤ length bytes → {operands : List ℕ}
+    → operands ≡ take 8 (drop 1 (drop (eventBytes * place) bytes)) → {r : Reply} {lent : Lent}
+    → RepliedAs (answered s operands (eventKind (getD bytes (eventBytes * place) 0))) r lent → {before results : List ℕ}
+    → results ≡ overwrite before (eventWords * place) (resultWords (r .answer ∷ []))
+    → EnteredAt (answerTo s (firstEvent (drop (eventBytes * place) bytes))) (r .head) (eventWords * place) before results lent
+event-entered s bytes place inside {operands} is {r} {lent} replied {before} {results} put =
+    let rest : List ℕ = drop (eventBytes * place) bytes in
+    let first : getD rest 0 0 ≡ getD bytes (eventBytes * place) 0 =
+    getD-drop (eventBytes * place) bytes 0 0 ∙ ap (λ (n : ℕ). getD bytes n 0) (add-zero (eventBytes * place)) in
+    let eight : 8 ≤ length (take 8 (drop 1 rest)) = simp (length-take, length-drop) (omega (arith, inside)) in
+    let same : answered s operands (eventKind (getD bytes (eventBytes * place) 0)) ≡ answerTo s (firstEvent rest) =
+    ap₂ (λ (l : List ℕ) (kind : ℕ). answered s l (eventKind kind)) is (sym first) ∙ event-answer s (getD rest 0 0) (take 8 (drop 1 rest)) eight in
+    record {
+      words = put ∙ ap (λ (a : Answer). overwrite before (eventWords * place) (resultWords (a ∷ []))) (replied .answer ∙ ap (λ (a : Answered). a .answer) same);
+      head = replied .head ∙ ap (λ (a : Answered). a .store .head) same;
+      lent-is = replied .lent-is ∙ ap (λ (a : Answered). a .store .lent) same;
+    }
+
+-- A burst, by its refusal
+module _ (s : Store) (bytes before : List ℕ) where
+  pub refused-whole : (n : ℕ) → n ≡ burstRefusal bytes (length before) → (n ≡ 0 → ⊥)
+      → BurstAs (enterBurst s bytes (length before)) (record { refusal = n; head = s .head }) before before (s .lent)
+  unfolding resultWords
+  refused-whole zero e some = absurd (some refl)
+  refused-whole (suc n) e some =
+      subst (λ (m : ℕ). BurstAs (unlessRefusedWhole m s (eventsOf bytes)) (record { refusal = suc n; head = s .head }) before before (s .lent)) e
+      (record { refusal = refl; words = sym (overwrite-none before 0); head = refl; lent-is = refl })
+
+  pub entered-whole : burstRefusal bytes (length before) ≡ 0 → {r : Head} {results : List ℕ} {lent : Lent}
+      → EventsEntered s (eventsOf bytes) r before results lent
+      → BurstAs (enterBurst s bytes (length before)) (record { refusal = 0; head = r }) before results lent
+  entered-whole e {r} {results} {lent} h =
+      subst (λ (m : ℕ). BurstAs (unlessRefusedWhole m s (eventsOf bytes)) (record { refusal = 0; head = r }) before results lent) (sym e)
+      (record { refusal = refl; words = h .words; head = h .head; lent-is = h .lent-is })
+
+pub takes-few : (bytes : List ℕ) (words : ℕ) → burstRefusal bytes words ≡ 0 → (eventCount bytes ≤ mostEvents) × (eventWords * eventCount bytes ≤ words)
+takes-few bytes words e = go (fits-or-31 bytes words)
+  where
+    go : Fits bytes words ⊎ (burstRefusal bytes words ≡ 31) → (eventCount bytes ≤ mostEvents) × (eventWords * eventCount bytes ≤ words)
+    go (inl fits) = (omega (arith, fits .whole, fits .few), omega (arith, fits .whole, fits .room))
+    go (inr other) = absurd (omega (arith, e, other))
+
+-- So far, so many events: what the whole burst comes to is what the events behind come to, from here on
+pub record Going (s₀ : Store) (bytes before : List ℕ) (s : Store) (results : List ℕ) (place : ℕ) : Type 0 where
+  pub inside : place ≤ eventCount bytes
+  pub store : storeBehind s₀ (eventsOf bytes) ≡ storeBehind s (eventsFrom (eventCount bytes - place) (drop (eventBytes * place) bytes))
+  pub words : overwrite before 0 (resultWords (answersTo s₀ (eventsOf bytes)))
+      ≡ overwrite results (eventWords * place) (resultWords (answersTo s (eventsFrom (eventCount bytes - place) (drop (eventBytes * place) bytes))))
+  pub long : length results ≡ length before
+
+module _ (s₀ : Store) (bytes before : List ℕ) where
+  pub begin : Going s₀ bytes before s₀ before 0
+  begin =
+      let all : eventCount bytes ≡ eventCount bytes - 0 = sym (sub-zero (eventCount bytes)) in
+      record {
+        inside = omega arith;
+        store = ap (λ (n : ℕ). storeBehind s₀ (eventsFrom n bytes)) all;
+        words = ap (λ (n : ℕ). overwrite before 0 (resultWords (answersTo s₀ (eventsFrom n bytes)))) all;
+        long = refl;
+      }
+
+  module _ {s : Store} {results : List ℕ} {place : ℕ} (g : Going s₀ bytes before s results place) where
+    pub all-entered : (eventCount bytes ≤ place) → EventsEntered s₀ (eventsOf bytes) (s .head) before results (s .lent)
+    unfolding eventsFrom storeBehind answersTo resultWords
+    all-entered done =
+        let none : eventCount bytes - place ≡ 0 = omega (arith, done) in
+        let last = g .store ∙ ap (λ (n : ℕ). storeBehind s (eventsFrom n (drop (eventBytes * place) bytes))) none in
+        let said = g .words
+        ∙ ap (λ (n : ℕ). overwrite results (eventWords * place) (resultWords (answersTo s (eventsFrom n (drop (eventBytes * place) bytes))))) none
+        ∙ overwrite-none results (eventWords * place) in
+        record { words = sym said; head = ap (λ (x : Store). x .head) (sym last); lent-is = ap (λ (x : Store). x .lent) (sym last) }
+
+    module _ (more : place < eventCount bytes) (room : eventWords * eventCount bytes ≤ length before) where
+      abbrev rest : List ℕ
+      rest = drop (eventBytes * place) bytes
+
+      abbrev left : ℕ
+      left = eventCount bytes - (place + 1)
+
+      one-more : eventCount bytes - place ≡ suc left
+      one-more = omega (arith, more)
+
+      behind : drop eventBytes rest ≡ drop (eventBytes * (place + 1)) bytes
+      behind =
+          let next : eventBytes * place + eventBytes ≡ eventBytes * (place + 1) = omega arith in
+          drop-drop eventBytes (eventBytes * place) bytes ∙ ap (λ (n : ℕ). drop n bytes) next
+
+      pub event-inside : eventBytes * place + eventBytes ≤ length bytes
+      event-inside = omega (arith, more)
+
+      pub words-inside : eventWords * place + eventWords ≤ length results
+      words-inside = omega (arith, more, room, g .long)
+
+      pub entered-on : {r : Head} {results′ : List ℕ} {lent : Lent} → EnteredAt (answerTo s (firstEvent rest)) r (eventWords * place) results results′ lent
+          → Going s₀ bytes before (record { head = r; lent = lent }) results′ (place + 1)
+      unfolding eventsFrom storeBehind answersTo resultWords
+      entered-on {r} {results′} {lent} h =
+          let a : Answered = answerTo s (firstEvent rest) in
+          let head = h .head in
+          let lent-is = h .lent-is in
+          let later : List ℕ = resultWords (answersTo (record { head = r; lent = lent }) (eventsFrom left (drop (eventBytes * (place + 1)) bytes))) in
+          let after : a .store ≡ record { head = r; lent = lent } = λ i. record { head = sym head i; lent = sym lent-is i } in
+          let stores = ap (λ (n : ℕ). storeBehind s (eventsFrom n rest)) one-more
+          ∙ ap₂ (λ (x : Store) (l : List ℕ). storeBehind x (eventsFrom left l)) after behind in
+          let said = ap (λ (n : ℕ). overwrite results (eventWords * place) (resultWords (answersTo s (eventsFrom n rest)))) one-more
+          ∙ ap₂ (λ (x : Store) (l : List ℕ). overwrite results (eventWords * place) (resultWords (a .answer ∷ answersTo x (eventsFrom left l)))) after behind
+          ∙ sym (overwrite-more results (eventWords * place) (resultWords (a .answer ∷ [])) words-inside (eventWords * (place + 1)) later (omega arith))
+          ∙ ap (λ (l : List ℕ). overwrite l (eventWords * (place + 1)) later) (sym (h .words)) in
+          record {
+            inside = omega (arith, more);
+            store = g .store ∙ stores;
+            words = g .words ∙ said;
+            long = ap length (h .words) ∙ overwrite-length results (eventWords * place) (resultWords (a .answer ∷ [])) words-inside ∙ g .long;
+          }

@@ -1,0 +1,2 @@
+-- A burst, as the code enters it.
+pub mod BurstReplies

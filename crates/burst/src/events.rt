@@ -1,0 +1,160 @@
+// The events of a burst: each is entered as the stream's start or end is, and two words say what came of it.
+use c_numbers::number_of;
+use c_numbers::refusal_of;
+use interpret::run_event;
+use store::Answer;
+use store::Head;
+ghost use mathlib.Core.Path.{_≡_};
+ghost use Prim.Native.Nat.{_+_, _*_, _≤_};
+ghost use mathlib.Core.List.{[], _∷_};
+ghost use lib.ListN.{length, drop};
+ghost use Rattle.words.specs.Overwrite.{overwrite};
+ghost use Rattle.store.specs.Trees.{Lent, lentOf, Store, storeOf};
+ghost use Rattle.demand.specs.Bursts.{mostEvents, eventBytes, eventWords, eventCount, burstRefusal, firstEvent, eventsOf, answerTo, resultWords, enterBurst};
+ghost use Rattle.burst.specs.BurstReplies.{EnteredAt, EventsEntered, BurstAs};
+
+// "firmware hands over up to 256 of them together, each as the 9 bytes of its command": its kind and 8 operand bytes.
+const MOST_EVENTS: usize = 256;
+
+const EVENT_BYTES: usize = 9;
+
+// "two 64-bit words per event".
+const EVENT_WORDS: usize = 2;
+
+// 31 or 0, and the head for the next call: refused, the head that was handed in.
+pub struct BurstReply {
+    pub refusal: u8,
+    pub head: Head,
+}
+
+// 31 for a burst too long, one that ends inside an event, or too few words for the results.
+fn burst_refusal(bytes: &[u8], words: usize) -> u8
+    ensures { λ r. ⌜ r ≡ burstRefusal (now (bytes .entry)) words ⌝ }
+{
+    if MOST_EVENTS * EVENT_BYTES < bytes.len() {
+        return 31;
+    }
+    if 0 < bytes.len() % EVENT_BYTES {
+        return 31;
+    }
+    if words < EVENT_WORDS * (bytes.len() / EVENT_BYTES) {
+        return 31;
+    }
+    0
+}
+
+// Writes the two words of the event of a place: "the refusal number or 0, and the new pass number or 0".
+fn put_result(results: &mut [u64], place: usize, answer: Answer)
+    requires { ⌜ eventWords * place + eventWords ≤ length (now results) ⌝ }
+    ensures { λ _. ⌜ now (results .exit) ≡ overwrite (now (results .entry)) (eventWords * place) (resultWords (answer ∷ [])) ⌝ }
+{
+    let first = EVENT_WORDS * place;
+    results[first] = refusal_of(answer) as u64;
+    results[first + 1] = number_of(answer, 0) as u64;
+}
+
+// Enters the event of a place, and says what came of it.
+fn enter_event(
+    head: Head,
+    start_table: &mut [u64],
+    start_roots: &mut [u64],
+    end_table: &mut [u64],
+    end_roots: &mut [u64],
+    bytes: &[u8],
+    place: usize,
+    results: &mut [u64],
+) -> Head
+    requires { ⌜ eventBytes * place + eventBytes ≤ length (now bytes) ⌝ }
+    requires { ⌜ eventWords * place + eventWords ≤ length (now results) ⌝ }
+    ensures { λ r. do
+      let s : Store = storeOf head (now («start_table» .entry)) (now («start_roots» .entry)) (now («end_table» .entry)) (now («end_roots» .entry))
+      let left : Lent = lentOf (now («start_table» .exit)) (now («start_roots» .exit)) (now («end_table» .exit)) (now («end_roots» .exit))
+      let rest = drop (eventBytes * place) (now (bytes .entry))
+      ⌜ EnteredAt (answerTo s (firstEvent rest)) r (eventWords * place) (now (results .entry)) (now (results .exit)) left ⌝ }
+{
+    let first = EVENT_BYTES * place;
+    let operands = first + 1;
+    let next = first + EVENT_BYTES;
+    let reply = run_event(
+        head,
+        start_table,
+        start_roots,
+        end_table,
+        end_roots,
+        bytes[first],
+        &bytes[operands..next],
+    );
+    let answer = reply.answer;
+    put_result(results, place, answer);
+    reply.head
+}
+
+// Enters the events in their order; a refused one does not keep the next from being tried.
+fn enter_events(
+    head: Head,
+    start_table: &mut [u64],
+    start_roots: &mut [u64],
+    end_table: &mut [u64],
+    end_roots: &mut [u64],
+    bytes: &[u8],
+    results: &mut [u64],
+) -> Head
+    requires { ⌜ eventCount (now bytes) ≤ mostEvents ⌝ }
+    requires { ⌜ eventWords * eventCount (now bytes) ≤ length (now results) ⌝ }
+    ensures { λ r. do
+      let s : Store = storeOf head (now («start_table» .entry)) (now («start_roots» .entry)) (now («end_table» .entry)) (now («end_roots» .entry))
+      let left : Lent = lentOf (now («start_table» .exit)) (now («start_roots» .exit)) (now («end_table» .exit)) (now («end_roots» .exit))
+      ⌜ EventsEntered s (eventsOf (now (bytes .entry))) r (now (results .entry)) (now (results .exit)) left ⌝ }
+{
+    let count = bytes.len() / EVENT_BYTES;
+    let mut after = head;
+    let mut place: usize = 0;
+    while place < count {
+        after = enter_event(
+            after,
+            start_table,
+            start_roots,
+            end_table,
+            end_roots,
+            bytes,
+            place,
+            results,
+        );
+        place += 1;
+    }
+    after
+}
+
+// Enters a burst. Refused, it changes nothing, writes no result and hands back the head that it got.
+pub fn enter_burst(
+    head: Head,
+    start_table: &mut [u64],
+    start_roots: &mut [u64],
+    end_table: &mut [u64],
+    end_roots: &mut [u64],
+    bytes: &[u8],
+    results: &mut [u64],
+) -> BurstReply
+    ensures { λ r. do
+      let s : Store = storeOf head (now («start_table» .entry)) (now («start_roots» .entry)) (now («end_table» .entry)) (now («end_roots» .entry))
+      let left : Lent = lentOf (now («start_table» .exit)) (now («start_roots» .exit)) (now («end_table» .exit)) (now («end_roots» .exit))
+      ⌜ BurstAs (enterBurst s (now (bytes .entry)) (length (now (results .entry)))) r (now (results .entry)) (now (results .exit)) left ⌝ }
+{
+    let refusal = burst_refusal(bytes, results.len());
+    if refusal != 0 {
+        return BurstReply { refusal, head };
+    }
+    let after = enter_events(
+        head,
+        start_table,
+        start_roots,
+        end_table,
+        end_roots,
+        bytes,
+        results,
+    );
+    BurstReply {
+        refusal: 0,
+        head: after,
+    }
+}
