@@ -11,7 +11,7 @@ use Rattle.store.specs.Trees.{Lent, Store}
 use Rattle.words.specs.Overwrite.{overwrite}
 use Rattle.store.specs.Head.{openLimit}
 use Rattle.store.specs.Performing.{perform}
-use Rattle.command.specs.Stream.{Kind, unknown, command, kindOf, cutShort, stops, answers, runKind}
+use Rattle.command.specs.Stream.{Kind, unknown, command, kindOf, refusedWith, runKind}
 use Rattle.command.specs.Pieces as piece
 use Rattle.command.specs.Pieces.{takesNothing, runPiece, Piece, Feed, handedOver, fedWith, feedAfter, writtenAll}
 use Rattle.command.proofs.PieceSteps.{each-piece}
@@ -37,7 +37,7 @@ command-places : (s : Store) → Places s → (bytes : List ℕ) (kind : Kind) �
 command-places s long bytes unknown = long
 command-places s long bytes (command n call) = go (ltb (length bytes) n)
   where
-    go : (x : Bool) → Places (cond x (stops s cutShort) (answers (perform s (call bytes))) .store)
+    go : (x : Bool) → Places (cond x (refusedWith 7 s) (perform s (call bytes)) .store)
     go true = long
     go false = places-stay s long (call bytes)
 

@@ -10,32 +10,34 @@ use lib.Seq.{drop-cons, drop-drop}
 use borrow.Author.Tests.{not-true, not-false}
 use Rattle.words.specs.Overwrite.{overwrite}
 use Rattle.words.proofs.OverwriteLaws.{overwrite-none, overwrite-more}
+use Rattle.store.specs.declared.types.Answer.{Answer}
 use Rattle.store.specs.Trees.{Lent, Store}
+use Rattle.updates.specs.declared.types.Reply.{Reply}
+use Rattle.updates.specs.Replies.{RepliedAs}
 use Rattle.command.specs.Stream as stream
-use Rattle.command.specs.Stream.{kindOf, operandBytes, longestAnswer, runOne}
+use Rattle.command.specs.Stream.{kindOf, operandBytes, longestAnswer, written, answered, goesOn, runOne}
 use Rattle.command.specs.Pieces as piece
 use Rattle.command.specs.Pieces.{takesNothing, followed, commandLength, mustWait, overAfter, runPiece}
 use Rattle.command.proofs.AnswerLengths.{output-fits}
 use Rattle.command.proofs.PieceSteps.{on-whole, has-room, piece-none, piece-waits, piece-stops, piece-goes-on}
-use Rattle.framing.proofs.FramingLaws.{code, behind}
-use Rattle.interpret.specs.declared.run.Ran.{Ran}
-use Rattle.interpret.specs.Runs.{RanAs}
 use Rattle.pieces.specs.declared.pieces.Fed.{Fed}
 use Rattle.pieces.specs.Fed.{RanAt, FedAs}
 
--- A command that ran, counted from the front of the piece
-pub ran-at : (s : Store) (input : List ℕ) (at : ℕ) {r : Ran} {from : ℕ} {before out : List ℕ} {lent : Lent} {operands : List ℕ} → operands ≡ drop (at + 1) input
-    → RanAs (runOne s (getD input at 0) operands) r from before out lent
-    → {taken : ℕ} → taken ≡ at + commandLength (getD input at 0) (drop (at + 1) input) → taken ≤ length input
-    → RanAt s input at (record { head = r .head; taken = taken; written = r .written; over = not (r .on) }) from before out lent
-ran-at s input at {r} {from} {before} {out} {lent} e ran is inside =
-    let x : RanAs (runOne s (getD input at 0) (drop (at + 1) input)) r from before out lent = subst (λ (l : List ℕ). RanAs (runOne s (getD input at 0) l) r from before out lent) e ran in
+-- A command that ran, its answer written and its length counted from the front of the piece
+pub ran-at : (s : Store) (input : List ℕ) (at : ℕ) → at < length input → {rest : List ℕ} → rest ≡ drop (at + 1) input
+    → {reply : Reply} {lent : Lent} → RepliedAs (answered s rest (kindOf (getD input at 0))) reply lent
+    → {from size : ℕ} {before out : List ℕ} → out ≡ overwrite before from (written (reply .answer)) → size ≡ from + length (written (reply .answer))
+    → {n : ℕ} → n ≡ commandLength (getD input at 0) rest → n ≤ 1 + length rest → {on : Bool} → on ≡ goesOn rest (kindOf (getD input at 0))
+    → RanAt s input at (record { head = reply .head; taken = at + n; written = size; over = not on }) from before out lent
+ran-at s input at more {rest} e {reply} {lent} replies {from} {size} {before} put sized counted short on =
+    let b : ℕ = getD input at 0 in
+    let x : RepliedAs (answered s (drop (at + 1) input) (kindOf b)) reply lent = subst (λ (l : List ℕ). RepliedAs (answered s l (kindOf b)) reply lent) e replies in
     record {
-      taken = is;
-      inside = inside;
-      output = x .output;
-      size = x .size;
-      over = ap not (x .on);
+      taken = ap (_+_ at) (counted ∙ ap (commandLength b) e);
+      inside = omega (arith, more, short, ap length e, length-drop (at + 1) input);
+      output = put ∙ ap (λ (y : Answer). overwrite before from (written y)) (x .answer);
+      size = sized ∙ ap (λ (y : Answer). from + length (written y)) (x .answer);
+      over = ap not (on ∙ ap (λ (l : List ℕ). goesOn l (kindOf b)) e);
       head = x .head;
       lent-is = x .lent-is;
     }
@@ -100,10 +102,10 @@ module _ (out₀ : List ℕ) (ended : Bool) (s₀ : Store) (input : List ℕ) wh
       room = length out₀ - written
 
       abbrev b : ℕ
-      b = code input taken
+      b = getD input taken 0
 
       abbrev rest : List ℕ
-      rest = behind input taken
+      rest = drop (taken + 1) input
 
       abbrev does : stream.Ran
       does = runOne s b rest

@@ -1,14 +1,16 @@
 // A piece of the stream: as many of its commands as have come and as there is room for answers.
-use framing::command_end;
+use crate::answers::put_answer;
+use framing::command_length;
+use framing::goes_on;
 use framing::must_wait;
 use interpret::run_command;
 use store::Head;
 ghost use mathlib.Core.Path.{_≡_};
 ghost use Prim.Native.Nat.{_+_, _≤_, _<_};
-ghost use lib.ListN.{length};
+ghost use lib.ListN.{length, getD, drop};
 ghost use Rattle.store.specs.Trees.{Lent, lentOf, Store, storeOf};
 ghost use Rattle.command.specs.Stream.{longestAnswer};
-ghost use Rattle.command.specs.Pieces.{runPiece};
+ghost use Rattle.command.specs.Pieces.{mustWait, runPiece};
 ghost use Rattle.pieces.specs.Fed.{RanAt, FedAs};
 
 // What a piece leaves: the head for the next one, how many bytes were taken and written, and whether the run is over.
@@ -17,6 +19,16 @@ pub struct Fed {
     pub taken: usize,
     pub written: usize,
     pub over: bool,
+}
+
+// Whether the command at a place of the piece waits.
+fn waits_at(input: &[u8], at: usize, ended: bool, room: usize) -> bool
+    requires { ⌜ at < length (now input) ⌝ }
+    ensures { λ r. ⌜ r ≡ mustWait room ended (getD (now (input .entry)) at 0) (drop (at + 1) (now (input .entry))) ⌝ }
+{
+    let code = input[at];
+    let behind = at + 1;
+    must_wait(code, &input[behind..], ended, room)
 }
 
 // Runs the command at a place of the piece, and writes what it says into `out` from a place on.
@@ -38,26 +50,26 @@ fn run_at(
       let left : Lent = lentOf (now («start_table» .exit)) (now («start_roots» .exit)) (now («end_table» .exit)) (now («end_roots» .exit))
       ⌜ RanAt s (now (input .entry)) at r from (now (out .entry)) (now (out .exit)) left ⌝ }
 {
-    let taken = command_end(input, at);
     let code = input[at];
     let behind = at + 1;
-    let ran = run_command(
+    let rest = &input[behind..];
+    let reply = run_command(
         head,
         start_table,
         start_roots,
         end_table,
         end_roots,
         code,
-        &input[behind..],
-        out,
-        from,
+        rest,
     );
-    let after = ran.head;
+    let answer = reply.answer;
+    let written = put_answer(out, from, answer);
+    let after = reply.head;
     Fed {
         head: after,
-        taken,
-        written: ran.written,
-        over: !ran.on,
+        taken: at + command_length(code, rest),
+        written,
+        over: !goes_on(code, rest),
     }
 }
 
@@ -84,7 +96,7 @@ pub fn run_piece(
         over: false,
     };
     while fed.taken < input.len() {
-        if must_wait(input, fed.taken, ended, out.len() - fed.written) {
+        if waits_at(input, fed.taken, ended, out.len() - fed.written) {
             return fed;
         }
         let now = fed.head;

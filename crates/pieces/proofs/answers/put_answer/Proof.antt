@@ -7,8 +7,8 @@ use Rattle.store.specs.declared.types.Answer.{Answer}
 use Rattle.command.specs.Stream.{written}
 use Rattle.command.proofs.AnswerLengths.{code-only, code-length, started-length, totals-length}
 use borrow.Author.Needs.{needs}
-use Rattle.interpret.proofs.answers.put_answer.Statement.{statement}
-use Rattle.interpret.proofs.answers.put_answer.Tie as tie
+use Rattle.pieces.proofs.answers.put_answer.Statement.{statement}
+use Rattle.pieces.proofs.answers.put_answer.Tie as tie
 
 enum-known-answer : tie.Need-enum-known-answer
 enum-known-answer c = search needs

@@ -3,10 +3,10 @@ use mathlib.Core.Path.{ap, _∙_}
 use mathlib.Core.List.{List}
 use Rattle.words.specs.Overwrite.{overwrite}
 use Rattle.codec.specs.Bytes.{bytesOf}
-use Rattle.interpret.proofs.AnswerLaws.{totals-bytes}
+use Rattle.pieces.proofs.AnswerLaws.{totals-bytes}
 use borrow.Author.Needs.{needs}
-use Rattle.interpret.proofs.answers.put_totals.Statement.{statement}
-use Rattle.interpret.proofs.answers.put_totals.Tie as tie
+use Rattle.pieces.proofs.answers.put_totals.Statement.{statement}
+use Rattle.pieces.proofs.answers.put_totals.Tie as tie
 
 put-number-requires : tie.Need-put-number-requires
 put-number-requires c κs = search needs

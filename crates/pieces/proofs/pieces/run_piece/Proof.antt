@@ -38,11 +38,11 @@ loop-holds c =
       begin (a .out .now) (a .ended) (storeOf (a .head) (a .start-table .now) (a .start-roots .now) (a .end-table .now) (a .end-roots .now)) (a .input .now),
     )
 
-sub-must-wait : tie.Need-sub-must-wait Inv-loop μ-loop
-sub-must-wait c = search needs
+sub-waits-at : tie.Need-sub-waits-at Inv-loop μ-loop
+sub-waits-at c = search needs
 
-must-wait-requires : tie.Need-must-wait-requires Inv-loop μ-loop
-must-wait-requires c κs = search needs
+waits-at-requires : tie.Need-waits-at-requires Inv-loop μ-loop
+waits-at-requires c κs = search needs
 
 same-length : tie.Need-same-length Inv-loop μ-loop
 same-length c = search needs
@@ -64,14 +64,14 @@ returns c =
     let a = c .before .before .before .before .before .before .before .before .before .before .before .before .args in
     let l = c .before .before .before .before .before .loop in
     let same = ap (λ (n : ℕ). mustWait (n - l .fed .written) (a .ended) (getD (a .input .now) (l .fed .taken) 0) (drop (l .fed .taken + 1) (a .input .now))) (l .inv .4) in
-    command-waits (a .out .now) (a .ended) (storeOf (a .head) (a .start-table .now) (a .start-roots .now) (a .end-table .now) (a .end-roots .now)) (a .input .now) (l .inv .7) (c .before .before .before .if1 .taken) (l .inv .6) (sym (c .if2 .taken) ∙ c .before .must-wait .ensures ∙ same)
+    command-waits (a .out .now) (a .ended) (storeOf (a .head) (a .start-table .now) (a .start-roots .now) (a .end-table .now) (a .end-roots .now)) (a .input .now) (l .inv .7) (c .before .before .before .if1 .taken) (l .inv .6) (sym (c .if2 .taken) ∙ c .before .waits-at .ensures ∙ same)
 
 run-at-requires : tie.Need-run-at-requires Inv-loop μ-loop
 run-at-requires c κs =
     let a = c .before .before .before .before .before .before .before .before .before .before .before .before .before .before .before .before .before .before .args in
     let l = c .before .before .before .before .before .before .before .before .before .before .before .loop in
     let same = ap (λ (n : ℕ). mustWait (n - l .fed .written) (a .ended) (getD (a .input .now) (l .fed .taken) 0) (drop (l .fed .taken + 1) (a .input .now))) (l .inv .4) in
-    let fits = still-fits (a .out .now) (a .ended) (storeOf (a .head) (a .start-table .now) (a .start-roots .now) (a .end-table .now) (a .end-roots .now)) (a .input .now) (l .inv .7) (c .before .before .before .before .before .before .before .before .before .if1 .taken) (sym (c .before .before .before .before .before .before .if2 .left) ∙ c .before .before .before .before .before .before .before .must-wait .ensures ∙ same) in
+    let fits = still-fits (a .out .now) (a .ended) (storeOf (a .head) (a .start-table .now) (a .start-roots .now) (a .end-table .now) (a .end-roots .now)) (a .input .now) (l .inv .7) (c .before .before .before .before .before .before .before .before .before .if1 .taken) (sym (c .before .before .before .before .before .before .if2 .left) ∙ c .before .before .before .before .before .before .before .waits-at .ensures ∙ same) in
     (search needs, omega (arith, fits, l .inv .4))
 
 same-length-6 : tie.Need-same-length-6 Inv-loop μ-loop
@@ -94,7 +94,7 @@ returns-2 c =
     let a = c .before .before .before .before .before .before .before .before .before .before .before .before .before .before .before .before .before .before .before .before .before .before .before .before .before .before .before .before .before .before .args in
     let l = c .before .before .before .before .before .before .before .before .before .before .before .before .before .before .before .before .before .before .before .before .before .before .before .loop in
     let same = ap (λ (n : ℕ). mustWait (n - l .fed .written) (a .ended) (getD (a .input .now) (l .fed .taken) 0) (drop (l .fed .taken + 1) (a .input .now))) (l .inv .4) in
-    run-stops (a .out .now) (a .ended) (storeOf (a .head) (a .start-table .now) (a .start-roots .now) (a .end-table .now) (a .end-roots .now)) (a .input .now) (l .inv .7) (c .before .before .before .before .before .before .before .before .before .before .before .before .before .before .before .before .before .before .before .before .before .if1 .taken) (sym (c .before .before .before .before .before .before .before .before .before .before .before .before .before .before .before .before .before .before .if2 .left) ∙ c .before .before .before .before .before .before .before .before .before .before .before .before .before .before .before .before .before .before .before .must-wait .ensures ∙ same) (c .before .before .before .before .before .before .before .before .before .before .before .run-at .ensures) (c .if3 .taken)
+    run-stops (a .out .now) (a .ended) (storeOf (a .head) (a .start-table .now) (a .start-roots .now) (a .end-table .now) (a .end-roots .now)) (a .input .now) (l .inv .7) (c .before .before .before .before .before .before .before .before .before .before .before .before .before .before .before .before .before .before .before .before .before .if1 .taken) (sym (c .before .before .before .before .before .before .before .before .before .before .before .before .before .before .before .before .before .before .if2 .left) ∙ c .before .before .before .before .before .before .before .before .before .before .before .before .before .before .before .before .before .before .before .waits-at .ensures ∙ same) (c .before .before .before .before .before .before .before .before .before .before .before .run-at .ensures) (c .if3 .taken)
 
 loop-less : tie.Need-loop-less Inv-loop μ-loop
 loop-less c =
@@ -107,7 +107,7 @@ loop-again c =
     let a = c .before .before .before .before .before .before .before .before .before .before .before .before .before .before .before .before .before .before .before .before .before .before .before .before .before .before .before .before .before .before .args in
     let l = c .before .before .before .before .before .before .before .before .before .before .before .before .before .before .before .before .before .before .before .before .before .before .before .loop in
     let same = ap (λ (n : ℕ). mustWait (n - l .fed .written) (a .ended) (getD (a .input .now) (l .fed .taken) 0) (drop (l .fed .taken + 1) (a .input .now))) (l .inv .4) in
-    let next = run-goes-on (a .out .now) (a .ended) (storeOf (a .head) (a .start-table .now) (a .start-roots .now) (a .end-table .now) (a .end-roots .now)) (a .input .now) (l .inv .7) (c .before .before .before .before .before .before .before .before .before .before .before .before .before .before .before .before .before .before .before .before .before .if1 .taken) (sym (c .before .before .before .before .before .before .before .before .before .before .before .before .before .before .before .before .before .before .if2 .left) ∙ c .before .before .before .before .before .before .before .before .before .before .before .before .before .before .before .before .before .before .before .must-wait .ensures ∙ same) (c .before .before .before .before .before .before .before .before .before .before .before .run-at .ensures) (c .if3 .left) in (
+    let next = run-goes-on (a .out .now) (a .ended) (storeOf (a .head) (a .start-table .now) (a .start-roots .now) (a .end-table .now) (a .end-roots .now)) (a .input .now) (l .inv .7) (c .before .before .before .before .before .before .before .before .before .before .before .before .before .before .before .before .before .before .before .before .before .if1 .taken) (sym (c .before .before .before .before .before .before .before .before .before .before .before .before .before .before .before .before .before .before .if2 .left) ∙ c .before .before .before .before .before .before .before .before .before .before .before .before .before .before .before .before .before .before .before .waits-at .ensures ∙ same) (c .before .before .before .before .before .before .before .before .before .before .before .run-at .ensures) (c .if3 .left) in (
       search needs,
       search needs,
       search needs,
@@ -146,8 +146,8 @@ run-piece-spec =
     Inv-loop
     μ-loop
     loop-holds
-    sub-must-wait
-    must-wait-requires
+    sub-waits-at
+    waits-at-requires
     same-length
     same-length-2
     same-length-3
