@@ -2,18 +2,19 @@
 use Prim.Native.Nat.{ℕ, _+_, _*_, _-_, _≤_, _<_}
 use native.Mathlib.Numerals.{add-one}
 use native.Mathlib.Omega.{arith}
-use mathlib.Core.Path.{_≡_, sym, ap, ap₂, _∙_}
-use mathlib.Core.List.{List, [], _∷_, _++_, append-assoc, append-nil}
-use lib.ListN.{length, getD, set, take, drop, length-drop, drop-of-length-le}
-use lib.Seq.{take-suc, take-length, length-take-le, take-at, getD-take, getD-drop}
+use mathlib.Core.Path.{_≡_, refl, sym, ap, _∙_}
+use mathlib.Core.List.{List, [], _∷_, _++_, append-assoc}
+use lib.ListN.{length, getD, set, take, drop, replicate, length-drop}
+use lib.Seq.{take-suc, take-length, length-take-le, getD-take, getD-drop}
 use borrow.Rule.Slice.PartMut.{putMid, post-is}
 use Rattle.words.specs.Overwrite.{overwrite}
 use Rattle.tree.specs.Fresh.{zeros}
 use Rattle.tree.specs.Row.{word, pageWords}
 use Rattle.tree.specs.Tree.{pageAt, putPage}
 use Rattle.words.proofs.OverwriteLaws.{overwrite-none, overwrite-one, overwrite-more, overwrite-length}
+use Rattle.tree.proofs.TableLaws.{page-length}
 use Rattle.split.specs.SplitWords.{scratchWords}
-use Rattle.enter.specs.EnterWords.{appendedWords}
+use Rattle.enter.specs.EnterWords.{appendedWords, loaded}
 
 module _ (to from : List ℕ) (room : length from ≤ length to) where
   pub copy-none : to ≡ overwrite to 0 (take 0 from)
@@ -51,14 +52,16 @@ part-back table page words h l =
 pub page-count : (table : List ℕ) (page : ℕ) → word (pageAt table page) 1 ≡ word table (page * pageWords + 1)
 page-count table page = getD-take pageWords (drop (page * pageWords) table) 1 0 (omega arith) ∙ getD-drop (page * pageWords) table 1 0
 
--- A page copied into other words, and zeros behind it
-copied-front : (copy words : List ℕ) → length words ≡ pageWords → take pageWords (overwrite copy 0 words) ≡ words
-unfolding overwrite
-copied-front copy words l = take-at words (drop (0 + length words) copy) pageWords l
+-- A page copied over zeros: they stay behind it
+zeros-behind : drop pageWords (zeros scratchWords) ≡ zeros appendedWords
+unfolding zeros
+zeros-behind = refl
 
-pub load-is : (copy words : List ℕ) → length copy ≡ scratchWords → length words ≡ pageWords → putMid pageWords appendedWords (overwrite copy 0 words) (zeros appendedWords) ≡ words ++ zeros appendedWords
-load-is copy words long l =
-    let size : length (overwrite copy 0 words) ≡ scratchWords = overwrite-length copy 0 words (omega arith) ∙ long in
-    ap₂ (λ (a b : List ℕ). a ++ (zeros appendedWords ++ b)) (copied-front copy words l)
-    (post-is pageWords scratchWords (overwrite copy 0 words) (omega arith) ∙ drop-of-length-le (overwrite copy 0 words) {i = scratchWords} (omega arith))
-    ∙ ap (λ (w : List ℕ). words ++ w) (append-nil (zeros appendedWords))
+over-zeros : (words : List ℕ) → length words ≡ pageWords → overwrite (zeros scratchWords) 0 words ≡ words ++ zeros appendedWords
+unfolding overwrite
+over-zeros words l = ap (λ (b : List ℕ). words ++ b) (ap (λ (n : ℕ). drop (0 + n) (zeros scratchWords)) l ∙ zeros-behind)
+
+pub copy-is : (table : List ℕ) (page : ℕ) (from copy : List ℕ) → page * pageWords + pageWords ≤ length table → from ≡ pageAt table page → copy ≡ overwrite (replicate scratchWords 0) 0 from →
+    copy ≡ loaded table page
+unfolding zeros
+copy-is table page from copy h e f = f ∙ ap (overwrite (replicate scratchWords 0) 0) e ∙ over-zeros (pageAt table page) (page-length table page h)

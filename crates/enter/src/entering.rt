@@ -17,14 +17,11 @@ ghost use Rattle.tree.specs.Row.{pageWords, rowLimit, word};
 ghost use Rattle.tree.specs.Tree.{pageAt, putPage};
 ghost use Rattle.split.specs.SplitWords.{scratchWords};
 ghost use Rattle.row_steps.specs.PageEdits.{ChangeWithin};
-ghost use Rattle.enter.specs.EnterWords.{loaded, pointAt, settled, madeSo, changed, leafEdited, DoneAs, CanSettle, CanEnter};
+ghost use Rattle.enter.specs.EnterWords.{pointAt, settled, madeSo, changed, leafEdited, DoneAs, CanSettle, CanEnter};
 ghost use Rattle.tree.specs.Enter.{enterFrom};
 ghost use Rattle.tree.specs.Taking.{rootless};
 
-// The words of the rows that one entry may append to a page.
-const APPENDED_WORDS: usize = Page::SCRATCH_WORDS - Page::WORDS;
-
-// A page of at most so many rows has room for them in its own words.
+// A page of at most so many rows has room in its own words for those that one entry may append.
 const ROOMY_ROWS: usize = Page::ROWS - Page::MOST_APPENDED;
 
 // Copies words over the front of others.
@@ -37,19 +34,6 @@ fn copy_words(to: &mut [u64], from: &[u64])
         to[at] = from[at];
         at += 1;
     }
-}
-
-// Makes the lent words a copy of a page, with zeros in the room for the rows that an entry may append.
-fn load_page(copy: &mut [u64], table: &[u64], page: u32)
-    requires { ⌜ length (now copy) ≡ scratchWords ⌝ }
-    requires { ⌜ page * pageWords + pageWords ≤ length (now table) ⌝ }
-    ensures { λ _. ⌜ now (copy .exit) ≡ loaded (now (table .entry)) page ⌝ }
-{
-    copy_words(copy, page_at(table, page));
-    let first = Page::WORDS;
-    let last = Page::SCRATCH_WORDS;
-    let zeros = [0u64; APPENDED_WORDS];
-    copy_words(&mut copy[first..last], &zeros);
 }
 
 // Writes the copy back into the page's own words.
@@ -87,10 +71,11 @@ fn settle_page(
     split_page(table, used, made, words, t)
 }
 
-// Changes one page: in its own words where it cannot overflow, else in the scratch words, which then go back into it or into new pages.
+// Changes one page: in its own words where it cannot overflow, else in scratch words, which then go back into it or into new pages.
+// They are made here, behind the test, so that only a page that may overflow pays for them; and they are not alive while the descent
+// calls itself, so that a level of the recursion needs few words of stack.
 fn change_page(
     table: &mut [u64],
-    scratch: &mut [u64],
     used: TreeUse,
     made: u32,
     page: u32,
@@ -98,7 +83,6 @@ fn change_page(
     value: Value,
     t: u32,
 ) -> Done
-    requires { ⌜ length (now scratch) ≡ scratchWords ⌝ }
     requires { ⌜ word (pageAt (now table) page) 1 ≤ rowLimit ⌝ }
     requires { ⌜ ChangeWithin (word (pageAt (now table) page) 1) change ⌝ }
     requires { ⌜ CanSettle used t (madeSo (now table) made) page (changed t value (now table) page change) ⌝ }
@@ -113,22 +97,14 @@ fn change_page(
             made,
         };
     }
-    load_page(scratch, table, page);
-    change_words(scratch, change, value, t);
-    settle_page(table, used, made, page, scratch, t)
+    let mut scratch = [0u64; Page::SCRATCH_WORDS];
+    copy_words(&mut scratch, page_at(table, page));
+    change_words(&mut scratch, change, value, t);
+    settle_page(table, used, made, page, &scratch, t)
 }
 
 // The lowest page of a descent that reaches a leaf.
-fn enter_leaf(
-    table: &mut [u64],
-    scratch: &mut [u64],
-    used: TreeUse,
-    page: u32,
-    k: u16,
-    value: Value,
-    t: u32,
-) -> Done
-    requires { ⌜ length (now scratch) ≡ scratchWords ⌝ }
+fn enter_leaf(table: &mut [u64], used: TreeUse, page: u32, k: u16, value: Value, t: u32) -> Done
     requires { ⌜ word (pageAt (now table) page) 1 ≤ rowLimit ⌝ }
     requires { ⌜ CanSettle used t (madeSo (now table) 0) page (leafEdited t k value (now table) page) ⌝ }
     ensures { λ r. ⌜ DoneAs (settled used t (madeSo (now (table .entry)) 0) page (leafEdited t k value (now (table .entry)) page)) (now (table .exit)) r ⌝ }
@@ -141,14 +117,12 @@ fn enter_leaf(
         gain,
         key: k,
     };
-    change_page(table, scratch, used, 0, page, leaf, value, t)
+    change_page(table, used, 0, page, leaf, value, t)
 }
 
 // Enters the point from a page down: the call goes to the child page first, the level falling, and changes this page when it comes back.
-// The scratch words serve every page of the descent, one after the other, so that a level of the recursion needs few words of stack.
 pub fn enter_from(
     table: &mut [u64],
-    scratch: &mut [u64],
     used: TreeUse,
     level: u64,
     page: u32,
@@ -156,35 +130,25 @@ pub fn enter_from(
     value: Value,
     t: u32,
 ) -> Done
-    requires { ⌜ length (now scratch) ≡ scratchWords ⌝ }
     requires { ⌜ CanEnter (rootless (now table) used) (pointAt t k value) level page ⌝ }
     ensures { λ r. ⌜ DoneAs (enterFrom (rootless (now (table .entry)) used) (pointAt t k value) level page) (now (table .exit)) r ⌝ }
 {
     if level == 0 {
-        return enter_leaf(table, scratch, used, page, k, value, t);
+        return enter_leaf(table, used, page, k, value, t);
     }
     let survey = live::survey_page(page_at(table, page), t, k);
     let inner = survey.inner;
     let gain = survey.gain;
     let Place::At(place) = inner else {
-        return change_page(
-            table,
-            scratch,
-            used,
-            0,
-            page,
-            Change::Lowest(gain),
-            value,
-            t,
-        );
+        return change_page(table, used, 0, page, Change::Lowest(gain), value, t);
     };
     let row = page::row_at(page_at(table, page), place);
-    let below = enter_from(table, scratch, used, level - 1, row.child, k, value, t);
+    let below = enter_from(table, used, level - 1, row.child, k, value, t);
     let became = below.became;
     let above = Change::Above {
         place,
         gain,
         became,
     };
-    change_page(table, scratch, used, below.made, page, above, value, t)
+    change_page(table, used, below.made, page, above, value, t)
 }

@@ -78,8 +78,7 @@ pub fn enter(
     let Top::At { page, level } = top else {
         return used;
     };
-    let mut scratch = [0u64; Page::SCRATCH_WORDS];
-    let done = enter_from(table, &mut scratch, used, level, page, k, value, t);
+    let done = enter_from(table, used, level, page, k, value, t);
     let became = done.became;
     match became {
         Became::Stays => use_after(used, done.made, RootChange::Kept),

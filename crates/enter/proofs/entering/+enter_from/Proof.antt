@@ -33,16 +33,16 @@ use Rattle.enter.proofs.entering.+enter_from.{statement}
 use Rattle.enter.proofs.entering.+enter_from.Tie.{close}
 
 -- The measure is the level
-abbrev μ-enter-from : Measures 2 enter-from-kinds.ps ℕ
-μ-enter-from κs a = a .1 .1 .1 .0
+abbrev μ-enter-from : Measures 1 enter-from-kinds.ps ℕ
+μ-enter-from κs a = a .1 .1 .0
 
-abbrev enter-from-at : ℕ → In 2 enter-from-kinds.ps
+abbrev enter-from-at : ℕ → In 1 enter-from-kinds.ps
 enter-from-at t =
-    and 2 enter-from-kinds.ps (is 2 enter-from-kinds.ps μ-enter-from t) enter-from.Pre
+    and 1 enter-from-kinds.ps (is 1 enter-from-kinds.ps μ-enter-from t) enter-from.Pre
 
-abbrev enter-from-below : ℕ → In 2 enter-from-kinds.ps
+abbrev enter-from-below : ℕ → In 1 enter-from-kinds.ps
 enter-from-below t =
-    and 2 enter-from-kinds.ps (falls 2 enter-from-kinds.ps _<_ μ-enter-from t) enter-from.Pre
+    and 1 enter-from-kinds.ps (falls 1 enter-from-kinds.ps _<_ μ-enter-from t) enter-from.Pre
 
 -- What the functions that are called ask and tell
 abbrev calls : ℕ → enter-from-lts.Claims
@@ -82,7 +82,7 @@ module _ (t : ℕ) (s : enter-from-lts.Start (calls t) (enter-from-at t) enter-f
   narrow = omega (arith, s .fits .k .fits)
 
   can : CanEnter tree point (s .args .level) (s .args .page)
-  can = s .pre .1 .1
+  can = s .pre .1
 
   within : s .args .page * pageWords + pageWords ≤ length table
   within = inside tree point small narrow (s .args .level) (s .args .page) can
@@ -100,7 +100,7 @@ module _ (t : ℕ) (s : enter-from-lts.Start (calls t) (enter-from-at t) enter-f
 -- When the page is surveyed
 module _ (t : ℕ) (u : enter-from-lts.After-survey-page (calls t) (enter-from-at t) enter-from.Post) where
   abbrev start : enter-from-lts.Start (calls t) (enter-from-at t) enter-from.Post
-  start = u .before .before .before .before .before .before
+  start = u .before .before .before .before .before
 
   survey-is : u .survey-page .result ≡ surveyOf (start .args .t) (start .args .k) (page t start)
   survey-is = u .survey-page .ensures ∙ ap (surveyOf (start .args .t) (start .args .k)) (u .before .page-at .ensures)
@@ -111,7 +111,7 @@ module _ (t : ℕ) (u : enter-from-lts.After-survey-page (calls t) (enter-from-a
 -- When no row was found around the key
 module _ (t : ℕ) (n : enter-from-lts.After-enum-told (calls t) (enter-from-at t) enter-from.Post) where
   abbrev start-lowest : enter-from-lts.Start (calls t) (enter-from-at t) enter-from.Post
-  start-lowest = n .before .before .before .before .before .before .before .before
+  start-lowest = n .before .before .before .before .before .before .before
 
   lowest : Settles (tree t start-lowest) (point t start-lowest) (start-lowest .args .level) (start-lowest .args .page) (table t start-lowest) 0
       (gainEdited (start-lowest .args .t) (start-lowest .args .value) (table t start-lowest) (start-lowest .args .page)
@@ -124,7 +124,7 @@ module _ (t : ℕ) (n : enter-from-lts.After-enum-told (calls t) (enter-from-at 
 -- When one was found
 module _ (t : ℕ) (k : enter-from-lts.After-known-told (calls t) (enter-from-at t) enter-from.Post) where
   abbrev start-above : enter-from-lts.Start (calls t) (enter-from-at t) enter-from.Post
-  start-above = k .before .before .before .before .before .before .before .before .before
+  start-above = k .before .before .before .before .before .before .before .before
 
   abbrev place : ℕ
   place = k .before .inner .given .0 .0
@@ -148,7 +148,7 @@ module _ (t : ℕ) (r : enter-from-lts.After-row-at (calls t) (enter-from-at t) 
 -- When the call came back from its child
 module _ (t : ℕ) (e : enter-from-lts.After-enter-from (calls t) (enter-from-at t) enter-from.Post) where
   abbrev row : enter-from-lts.After-row-at (calls t) (enter-from-at t) enter-from.Post
-  row = e .before .before .before
+  row = e .before .before
 
   abbrev first : enter-from-lts.Start (calls t) (enter-from-at t) enter-from.Post
   first = start-above t (found t row)
@@ -166,24 +166,21 @@ module _ (t : ℕ) (e : enter-from-lts.After-enter-from (calls t) (enter-from-at
 
 enter-from-enter-leaf-requires : (t : ℕ) → enter-from-lts.Need-enter-leaf-requires (calls t) (enter-from-at t) enter-from.Post
 enter-from-enter-leaf-requires t c κs =
-    let s = c .before .before .before .before .before in
-    (search needs, (few t s, leaf t s (c .before .before .if1 .taken) .can))
+    let s = c .before .before .before in
+    (few t s, leaf t s (c .before .if1 .taken) .can)
 
 enter-from-same-length : (t : ℕ) → enter-from-lts.Need-same-length (calls t) (enter-from-at t) enter-from.Post
 enter-from-same-length t c = search needs
 
-enter-from-same-length-2 : (t : ℕ) → enter-from-lts.Need-same-length-2 (calls t) (enter-from-at t) enter-from.Post
-enter-from-same-length-2 t c = search needs
-
 enter-from-returns : (t : ℕ) → enter-from-lts.Need-returns (calls t) (enter-from-at t) enter-from.Post
-enter-from-returns t c = rw (leaf t (c .before .before .before .before .before .before .before .before .before .before) (c .before .before .before .before .before .before .before .if1 .taken) .is) at (c .before .before .before .before .enter-leaf .ensures)
+enter-from-returns t c = rw (leaf t (c .before .before .before .before .before .before) (c .before .before .before .before .if1 .taken) .is) at (c .before .before .enter-leaf .ensures)
 
 enter-from-page-at-requires : (t : ℕ) → enter-from-lts.Need-page-at-requires (calls t) (enter-from-at t) enter-from.Post
-enter-from-page-at-requires t c κs = within t (c .before .before .before .before)
+enter-from-page-at-requires t c κs = within t (c .before .before .before)
 
 enter-from-survey-page-requires : (t : ℕ) → enter-from-lts.Need-survey-page-requires (calls t) (enter-from-at t) enter-from.Post
 enter-from-survey-page-requires t c κs =
-    let s = c .before .before .before .before .before in
+    let s = c .before .before .before .before in
     (ap length (c .page-at .ensures) ∙ page-length (table t s) (s .args .page) (within t s), rw (c .page-at .ensures) (few t s))
 
 enter-from-enum-known-inner : (t : ℕ) → enter-from-lts.Need-enum-known-inner (calls t) (enter-from-at t) enter-from.Post
@@ -194,25 +191,22 @@ enter-from-enum-told t c = search needs
 
 enter-from-change-page-requires : (t : ℕ) → enter-from-lts.Need-change-page-requires (calls t) (enter-from-at t) enter-from.Post
 enter-from-change-page-requires t c κs =
-    let s = c .before .before .before .before .before .before .before .before .before .before in
-    let gain = gain-is t (c .before .before .before .before) in
-    (search needs, (few t s, (rw gain (gain-inside t s), rw gain (lowest t (c .before .before) .can))))
+    let s = c .before .before .before .before .before .before .before .before in
+    let gain = gain-is t (c .before .before .before) in
+    (few t s, (rw gain (gain-inside t s), rw gain (lowest t (c .before) .can)))
 
-enter-from-same-length-3 : (t : ℕ) → enter-from-lts.Need-same-length-3 (calls t) (enter-from-at t) enter-from.Post
-enter-from-same-length-3 t c = search needs
-
-enter-from-same-length-4 : (t : ℕ) → enter-from-lts.Need-same-length-4 (calls t) (enter-from-at t) enter-from.Post
-enter-from-same-length-4 t c = search needs
+enter-from-same-length-2 : (t : ℕ) → enter-from-lts.Need-same-length-2 (calls t) (enter-from-at t) enter-from.Post
+enter-from-same-length-2 t c = search needs
 
 enter-from-returns-2 : (t : ℕ) → enter-from-lts.Need-returns-2 (calls t) (enter-from-at t) enter-from.Post
-enter-from-returns-2 t c = rw (gain-is t (c .before .before .before .before .before .before .before .before .before), lowest t (c .before .before .before .before .before .before .before) .is) at (c .before .before .before .before .change-page .ensures)
+enter-from-returns-2 t c = rw (gain-is t (c .before .before .before .before .before .before), lowest t (c .before .before .before .before) .is) at (c .before .before .change-page .ensures)
 
 enter-from-page-at-requires-2 : (t : ℕ) → enter-from-lts.Need-page-at-requires-2 (calls t) (enter-from-at t) enter-from.Post
-enter-from-page-at-requires-2 t c κs = within t (c .before .before .before .before .before .before .before .before .before .before)
+enter-from-page-at-requires-2 t c κs = within t (c .before .before .before .before .before .before .before .before .before)
 
 enter-from-row-at-requires : (t : ℕ) → enter-from-lts.Need-row-at-requires (calls t) (enter-from-at t) enter-from.Post
 enter-from-row-at-requires t c κs =
-    let s = c .before .before .before .before .before .before .before .before .before .before .before in
+    let s = c .before .before .before .before .before .before .before .before .before .before in
     let long = ap length (c .page-at2 .ensures) ∙ page-length (table t s) (s .args .page) (within t s) in
     omega (arith, place-low t (c .before .before), few t s, long)
 
@@ -221,26 +215,23 @@ enter-from-sub-enter-from t c = search needs
 
 enter-from-enter-from-requires : (t : ℕ) → enter-from-lts.Need-enter-from-requires (calls t) (enter-from-at t) enter-from.Post
 enter-from-enter-from-requires t c κs =
-    let k = c .before .before .before .before .before in
-    let s = c .before .before .before .before .before .before .before .before .before .before .before .before .before .before in
-    let step = child-step (tree t s) (point t s) (small t s) (narrow t s) (s .args .page) (place t k) (place-is t k) (s .args .level) (c .before .before .before .before .before .before .before .before .before .before .before .if1 .left) (can t s) in
-    (omega (arith, s .pre .0), (search needs, rw (child-is t (c .before .before)) step))
+    let k = c .before .before .before .before in
+    let s = c .before .before .before .before .before .before .before .before .before .before .before .before in
+    let step = child-step (tree t s) (point t s) (small t s) (narrow t s) (s .args .page) (place t k) (place-is t k) (s .args .level) (c .before .before .before .before .before .before .before .before .before .before .if1 .left) (can t s) in
+    (omega (arith, s .pre .0), rw (child-is t (c .before)) step)
 
 enter-from-change-page-requires-2 : (t : ℕ) → enter-from-lts.Need-change-page-requires-2 (calls t) (enter-from-at t) enter-from.Post
 enter-from-change-page-requires-2 t c κs =
-    let s = c .before .before .before .before .before .before .before .before .before .before .before .before .before .before .before .before .before .before .before .before .before in
-    let gain = gain-is t (c .before .before .before .before .before .before .before .before .before .before .before .before .before .before .before) in
-    let step = above t (c .before .before .before .before .before .before) in
-    (search needs, (omega (arith, step .0, few t s), ((omega (arith, step .0, place-low t (c .before .before .before .before .before .before .before .before .before .before .before .before)), rw (gain, step .0) (gain-inside t s)), rw gain (step .1 .can))))
+    let s = c .before .before .before .before .before .before .before .before .before .before .before .before .before .before .before .before in
+    let gain = gain-is t (c .before .before .before .before .before .before .before .before .before .before .before) in
+    let step = above t (c .before .before .before) in
+    (omega (arith, step .0, few t s), ((omega (arith, step .0, place-low t (c .before .before .before .before .before .before .before .before)), rw (gain, step .0) (gain-inside t s)), rw gain (step .1 .can)))
 
-enter-from-same-length-5 : (t : ℕ) → enter-from-lts.Need-same-length-5 (calls t) (enter-from-at t) enter-from.Post
-enter-from-same-length-5 t c = search needs
-
-enter-from-same-length-6 : (t : ℕ) → enter-from-lts.Need-same-length-6 (calls t) (enter-from-at t) enter-from.Post
-enter-from-same-length-6 t c = search needs
+enter-from-same-length-3 : (t : ℕ) → enter-from-lts.Need-same-length-3 (calls t) (enter-from-at t) enter-from.Post
+enter-from-same-length-3 t c = search needs
 
 enter-from-returns-3 : (t : ℕ) → enter-from-lts.Need-returns-3 (calls t) (enter-from-at t) enter-from.Post
-enter-from-returns-3 t c = rw (gain-is t (c .before .before .before .before .before .before .before .before .before .before .before .before .before .before .before .before .before .before .before .before), above t (c .before .before .before .before .before .before .before .before .before .before .before) .1 .is) at (c .before .before .before .before .change-page2 .ensures)
+enter-from-returns-3 t c = rw (gain-is t (c .before .before .before .before .before .before .before .before .before .before .before .before .before .before), above t (c .before .before .before .before .before .before) .1 .is) at (c .before .before .change-page2 .ensures)
 
 pub +enter-from-spec : {M : Type 1} → statement M
 +enter-from-spec = close μ-enter-from λ t. enter-from-lts.spec (calls t)
@@ -248,21 +239,18 @@ pub +enter-from-spec : {M : Type 1} → statement M
     enter-from.Post
     (enter-from-enter-leaf-requires t)
     (enter-from-same-length t)
-    (enter-from-same-length-2 t)
     (enter-from-returns t)
     (enter-from-page-at-requires t)
     (enter-from-survey-page-requires t)
     (enter-from-enum-known-inner t)
     (enter-from-enum-told t)
     (enter-from-change-page-requires t)
-    (enter-from-same-length-3 t)
-    (enter-from-same-length-4 t)
+    (enter-from-same-length-2 t)
     (enter-from-returns-2 t)
     (enter-from-page-at-requires-2 t)
     (enter-from-row-at-requires t)
     (enter-from-sub-enter-from t)
     (enter-from-enter-from-requires t)
     (enter-from-change-page-requires-2 t)
-    (enter-from-same-length-5 t)
-    (enter-from-same-length-6 t)
+    (enter-from-same-length-3 t)
     (enter-from-returns-3 t)

@@ -11,36 +11,33 @@ use Rattle.enter.proofs.entering.enter_leaf.Statement.{statement}
 use Rattle.enter.proofs.entering.enter_leaf.Tie as tie
 
 page-at-requires : tie.Need-page-at-requires
-page-at-requires c κs = c .before .before .before .pre .1 .1 .inside
+page-at-requires c κs = c .before .before .pre .1 .inside
 
 survey-page-requires : tie.Need-survey-page-requires
 survey-page-requires c κs =
-    let a = c .before .before .before .before .args in
-    let pre = c .before .before .before .before .pre in
-    (ap length (c .page-at .ensures) ∙ page-length (a .table .now) (a .page) (pre .1 .1 .inside), rw (c .page-at .ensures) (pre .1 .0))
+    let a = c .before .before .before .args in
+    let pre = c .before .before .before .pre in
+    (ap length (c .page-at .ensures) ∙ page-length (a .table .now) (a .page) (pre .1 .inside), rw (c .page-at .ensures) (pre .0))
 
 change-page-requires : tie.Need-change-page-requires
 change-page-requires c κs =
-    let a = c .before .before .before .before .before .before .before .args in
-    let pre = c .before .before .before .before .before .before .before .pre in
+    let a = c .before .before .before .before .before .args in
+    let pre = c .before .before .before .before .before .pre in
     let page : List ℕ = pageAt (a .table .now) (a .page) in
-    let found : c .before .before .survey-page .result ≡ surveyOf (a .t) (a .k) page =
-    c .before .before .survey-page .ensures ∙ ap (surveyOf (a .t) (a .k)) (c .before .before .before .page-at .ensures) in
-    (search needs, (pre .1 .0, (rw found (found-within (a .t) page (isAround (a .k)), found-within (a .t) page (startsFrom (a .k))), rw found (pre .1 .1))))
+    let found : c .before .survey-page .result ≡ surveyOf (a .t) (a .k) page =
+    c .before .survey-page .ensures ∙ ap (surveyOf (a .t) (a .k)) (c .before .before .page-at .ensures) in
+    (pre .0, (rw found (found-within (a .t) page (isAround (a .k)), found-within (a .t) page (startsFrom (a .k))), rw found (pre .1)))
 
 same-length : tie.Need-same-length
 same-length c = search needs
 
-same-length-2 : tie.Need-same-length-2
-same-length-2 c = search needs
-
 returns : tie.Need-returns
 returns c =
-    let a = c .before .before .before .before .before .before .before .before .before .before .before .before .args in
+    let a = c .before .before .before .before .before .before .before .before .args in
     let page : List ℕ = pageAt (a .table .now) (a .page) in
-    let found : c .before .before .before .before .before .before .before .survey-page .result ≡ surveyOf (a .t) (a .k) page =
-    c .before .before .before .before .before .before .before .survey-page .ensures ∙ ap (surveyOf (a .t) (a .k)) (c .before .before .before .before .before .before .before .before .page-at .ensures) in
-    rw found at (c .before .before .before .before .change-page .ensures)
+    let found : c .before .before .before .before .survey-page .result ≡ surveyOf (a .t) (a .k) page =
+    c .before .before .before .before .survey-page .ensures ∙ ap (surveyOf (a .t) (a .k)) (c .before .before .before .before .before .page-at .ensures) in
+    rw found at (c .before .before .change-page .ensures)
 
 pub enter-leaf-spec : {M : Type 1} → statement M
 enter-leaf-spec =
@@ -50,5 +47,4 @@ enter-leaf-spec =
     survey-page-requires
     change-page-requires
     same-length
-    same-length-2
     returns)

@@ -80,7 +80,7 @@ module _ (f : lts.After-known-told calls reads.Pre reads.Post) where
 -- When the call came back from its page
 module _ (e : lts.After-enter-from calls reads.Pre reads.Post) where
   abbrev found : lts.After-known-told calls reads.Pre reads.Post
-  found = e .before .before .before
+  found = e .before .before
 
   abbrev first : lts.Start calls reads.Pre reads.Post
   first = start found
@@ -126,22 +126,19 @@ returns c =
     (top-roots (s .args .table .now) (s .args .roots .now) [] (s .args .used) (found .result)
     ∙ sym (c .before .before .find-top .ensures) ∙ c .enum-told .given .1))
 
-slice-aggregate-enter-from : tie.Need-slice-aggregate-enter-from
-slice-aggregate-enter-from c = search needs
-
 enter-from-requires : tie.Need-enter-from-requires
 enter-from-requires c κs =
-    let f = c .before .before in
+    let f = c .before in
     let s = start f in
-    (search needs, can-enter-at (tree s) (point s) (s .pre) (root f) (root-level f) (root-is f) (started f .level-is))
+    can-enter-at (tree s) (point s) (s .pre) (root f) (root-level f) (root-is f) (started f .level-is)
 
 enum-told-2 : tie.Need-enum-told-2
 enum-told-2 c = search needs
 
 use-after-requires : tie.Need-use-after-requires
 use-after-requires c κs =
-    let e = c .before .before .before .before .before in
-    let pre = start (c .before .before .before .before .before .before .before .before) .pre in
+    let e = c .before .before .before .before in
+    let pre = start (c .before .before .before .before .before .before) .pre in
     (pre .takes, (omega (arith, pre .takes .used-few, pre .roots-few), few e))
 
 enum-known-became : tie.Need-enum-known-became
@@ -149,19 +146,19 @@ enum-known-became c = search needs
 
 put-root-requires : tie.Need-put-root-requires
 put-root-requires c κs =
-    let e = c .before .before .before .before .before .before .before in
-    let s = start (c .before .before .before .before .before .before .before .before .before .before) in
+    let e = c .before .before .before .before .before .before in
+    let s = start (c .before .before .before .before .before .before .before .before) in
     copied-can (tree s) (point s) (s .pre) (e .enter-from .result) (e .enter-from .last .0) (done-is e) (c .before .before .became .given .0 .0) (c .before .before .became .given .1)
 
 enum-known-became-2 : tie.Need-enum-known-became-2
 enum-known-became-2 c = search needs
 
 taken-page-requires : tie.Need-taken-page-requires
-taken-page-requires c κs = (start (c .before .before .before .before .before .before .before .before .before) .pre .takes, omega (arith, few (c .before .before .before .before .before .before)))
+taken-page-requires c κs = (start (c .before .before .before .before .before .before .before) .pre .takes, omega (arith, few (c .before .before .before .before .before)))
 
 add-two-row-root : tie.Need-add-two-row-root
 add-two-row-root c =
-    let f = c .before .before .before .before .before .before .before .before .before .before .before in
+    let f = c .before .before .before .before .before .before .before .before .before in
     let s = start f in
     omega (arith, level-same (tree s) (point s) (s .pre) (root f) (root-level f) (root-is f) (started f .level-is), low-level (tree s) (point s) (s .pre))
 
@@ -170,18 +167,18 @@ two-row-root-requires c κs = search needs
 
 put-page-requires : tie.Need-put-page-requires
 put-page-requires c κs =
-    let e = c .before .before .before .before .before .before .before .before .before in
-    let s = start (c .before .before .before .before .before .before .before .before .before .before .before .before) in
+    let e = c .before .before .before .before .before .before .before .before in
+    let s = start (c .before .before .before .before .before .before .before .before .before .before) in
     let room = halved-room (tree s) (point s) (s .pre) (e .enter-from .result) (e .enter-from .last .0) (done-is e) (c .before .before .before .before .became2 .given .0 .0) (c .before .before .before .before .became2 .given .0 .1 .0) (c .before .before .before .before .became2 .given .1) in
     (omega (arith, room, same e, c .before .before .taken-page .ensures), rw (c .two-row-root .ensures) (omega arith))
 
 add-put-root : tie.Need-add-put-root
-add-put-root c = omega (arith, few (c .before .before .before .before .before .before .before .before .before .before .before .before .before .before))
+add-put-root c = omega (arith, few (c .before .before .before .before .before .before .before .before .before .before .before .before .before))
 
 put-root-requires-2 : tie.Need-put-root-requires-2
 put-root-requires-2 c κs =
-    let e = c .before .before .before .before .before .before .before .before .before .before .before .before .before .before in
-    let s = start (c .before .before .before .before .before .before .before .before .before .before .before .before .before .before .before .before .before) in
+    let e = c .before .before .before .before .before .before .before .before .before .before .before .before .before in
+    let s = start (c .before .before .before .before .before .before .before .before .before .before .before .before .before .before .before) in
     halved-can (tree s) (point s) (s .pre) (e .enter-from .result) (e .enter-from .last .0) (done-is e) (c .before .before .before .before .before .before .before .before .before .became2 .given .0 .0) (c .before .before .before .before .before .before .before .before .before .became2 .given .0 .1 .0) (c .before .before .before .before .before .before .before .before .before .became2 .given .1)
 
 same-length-3 : tie.Need-same-length-3
@@ -192,8 +189,8 @@ same-length-4 c = search needs
 
 returns-2 : tie.Need-returns-2
 returns-2 c =
-    let e = c .before .before .before .before .before .before in
-    let s = start (c .before .before .before .before .before .before .before .before .before) in
+    let e = c .before .before .before .before .before in
+    let s = start (c .before .before .before .before .before .before .before) in
     stays-way (tree s) (point s) (s .pre) (e .enter-from .result) (e .enter-from .last .0) (done-is e) (c .before .enum-told2 .given .1) _ (c .use-after .ensures)
 
 same-length-5 : tie.Need-same-length-5
@@ -204,8 +201,8 @@ same-length-6 c = search needs
 
 returns-3 : tie.Need-returns-3
 returns-3 c =
-    let e = c .before .before .before .before .before .before .before .before .before .before in
-    let s = start (c .before .before .before .before .before .before .before .before .before .before .before .before .before) in
+    let e = c .before .before .before .before .before .before .before .before .before in
+    let s = start (c .before .before .before .before .before .before .before .before .before .before .before) in
     copied-way (tree s) (point s) (s .pre) (e .enter-from .result) (e .enter-from .last .0) (done-is e) (c .before .before .before .before .before .became .given .0 .0) (c .before .before .before .before .before .became .given .1) _ _ (c .before .before .put-root .ensures)
 
 same-length-7 : tie.Need-same-length-7
@@ -216,8 +213,8 @@ same-length-8 c = search needs
 
 returns-4 : tie.Need-returns-4
 returns-4 c =
-    let e = c .before .before .before .before .before .before .before .before .before .before .before .before .before .before .before .before .before in
-    let f = c .before .before .before .before .before .before .before .before .before .before .before .before .before .before .before .before .before .before .before .before in
+    let e = c .before .before .before .before .before .before .before .before .before .before .before .before .before .before .before .before in
+    let f = c .before .before .before .before .before .before .before .before .before .before .before .before .before .before .before .before .before .before in
     let s = start f in
     let top = level-same (tree s) (point s) (s .pre) (root f) (root-level f) (root-is f) (started f .level-is) in
     let lower = c .before .before .before .before .before .before .before .before .before .before .before .before .became2 .given .0 .0 in
@@ -240,7 +237,6 @@ enter-spec =
     same-length
     same-length-2
     returns
-    slice-aggregate-enter-from
     enter-from-requires
     enum-told-2
     use-after-requires
