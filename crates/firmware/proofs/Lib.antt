@@ -3,3 +3,4 @@ pub mod ExportedLaws
 pub mod ExportedLists
 pub mod KeptPlaces
 pub mod PacketLaws
+pub mod BurstLaws

@@ -1,3 +1,4 @@
 -- The store as firmware in C calls it.
 pub mod Exported
 pub mod Packets
+pub mod BurstCalls
