@@ -151,73 +151,99 @@ fn near_tick(random: &mut Random, store: &Store) -> u32 {
     }
 }
 
-fn main() {
-    let rounds: u64 = std::env::args().nth(1).map_or(1, |rounds| rounds.parse().expect("ROUNDS is a number"));
-    let (mut compared, mut differed, mut written, mut split) = (0u64, 0u64, 0u64, 0u64);
-    let mut reached = Reached::default();
-    let mut refusals: BTreeMap<u8, u64> = BTreeMap::new();
-    let stores = 12_000 * rounds;
-    for seed in 0..stores {
-        let mut random = Random(seed);
-        let mut before = if random.one_in(3) { made::grown(&mut random) } else { made::random_trees(&mut random) };
-        for _ in 0..random.below(3) {
-            made::spoil(&mut random, &mut before);
-        }
-        let (mut library, mut port) = (before.clone(), before.clone());
-        for _ in 0..40 {
-            // A fault in the midst of calls, too.
-            if random.one_in(24) {
-                made::spoil(&mut random, &mut before);
-                library.clone_from(&before);
-                port.clone_from(&before);
+#[derive(Default)]
+struct Counts {
+    compared: u64,
+    differed: u64,
+    /// Accepted calls that write, and how many of them made pages
+    written: u64,
+    split: u64,
+    refusals: BTreeMap<u8, u64>,
+    in_bursts: Reached,
+}
+
+impl Counts {
+    fn judge(&mut self, same: bool, what: impl FnOnce() -> String) {
+        self.compared += 1;
+        if !same {
+            self.differed += 1;
+            if self.differed <= 10 {
+                println!("differs: {}", what());
             }
-            let call = call_on(&mut random, &before);
-            let found = by_library(&mut library, call);
-            let wanted = by_port(&mut port, call);
-            *refusals.entry(wanted.refusal).or_default() += 1;
-            let writes = wanted.refusal == 0 && matches!(call, Call::Open | Call::Start { .. } | Call::End { .. });
-            let kept = writes && library == port || !writes && library == before && port == before;
-            let set = wanted.refusal == 0 || found == Answer::unset(found.refusal);
-            compared += 1;
-            if found != wanted || !kept || !set {
-                differed += 1;
-                if differed <= 10 {
-                    println!("differs: store {seed}, {call:?}: {found:?}, not {wanted:?}; memory as it should be: {kept}");
-                }
-                library.clone_from(&port);
-            }
-            if writes {
-                written += 1;
-                let (after, earlier) = (&port.head, &before.head);
-                split += u64::from(after.start_pages_used > earlier.start_pages_used || after.end_pages_used > earlier.end_pages_used);
-                before.clone_from(&port);
-            } else if !kept {
-                library.clone_from(&before);
-                port.clone_from(&before);
-            }
-        }
-        let packets = (0..PACKETS).filter(|_| !same_of_packet(&mut random, &before)).count() as u64;
-        compared += PACKETS;
-        differed += packets;
-        if packets > 0 && differed <= 10 {
-            println!("differs: store {seed}, {packets} packets");
-        }
-        let bursts = (0..BURSTS).filter(|_| !same_of_burst(&mut random, &before, &mut reached)).count() as u64;
-        compared += BURSTS;
-        differed += bursts;
-        if bursts > 0 && differed <= 10 {
-            println!("differs: store {seed}, {bursts} bursts");
         }
     }
-    let got: Vec<String> = reached.results.iter().map(|(refusal, times)| format!("{refusal} × {times}")).collect();
+}
+
+/// A call by the library and by the port, each on a copy of the store, which becomes what the port leaves.
+fn try_call(seed: u64, call: Call, before: &mut Store, [library, port]: [&mut Store; 2], counts: &mut Counts) {
+    let found = by_library(library, call);
+    let wanted = by_port(port, call);
+    *counts.refusals.entry(wanted.refusal).or_default() += 1;
+    let writes = wanted.refusal == 0 && matches!(call, Call::Open | Call::Start { .. } | Call::End { .. });
+    let kept = if writes { library == port } else { library == before && port == before };
+    let set = wanted.refusal == 0 || found == Answer::unset(found.refusal);
+    let same = found == wanted && kept && set;
+    counts.judge(same, || format!("store {seed}, {call:?}: {found:?}, not {wanted:?}; memory as it should be: {kept}"));
+    if writes {
+        counts.written += 1;
+        let (after, earlier) = (&port.head, &before.head);
+        counts.split += u64::from(after.start_pages_used > earlier.start_pages_used || after.end_pages_used > earlier.end_pages_used);
+        before.clone_from(port);
+    } else if !kept {
+        port.clone_from(before);
+    }
+    if !same {
+        library.clone_from(port);
+    }
+}
+
+/// A store with its calls, its packets and its bursts.
+fn try_store(seed: u64, counts: &mut Counts) {
+    let mut random = Random(seed);
+    let mut before = if random.one_in(3) { made::grown(&mut random) } else { made::random_trees(&mut random) };
+    for _ in 0..random.below(3) {
+        made::spoil(&mut random, &mut before);
+    }
+    let (mut library, mut port) = (before.clone(), before.clone());
+    for _ in 0..40 {
+        // A fault in the midst of calls, too.
+        if random.one_in(24) {
+            made::spoil(&mut random, &mut before);
+            library.clone_from(&before);
+            port.clone_from(&before);
+        }
+        let call = call_on(&mut random, &before);
+        try_call(seed, call, &mut before, [&mut library, &mut port], counts);
+    }
+    for _ in 0..PACKETS {
+        let same = same_of_packet(&mut random, &before);
+        counts.judge(same, || format!("store {seed}, a packet"));
+    }
+    for _ in 0..BURSTS {
+        let same = same_of_burst(&mut random, &before, &mut counts.in_bursts);
+        counts.judge(same, || format!("store {seed}, a burst"));
+    }
+}
+
+fn listed<T: std::fmt::Display>(times: impl Iterator<Item = (T, u64)>) -> String {
+    times.map(|(refusal, times)| format!("{refusal} × {times}")).collect::<Vec<_>>().join(", ")
+}
+
+fn main() {
+    let rounds: u64 = std::env::args().nth(1).map_or(1, |rounds| rounds.parse().expect("ROUNDS is a number"));
+    let mut counts = Counts::default();
+    let stores = 12_000 * rounds;
+    for seed in 0..stores {
+        try_store(seed, &mut counts);
+    }
+    let Counts { compared, differed, written, split, refusals, in_bursts } = counts;
     println!(
         "spoiled: {} bursts, {} refused with 31, {} with an event accepted after one that the state refused; events by what they got: {}",
-        BURSTS * stores, reached.refused, reached.accepted_later, got.join(", ")
+        BURSTS * stores, in_bursts.refused, in_bursts.accepted_later, listed(in_bursts.results.into_iter())
     );
-    let seen: Vec<String> = refusals.iter().filter(|seen| *seen.0 != 0).map(|(refusal, times)| format!("{refusal} × {times}")).collect();
     println!(
         "spoiled: {stores} stores, {written} accepted writes, {split} of them with splits, refusals {}, {} packets: {compared} compared, {differed} differed",
-        seen.join(", "), PACKETS * stores
+        listed(refusals.into_iter().filter(|seen| seen.0 != 0)), PACKETS * stores
     );
-    std::process::exit(i32::from(differed != 0 || reached.accepted_later == 0));
+    std::process::exit(i32::from(differed != 0 || in_bursts.accepted_later == 0));
 }
