@@ -16,7 +16,9 @@ mod list;
 mod workload;
 
 use book::Book;
-use library::{by_library, by_port, packet_by_library, packet_by_port, Answer, Call, Store};
+use library::{
+    burst_by_library, burst_by_port, by_library, by_port, packet_by_library, packet_by_port, Answer, Call, Store,
+};
 use list::List;
 use port::{Fed, Head};
 use std::hint::black_box;
@@ -26,9 +28,9 @@ use workload::{questions_past, questions_today, season, Question, SHAPES};
 const SIZES: [u32; 4] = [5_000, 50_000, 200_000, 1_000_000];
 const QUESTIONS: usize = 2_000;
 
-/// Starts and ends of a packet, and the passes of the season that is told in packets.
-const PACKET: usize = 256;
-const PACKET_PASSES: u32 = 5_000;
+/// Starts and ends of a packet and of a burst, and the passes of the season that is told in them.
+const TOGETHER: usize = 256;
+const TOGETHER_PASSES: u32 = 5_000;
 
 /// Something that takes the calls of a detector.
 trait Contender {
@@ -245,42 +247,71 @@ fn report(name: &str, passes: u32, head: &Head, [by_library, by_port, by_list]: 
     }
 }
 
-/// The mean time of an event where so many are made at a time, and the store that is left.
-fn event_time(packets: usize, runs: u32, clock: f64, mut make: impl FnMut(&mut Store, usize)) -> (f64, Store) {
-    let mut store = roomy_store(PACKET_PASSES);
-    let mut best = vec![u32::MAX; packets];
-    for _ in 0..runs {
-        accepted(by_library(&mut store, Call::Open));
-        for (packet, time) in best.iter_mut().enumerate() {
-            take_time(time, || make(&mut store, packet));
-        }
-    }
-    (Time::of(&best, clock).mean / PACKET as f64, store)
+/// One way to make 256 starts and ends: the store on which they are made over and over, and the best time of each 256.
+struct Way {
+    store: Store,
+    best: Vec<u32>,
 }
 
-/// The events of a season by single calls, and the same events as packets.
-fn compare_packets(
-    who: &str, name: &str, calls: &[Call], runs: u32, clock: f64,
-    single: fn(&mut Store, Call) -> Answer, packet: fn(&mut Store, &[u8], bool, &mut [u8]) -> Fed,
-) {
-    let groups: Vec<&[Call]> = calls.chunks_exact(PACKET).collect();
+impl Way {
+    fn new(groups: usize) -> Way {
+        Way { store: roomy_store(TOGETHER_PASSES), best: vec![u32::MAX; groups] }
+    }
+
+    /// All of them once, from an opening on.
+    fn run(&mut self, mut make: impl FnMut(&mut Store, usize)) {
+        accepted(by_library(&mut self.store, Call::Open));
+        for (group, time) in self.best.iter_mut().enumerate() {
+            take_time(time, || make(&mut self.store, group));
+        }
+    }
+
+    /// The mean time of one start or end.
+    fn time(&self, clock: f64) -> f64 {
+        Time::of(&self.best, clock).mean / TOGETHER as f64
+    }
+}
+
+/// Who makes the calls, the packets and the bursts.
+struct Maker {
+    who: &'static str,
+    single: fn(&mut Store, Call) -> Answer,
+    packet: fn(&mut Store, &[u8], bool, &mut [u8]) -> Fed,
+    burst: fn(&mut Store, &[u8], &mut [u64]) -> u8,
+}
+
+const MAKERS: [Maker; 2] = [
+    Maker { who: "library", single: by_library, packet: packet_by_library, burst: burst_by_library },
+    Maker { who: "port", single: by_port, packet: packet_by_port, burst: burst_by_port },
+];
+
+/// The events of a season by single calls, and the same events as packets and as bursts. The three take turns, so that what else the machine does
+/// bears on all of them.
+fn compare_together(Maker { who, single, packet, burst }: &Maker, name: &str, calls: &[Call], runs: u32, clock: f64) {
+    let groups: Vec<&[Call]> = calls.chunks_exact(TOGETHER).collect();
     let bytes_of = |call: &Call| match *call {
         Call::Start { tick, key, weight } => commands::start(tick, key, weight),
         Call::End { tick, number } => commands::end(tick, number),
         _ => Vec::new(),
     };
-    let packets: Vec<Vec<u8>> = groups.iter().map(|group| group.iter().flat_map(bytes_of).collect()).collect();
-    let mut out = [0; 18 * PACKET];
-    let (by_calls, left) = event_time(groups.len(), runs, clock, |store, at| groups[at].iter().for_each(|&call| {
-        black_box(accepted(single(store, call)));
-    }));
-    let (by_packets, same) = event_time(groups.len(), runs, clock, |store, at| {
-        assert!(packet(store, &packets[at], false, &mut out).taken == packets[at].len(), "not all of a packet was taken");
-    });
-    assert!(left == same, "packets leave another store than single calls");
+    let bytes: Vec<Vec<u8>> = groups.iter().map(|group| group.iter().flat_map(bytes_of).collect()).collect();
+    let (mut out, mut results) = ([0; 18 * TOGETHER], [0; 2 * TOGETHER]);
+    let [mut by_calls, mut by_packets, mut by_bursts] = [(); 3].map(|()| Way::new(groups.len()));
+    for _ in 0..runs {
+        by_calls.run(|store, at| groups[at].iter().for_each(|&call| {
+            black_box(accepted(single(store, call)));
+        }));
+        by_packets.run(|store, at| {
+            assert!(packet(store, &bytes[at], false, &mut out).taken == bytes[at].len(), "not all of a packet was taken");
+        });
+        by_bursts.run(|store, at| assert!(burst(store, &bytes[at], black_box(&mut results)) == 0, "a burst was refused"));
+    }
+    assert!(by_packets.store == by_calls.store, "packets leave another store than single calls");
+    assert!(by_bursts.store == by_calls.store, "bursts leave another store than single calls");
+    let [calls, packets, bursts] = [by_calls, by_packets, by_bursts].map(|way| way.time(clock));
     println!(
-        "{name}, {PACKET} starts and ends at a time, {who}: {} an event by single calls, {} in a packet, {:.2} times",
-        shown(by_calls), shown(by_packets), by_packets / by_calls
+        "{name}, {TOGETHER} starts and ends at a time, {who}: {} an event by single calls, {} in a packet, {:.2} times, {} in a burst, {:.2} times",
+        shown(calls), shown(packets), packets / calls, shown(bursts), bursts / calls
     );
 }
 
@@ -307,8 +338,9 @@ fn main() {
     }
     println!();
     for (shape, name) in SHAPES {
-        let calls = season(shape, PACKET_PASSES);
-        compare_packets("library", name, &calls, runs, clock, by_library, packet_by_library);
-        compare_packets("port", name, &calls, runs, clock, by_port, packet_by_port);
+        let calls = season(shape, TOGETHER_PASSES);
+        for maker in &MAKERS {
+            compare_together(maker, name, &calls, runs, clock);
+        }
     }
 }

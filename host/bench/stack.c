@@ -4,7 +4,7 @@
  * what the caller pushes as arguments in it.
  *
  * The store is grown with rising keys to trees four pages high, and each call is measured; the deepest one counts. Then it is opened anew and
- * grown again by packets of one command each.
+ * grown again by packets of one command each, and a third time by bursts of one event each.
  */
 #define _POSIX_C_SOURCE 200809L
 #include <nimbleshale.h>
@@ -27,6 +27,7 @@ static uint32_t tick, key, first_key, number;
 /* The packet that is measured next, and the answer to it. */
 static uint8_t packet[NIMBLESHALE_LONGEST_COMMAND], answer[NIMBLESHALE_LONGEST_ANSWER];
 static size_t packet_length, taken, written;
+static uint64_t results[NIMBLESHALE_RESULT_WORDS];
 
 /* A function with a frame of its own. */
 #define FRAMED __attribute__((noinline))
@@ -78,7 +79,16 @@ static FRAMED uint8_t call_commands(void)
     return over != 0 || taken != packet_length || written == 0 || answer[0] != 0;
 }
 
-enum { FIND_CALLER, OPEN, START, END, QUESTION, LOOKUP_STARTS, LOOKUP_ENDS, PACKET_START, PACKET_END, PACKET_QUESTION, CALLS };
+/* A burst of one event, which a packet of its command is too. It is refused where the event is. */
+static FRAMED uint8_t call_burst(void)
+{
+    uint8_t refusal = nimbleshale_store_burst(&store, packet, packet_length, results, NIMBLESHALE_RESULT_WORDS);
+    return refusal != 0 || results[0] != 0;
+}
+
+enum {
+    FIND_CALLER, OPEN, START, END, QUESTION, LOOKUP_STARTS, LOOKUP_ENDS, PACKET_START, PACKET_END, PACKET_QUESTION, BURST_START, BURST_END, CALLS
+};
 
 static const struct {
     const char *name;
@@ -94,6 +104,8 @@ static const struct {
     {"nimbleshale_commands, start", call_commands},
     {"nimbleshale_commands, end", call_commands},
     {"nimbleshale_commands, question", call_commands},
+    {"nimbleshale_burst, start", call_burst},
+    {"nimbleshale_burst, end", call_burst},
 };
 
 static size_t deepest[CALLS];
@@ -152,38 +164,42 @@ static void measure_packet_question(uint32_t from_key)
     measure(PACKET_QUESTION);
 }
 
-/* A pass starts and ends, by calls or by packets. */
-static void measure_pass(uint32_t pass, int by_packets)
+/* How the starts and ends of a store are made. */
+enum way { BY_CALLS, BY_PACKETS, BY_BURSTS, WAYS };
+
+/* A pass starts and ends. */
+static void measure_pass(uint32_t pass, enum way way)
 {
+    static const int starts[WAYS] = {START, PACKET_START, BURST_START}, ends[WAYS] = {END, PACKET_END, BURST_END};
     tick = 10 * pass + 1;
     key = pass + 1;
     begin_packet(1, tick, 4);
     put(key, 2);
     put(100, 2);
-    measure(by_packets ? PACKET_START : START);
+    measure(starts[way]);
     tick += 5;
     begin_packet(2, tick, 4);
     put(pass, 4);
-    measure(by_packets ? PACKET_END : END);
+    measure(ends[way]);
 }
 
 static void *run(void *unused)
 {
     uint32_t pass;
-    int by_packets;
+    int way;
     (void)unused;
-    for (by_packets = 0; by_packets < 2; by_packets++) {
+    for (way = BY_CALLS; way < WAYS; way++) {
         measure(OPEN);
         for (pass = 0; pass < PASSES; pass++) {
-            measure_pass(pass, by_packets);
+            measure_pass(pass, (enum way)way);
             if (pass % 50 != 0 && pass != PASSES - 1)
                 continue;
-            if (!by_packets) {
+            if (way == BY_CALLS)
                 measure_questions();
-                continue;
+            if (way == BY_PACKETS) {
+                measure_packet_question(0);
+                measure_packet_question(1 + key / 2);
             }
-            measure_packet_question(0);
-            measure_packet_question(1 + key / 2);
         }
     }
     return NULL;

@@ -1,7 +1,7 @@
 /*
  * An example of firmware around the pass index: it lends static memory, records what the ear hears, answers the radio, keeps the store over
- * a power cycle, runs the radio's packets of commands, and shows what a detector can do about each refusal. The memory is small, so that it
- * runs full within the example; a detector lends thousands of pages.
+ * a power cycle, runs the radio's packets of commands, enters in one burst what it heard while the radio talked, and shows what a detector can do
+ * about each refusal. The memory is small, so that it runs full within the example; a detector lends thousands of pages.
  */
 #include <nimbleshale.h>
 #include <stdio.h>
@@ -339,6 +339,117 @@ static void on_packet(const uint8_t *packet, size_t length)
     run_waiting(0);
 }
 
+/*
+ * The dusk queue. While the radio talks, the main loop makes no call; what the ear hears meanwhile is written into a queue, and one burst enters it
+ * all when the radio is silent. (Where an interrupt handler writes the queue, a detector has two of them in turn: nobody may write what is lent
+ * while the burst runs.)
+ *
+ * A pass has no number until its start is entered. So the ear names what it follows by a track of its own, and the queue keeps the track of each
+ * event beside its bytes. The end of a pass whose start is still queued has to wait for the number: the queue is entered first.
+ */
+#define TRACKS 16
+
+static uint8_t queue[NIMBLESHALE_BURST_EVENTS * NIMBLESHALE_EVENT_BYTES];
+static uint64_t results[NIMBLESHALE_BURST_EVENTS * NIMBLESHALE_RESULT_WORDS];
+static unsigned track_of[NIMBLESHALE_BURST_EVENTS];
+static size_t events_queued;
+
+/* What the ear follows: nothing that is recorded, a pass whose start is queued, or one that has its number. */
+static enum { NO_PASS, QUEUED, NUMBERED } tracks[TRACKS];
+static uint32_t track_number[TRACKS];
+
+/* An event that the burst refused is tried by itself, behind those of the burst that came after it, and mended as any other. */
+static void try_alone(const uint8_t *event, unsigned track)
+{
+    uint32_t tick = nimbleshale_narrowed(number_in(event + 1, 4));
+    if (event[0] == 1) {
+        uint32_t key = nimbleshale_narrowed(number_in(event + 5, 2)), weight = nimbleshale_narrowed(number_in(event + 7, 2));
+        tracks[track] = on_start(tick, key, weight, &track_number[track]) ? NUMBERED : NO_PASS;
+    } else {
+        on_end(tick, nimbleshale_narrowed(number_in(event + 5, 4)));
+    }
+}
+
+/* What became of one event of a burst. */
+static void settle(size_t place)
+{
+    const uint8_t *event = queue + NIMBLESHALE_EVENT_BYTES * place;
+    const unsigned track = track_of[place];
+    const uint8_t refusal = (uint8_t)results[NIMBLESHALE_RESULT_WORDS * place];
+    const uint64_t number = results[NIMBLESHALE_RESULT_WORDS * place + 1];
+    switch (refusal) {
+    case NIMBLESHALE_ACCEPTED:
+        if (event[0] == 1) {
+            track_number[track] = nimbleshale_narrowed(number);
+            tracks[track] = NUMBERED;
+        }
+        return;
+    case NIMBLESHALE_REFUSED_COMMAND:
+        /* The queue was damaged. Nobody knows what the event was. */
+        printf("event %u ", (unsigned)place);
+        say("is dropped", refusal);
+        tracks[track] = NO_PASS;
+        memory_faults++;
+        dropped++;
+        return;
+    default:
+        printf("event %u by itself, ", (unsigned)place);
+        try_alone(event, track);
+    }
+}
+
+/* How many events of a burst were refused. */
+static unsigned count_refused(void)
+{
+    unsigned refused = 0;
+    size_t place;
+    for (place = 0; place < events_queued; place++)
+        refused += results[NIMBLESHALE_RESULT_WORDS * place] != NIMBLESHALE_ACCEPTED;
+    return refused;
+}
+
+/* Enters all that is queued. With a queue and a result list of these lengths a burst is never refused. If it is, no event was tried, and each is tried
+ * by itself. */
+static void enter_queue(void)
+{
+    uint8_t refusal = nimbleshale_store_burst(&store, queue, NIMBLESHALE_EVENT_BYTES * events_queued, results, sizeof results / sizeof *results);
+    size_t place;
+    if (refusal == NIMBLESHALE_ACCEPTED)
+        printf("burst of %u events, %u of them refused\n", (unsigned)events_queued, count_refused());
+    else
+        say("burst", refusal);
+    for (place = 0; place < events_queued; place++) {
+        if (refusal == NIMBLESHALE_ACCEPTED)
+            settle(place);
+        else
+            try_alone(queue + NIMBLESHALE_EVENT_BYTES * place, track_of[place]);
+    }
+    events_queued = 0;
+}
+
+/* A place for one more event. A queue that is full waits for the radio no longer. */
+static uint8_t *queue_event(unsigned track)
+{
+    if (events_queued == NIMBLESHALE_BURST_EVENTS)
+        enter_queue();
+    track_of[events_queued] = track;
+    return queue + NIMBLESHALE_EVENT_BYTES * events_queued++;
+}
+
+static void hear_start(unsigned track, uint32_t tick, uint32_t key, uint32_t weight)
+{
+    nimbleshale_event_start(queue_event(track), tick, key, weight);
+    tracks[track] = QUEUED;
+}
+
+static void hear_end(unsigned track, uint32_t tick)
+{
+    if (tracks[track] == QUEUED)
+        enter_queue();
+    if (tracks[track] == NUMBERED)
+        nimbleshale_event_end(queue_event(track), tick, track_number[track]);
+}
+
 /* A pass starts each tick, until something has come about. Firmware waits for nothing without end: 64 starts are enough for all that is waited
  * for here, since no more passes can be open together. Returns the tick that comes next. */
 static uint32_t starts_until(int (*come_about)(void), const char *what, uint32_t tick, uint32_t first_key)
@@ -420,6 +531,35 @@ static void radio_packets(void)
     run_waiting(1);
 }
 
+/* Ten passes, of which one has a weight that cannot be, and one a tick before that of the event before it. */
+static void at_dusk(void)
+{
+    unsigned track;
+
+    printf("\nAt dusk the radio talks: ten starts are queued and then entered in one burst\n");
+    for (track = 0; track < 10; track++)
+        hear_start(track, track == 6 ? 249 : 250 + track, 4400 + 10 * track, track == 3 ? 0 : 20);
+    enter_queue();
+    on_question(4400, 4500, 250, 270);
+
+    printf("\nTheir ends, and a pass that starts and ends while the radio talks\n");
+    for (track = 0; track < 10; track++)
+        hear_end(track, 270 + track);
+    hear_start(10, 280, 5100, 30);
+    hear_end(10, 285);
+    enter_queue();
+    on_question(4400, 5200, 278, 290);
+
+    printf("\nA queue of which a byte is damaged\n");
+    hear_start(11, 290, 5200, 30);
+    hear_start(12, 291, 5300, 30);
+    queue[0] ^= 0x40;
+    enter_queue();
+    hear_end(11, 295);
+    hear_end(12, 295);
+    enter_queue();
+}
+
 static void full_stores(void)
 {
     uint32_t number = 0, tick;
@@ -472,6 +612,7 @@ int main(void)
     events();
     power_cycle();
     radio_packets();
+    at_dusk();
     full_stores();
     damaged_memory();
     printf("\n%u stores opened, %u events dropped, %u memory faults\n", stores_opened, dropped, memory_faults);

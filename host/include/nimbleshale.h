@@ -14,8 +14,9 @@
  * What holds of every call:
  *   - It returns 0, or the number of the first refusal whose condition holds: first the refusals because of the input, then those because
  *     of the state, each list in number order. Nothing else is refused. (Only nimbleshale_commands returns something else. It is never
- *     refused itself; what is said here holds of each command that it runs.)
- *   - Refused, it leaves every lent number and word as it was, and its results (number, count, sum, pages) as well.
+ *     refused itself; what is said here holds of each command that it runs. So it does of each event of nimbleshale_burst, which itself is
+ *     refused with 31 or not at all.)
+ *   - Refused, it leaves every lent number and word as it was, and its results (number, count, sum, pages, result words) as well.
  *   - Any content of the lent memory is allowed, spoiled content too: a call then ends with a refusal or serves the words as they are. What
  *     is said of passes below is said of a store grown from opening, whose memory nobody else wrote.
  *   - Every call gets all the slices, those that the calls before it got. Each slice and each lent number is memory of its own: no two of
@@ -25,16 +26,17 @@
  *   - While a call that writes runs on a store, no other call runs on it. Questions and lookups change nothing and may run together. Calls
  *     on different stores never meet: the functions have no memory of their own.
  *
- * Names. The library has seven functions: open, start, end, question, lookup_starts, lookup_ends and commands, each behind `nimbleshale_`. They
- * take head and memory piece by piece. Firmware normally keeps a `struct nimbleshale_store` instead, and calls the same function with `store_`
- * before its name: nimbleshale_store_start(&store, ..) is nimbleshale_start on all that the store holds, and so for each of the seven. Parameters
- * of the library's functions and fields of the store have the same names.
+ * Names. The library has eight functions: open, start, end, question, lookup_starts, lookup_ends, commands and burst, each behind `nimbleshale_`.
+ * They take head and memory piece by piece. Firmware normally keeps a `struct nimbleshale_store` instead, and calls the same function with
+ * `store_` before its name: nimbleshale_store_start(&store, ..) is nimbleshale_start on all that the store holds, and so for each of the eight.
+ * Parameters of the library's functions and fields of the store have the same names.
  *
  * Interrupt handlers. Where a handler interrupts no call on a store, it may make any call on it. Where it interrupts a question or a lookup, it
- * may ask and look up on that store. Where it interrupts an opening, a start, an end or commands, it may make no call on that store and read
- * nothing of its head and memory, which may be half written. The simplest way is to put what a handler hears into a queue, and to make the
- * calls in the main loop. A handler that calls needs the stack of the call and saves the registers that calls use; and none, whether it calls
- * or not, may write within the 128 bytes below the interrupted stack pointer (docs/FIRMWARE.md).
+ * may ask and look up on that store. Where it interrupts an opening, a start, an end, commands or a burst, it may make no call on that store and
+ * read nothing of its head and memory, which may be half written. The simplest way is to put what a handler hears into a queue, and to make the
+ * calls in the main loop: nimbleshale_burst takes such a queue in one call. A handler that calls needs the stack of the call and saves the
+ * registers that calls use; and none, whether it calls or not, may write within the 128 bytes below the interrupted stack pointer
+ * (docs/FIRMWARE.md).
  *
  * Stack. What is said at each function are bytes below the caller, arguments included, at their deepest in trees four pages high, on x86-64
  * (host/bench/run measures them).
@@ -70,6 +72,9 @@
 #define NIMBLESHALE_ENTRY_PAGES 7u         /* pages that one start or end takes at most */
 #define NIMBLESHALE_LONGEST_COMMAND 13u    /* bytes of the longest command of the command stream, a question */
 #define NIMBLESHALE_LONGEST_ANSWER 18u     /* bytes of the longest answer, that to a question */
+#define NIMBLESHALE_BURST_EVENTS 256u      /* events that a burst has at most */
+#define NIMBLESHALE_EVENT_BYTES 9u         /* bytes of an event of a burst, which are those of its command */
+#define NIMBLESHALE_RESULT_WORDS 2u        /* 64-bit words that an event of a burst gets for its result */
 
 /* Words of a page table of so many pages, as a size_t: sizeof(char) is 1, and makes it one without a cast, in C and in C++. A root list as
  * long as its table has pages never runs full. */
@@ -85,9 +90,10 @@
 #define NIMBLESHALE_REFUSED_WEIGHT 3       /* weight 0 or above 10,000 */
 #define NIMBLESHALE_REFUSED_TICK 4         /* tick 4,294,967,295 in a start, an end or a lookup */
 #define NIMBLESHALE_REFUSED_INTERVAL 5     /* t1 not below t2 */
-#define NIMBLESHALE_REFUSED_COMMAND 6      /* unknown command byte; only the command stream gives it */
+#define NIMBLESHALE_REFUSED_COMMAND 6      /* unknown command byte; the command stream gives it, and an event of a burst gets it */
 #define NIMBLESHALE_REFUSED_CUT_SHORT 7    /* command cut short; only the command stream gives it */
 #define NIMBLESHALE_REFUSED_MEMORY 8       /* on opening, a page table under 260 words or an empty root list */
+#define NIMBLESHALE_REFUSED_BURST 31       /* a burst of over 256 events, one that ends inside an event, or a result list too short for it */
 
 /* Refusals because of the state. */
 #define NIMBLESHALE_REFUSED_HEAD 20        /* head that doesn't fit: over 64 open, an open key or weight beyond its range, open numbers that
@@ -112,7 +118,7 @@ extern "C" {
 #endif
 
 /*
- * The seven functions of the library. The head goes in and out as numbers:
+ * The eight functions of the library. The head goes in and out as numbers:
  *
  *   last          the last tick: that of the latest accepted start or end, 0 at opening
  *   started       how many passes were started since opening
@@ -244,6 +250,36 @@ uint8_t nimbleshale_commands(uint32_t *last, uint32_t *started, uint32_t *count_
                              const uint8_t *input, size_t input_length, uint8_t ended, uint8_t *out, size_t out_length, size_t *taken,
                              size_t *written);
 
+/*
+ * A burst: up to 256 starts and ends that were queued, entered one by one in their order. Each event is the 9 bytes of its command:
+ *
+ *   01 tick (4 bytes) key (2) weight (2)         a start
+ *   02 tick (4) number (4)                       an end
+ *
+ * nimbleshale_event_start and nimbleshale_event_end write them. The event in place i, counted from 0, gets two result words: results[2 * i] is the
+ * number of its refusal, or 0, and results[2 * i + 1] the number of the pass that it started, or 0.
+ *
+ *   a start that is accepted                     0 and its number, which of the first pass is 0
+ *   an end that is accepted                      0 and 0
+ *   a start or an end that is refused            the number of its refusal, as nimbleshale_start or nimbleshale_end gives it, and 0
+ *   a first byte that is neither 1 nor 2         6 and 0
+ *
+ * An event that is refused leaves everything as it was, and the next one is tried, whatever the refusal: nothing ends a burst but its end. A head
+ * that doesn't fit is no refusal of the burst; each of its events then gets its own 1, 3, 4, 6 or 20.
+ *
+ * Refusals: 31, where there are over 2,304 bytes, where their number is no multiple of 9, or where results_length is under two words an event.
+ * Then no event is tried, and no result word is written.
+ * Accepted: the result words of every event are written; those behind them stay as they were, and so do the events. Head and slices are left as
+ * the starts and ends leave them, one after the other. A burst of no events is accepted and changes nothing.
+ * Stack: TODO-STACK bytes.
+ */
+NIMBLESHALE_MUST_USE
+uint8_t nimbleshale_burst(uint32_t *last, uint32_t *started, uint32_t *count_open, uint32_t *start_pages_used, uint32_t *start_roots_used,
+                          uint32_t *end_pages_used, uint32_t *end_roots_used, uint32_t passes[NIMBLESHALE_PASS_NUMBERS],
+                          uint64_t *start_table, size_t start_table_length, uint64_t *start_roots, size_t start_roots_length,
+                          uint64_t *end_table, size_t end_table_length, uint64_t *end_roots, size_t end_roots_length,
+                          const uint8_t *events, size_t events_length, uint64_t *results, size_t results_length);
+
 #ifdef __cplusplus
 }
 #endif
@@ -340,6 +376,14 @@ static inline uint8_t nimbleshale_store_commands(struct nimbleshale_store *store
     return nimbleshale_commands(NIMBLESHALE_LENT, input, input_length, ended, out, out_length, taken, written);
 }
 
+/* nimbleshale_burst on a store. */
+NIMBLESHALE_MUST_USE
+static inline uint8_t nimbleshale_store_burst(struct nimbleshale_store *store, const uint8_t *events, size_t events_length, uint64_t *results,
+                                              size_t results_length)
+{
+    return nimbleshale_burst(NIMBLESHALE_LENT, events, events_length, results, results_length);
+}
+
 #undef NIMBLESHALE_LENT
 #undef NIMBLESHALE_SHOWN
 #undef NIMBLESHALE_SLICES
@@ -373,6 +417,34 @@ static inline uint32_t nimbleshale_narrowed(uint64_t wide)
     return wide > 4294967295u ? 4294967295u : wide & 4294967295u;
 }
 
+/* A number in so many bytes, the lowest first. One that does not fit becomes the highest that does: as a key or a weight in two bytes that is
+ * refused, where the same number cut short might be accepted. */
+static inline void nimbleshale_event_number(uint8_t *bytes, uint32_t number, int count)
+{
+    int at;
+    if (count < 4 && number >> 8 * count != 0)
+        number = 4294967295u;
+    for (at = 0; at < count; at++)
+        bytes[at] = number >> 8 * at & 255u;
+}
+
+/* Writes the event of a start, for a burst. */
+static inline void nimbleshale_event_start(uint8_t event[NIMBLESHALE_EVENT_BYTES], uint32_t tick, uint32_t key, uint32_t weight)
+{
+    event[0] = 1;
+    nimbleshale_event_number(event + 1, tick, 4);
+    nimbleshale_event_number(event + 5, key, 2);
+    nimbleshale_event_number(event + 7, weight, 2);
+}
+
+/* Writes the event of an end, for a burst. */
+static inline void nimbleshale_event_end(uint8_t event[NIMBLESHALE_EVENT_BYTES], uint32_t tick, uint32_t number)
+{
+    event[0] = 2;
+    nimbleshale_event_number(event + 1, tick, 4);
+    nimbleshale_event_number(event + 5, number, 4);
+}
+
 /* A refusal in a few words, for a log. */
 static inline const char *nimbleshale_refusal_text(uint8_t refusal)
 {
@@ -386,6 +458,7 @@ static inline const char *nimbleshale_refusal_text(uint8_t refusal)
     case NIMBLESHALE_REFUSED_COMMAND: return "unknown command byte";
     case NIMBLESHALE_REFUSED_CUT_SHORT: return "command cut short";
     case NIMBLESHALE_REFUSED_MEMORY: return "page table under 260 words or empty root list";
+    case NIMBLESHALE_REFUSED_BURST: return "burst over 256 events, cut short, or with too few result words";
     case NIMBLESHALE_REFUSED_HEAD: return "head that doesn't fit";
     case NIMBLESHALE_REFUSED_EARLIER: return "tick before the last tick";
     case NIMBLESHALE_REFUSED_NOT_OPEN: return "no open pass of that number";

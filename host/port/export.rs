@@ -1,5 +1,5 @@
 //! The port under the names of the library, as an archive for C: it stands in where the proved library is not at hand, and shows that the
-//! tests need no more than the seven functions of the header. `host/include/nimbleshale.h` says what each does.
+//! tests need no more than the eight functions of the header. `host/include/nimbleshale.h` says what each does.
 
 use port::{Fed, Head, Lent, Seen, Totals, PASS_NUMBERS};
 use std::slice::{from_raw_parts, from_raw_parts_mut};
@@ -61,6 +61,11 @@ writing!(
     nimbleshale_commands, packet,
     (input: *const u8, input_length: usize, ended: u8, out: *mut u8, out_length: usize, taken: &mut usize, written: &mut usize),
     (seen(input, input_length), ended != 0, lent(out, out_length), taken, written)
+);
+writing!(
+    nimbleshale_burst, port::burst,
+    (events: *const u8, events_length: usize, results: *mut u64, results_length: usize),
+    (seen(events, events_length), lent(results, results_length))
 );
 
 /// A packet of commands; 1 where the run is over.

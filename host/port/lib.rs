@@ -1,11 +1,12 @@
 //! A plain port of document 01, "A pass index for the sealed detector": the same calls, refusals and words as the proved library, written
 //! as an engineer would write it without proofs. It serves as a second opinion in the tests and as the measure in the benchmark.
 //!
-//! Six calls are in `calls`, the seventh, which runs a packet of commands, in `stream`; `export.rs` offers them to C under the library's names.
-//! None of them allocates; all memory is lent.
+//! Six calls are in `calls`; the two that take starts and ends as bytes are in `stream`, which runs a packet of commands, and in `events`, which enters
+//! a burst. `export.rs` offers all eight to C under the library's names. None of them allocates; all memory is lent.
 
 mod calls;
 mod enter;
+mod events;
 mod head;
 mod lookup;
 mod page;
@@ -14,5 +15,6 @@ mod stream;
 mod words;
 
 pub use calls::{end, lookup_ends, lookup_starts, open, question, start, Totals};
+pub use events::burst;
 pub use head::{Head, Lent, Seen, PASS_NUMBERS};
 pub use stream::{commands, Fed};

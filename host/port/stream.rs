@@ -1,6 +1,7 @@
 //! The command stream of document 01, "Commands", as much of it as has come in a packet.
 
-use crate::calls::{end, question, start, Totals};
+use crate::calls::{question, Totals};
+use crate::events::{four, run_event, two, EVENT_BYTES};
 use crate::head::{Head, Lent};
 
 /// What a packet came to: how many bytes of its front were taken and how many bytes of answers written, and whether the run is over.
@@ -42,7 +43,7 @@ pub fn commands(head: &mut Head, mut lent: Lent, input: &[u8], ended: bool, out:
 /// How long a command is, by its first byte; nothing where the byte begins none.
 fn length_of(byte: u8) -> Option<usize> {
     match byte {
-        1 | 2 => Some(9),
+        1 | 2 => Some(EVENT_BYTES),
         3 => Some(13),
         _ => None,
     }
@@ -50,13 +51,10 @@ fn length_of(byte: u8) -> Option<usize> {
 
 /// Runs a whole command and writes its answer. Returns how many bytes that has.
 fn run(head: &mut Head, lent: Lent, command: &[u8], out: &mut [u8]) -> usize {
-    let two = |at: usize| u16::from_le_bytes([command[at], command[at + 1]]) as u32;
-    let four = |at: usize| two(at) | two(at + 2) << 16;
     let (mut number, mut totals) = (0, Totals::default());
     out[0] = match command[0] {
-        1 => start(head, lent, four(1), two(5), two(7), &mut number),
-        2 => end(head, lent, four(1), four(5)),
-        _ => question(head, lent.seen(), two(1), two(3), four(5), four(9), &mut totals),
+        3 => question(head, lent.seen(), two(command, 1), two(command, 3), four(command, 5), four(command, 9), &mut totals),
+        _ => run_event(head, lent, command, &mut number),
     };
     match (out[0], command[0]) {
         (0, 1) => {

@@ -1,5 +1,5 @@
-/* Every constant of the header and every text of a refusal, stated once more; the words of a table, the room for answers, the pass in a place, and
- * what becomes of wide numbers. No archive is linked.
+/* Every constant of the header and every text of a refusal, stated once more; the words of a table, the room for answers, the pass in a place, what
+ * becomes of wide numbers, and the bytes of events. No archive is linked.
  *
  * constants NAME..: the names of all constants that the header has, without NIMBLESHALE_, each of which must be stated here */
 #include <nimbleshale.h>
@@ -38,6 +38,9 @@ static const struct {
     STATED(ENTRY_PAGES, 7),
     STATED(LONGEST_COMMAND, 13),
     STATED(LONGEST_ANSWER, 18),
+    STATED(BURST_EVENTS, 256),
+    STATED(EVENT_BYTES, 9),
+    STATED(RESULT_WORDS, 2),
     STATED(ACCEPTED, 0),
     STATED(REFUSED_KEY, 1),
     STATED(REFUSED_BAND, 2),
@@ -47,6 +50,7 @@ static const struct {
     STATED(REFUSED_COMMAND, 6),
     STATED(REFUSED_CUT_SHORT, 7),
     STATED(REFUSED_MEMORY, 8),
+    STATED(REFUSED_BURST, 31),
     STATED(REFUSED_HEAD, 20),
     STATED(REFUSED_EARLIER, 21),
     STATED(REFUSED_NOT_OPEN, 22),
@@ -98,6 +102,7 @@ static const char *const texts[256] = {
     [26] = "spoiled page met",
     [27] = "too few pages left",
     [28] = "root list full",
+    [31] = "burst over 256 events, cut short, or with too few result words",
 };
 
 static void see_texts(void)
@@ -158,6 +163,38 @@ static void see_narrowed(void)
     expect("2^64 - 1 narrowed", nimbleshale_narrowed(18446744073709551615u), 4294967295u);
 }
 
+/* An event has its nine bytes and writes no other. */
+static void see_event(const char *what, const uint8_t *found, const char *wanted)
+{
+    for (size_t at = 0; at < 11; at++)
+        expect(what, found[at], (uint8_t)wanted[at]);
+}
+
+/* A key or a weight of more than two bytes becomes 65,535, which is refused as either. */
+static void see_events(void)
+{
+    static const struct {
+        uint32_t tick, key, weight;
+        const char *bytes;
+    } starts[] = {
+        {0, 0, 0, "\x5a\x01\0\0\0\0\0\0\0\0\x5a"},
+        {0x04030201, 0x0605, 0x0807, "\x5a\x01\x01\x02\x03\x04\x05\x06\x07\x08\x5a"},
+        {4294967295u, 65535, 65535, "\x5a\x01\xff\xff\xff\xff\xff\xff\xff\xff\x5a"},
+        {10, 65536 + 4500, 100, "\x5a\x01\x0a\0\0\0\xff\xff\x64\0\x5a"},
+        {10, 4500, 65536 + 100, "\x5a\x01\x0a\0\0\0\x94\x11\xff\xff\x5a"},
+        {10, 4294967295u, 65536, "\x5a\x01\x0a\0\0\0\xff\xff\xff\xff\x5a"},
+    };
+    uint8_t found[11];
+    for (size_t at = 0; at < sizeof starts / sizeof *starts; at++) {
+        memset(found, 0x5a, sizeof found);
+        nimbleshale_event_start(found + 1, starts[at].tick, starts[at].key, starts[at].weight);
+        see_event("event of a start", found, starts[at].bytes);
+    }
+    memset(found, 0x5a, sizeof found);
+    nimbleshale_event_end(found + 1, 0x04030201, 0x88776655);
+    see_event("event of an end", found, "\x5a\x02\x01\x02\x03\x04\x55\x66\x77\x88\x5a");
+}
+
 int main(int count, char **names)
 {
     see_constants();
@@ -166,6 +203,7 @@ int main(int count, char **names)
     see_sizes();
     see_passes();
     see_narrowed();
+    see_events();
     printf("constants: %lu compared, %lu differed\n", compared, differed);
     return differed != 0;
 }

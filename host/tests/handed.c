@@ -1,4 +1,4 @@
-/* What the header's short calls hand to the library. The seven functions are this program's own, under the library's names: each notes all that it
+/* What the header's short calls hand to the library. The eight functions are this program's own, under the library's names: each notes all that it
  * is handed. A store holds different numbers, addresses and lengths throughout, so whatever is handed in another place is found.
  *
  * No archive is linked. tests/lengths.c makes the short calls on one. */
@@ -8,9 +8,9 @@
 
 static unsigned long compared, differed;
 
-enum call { OPEN, START, END, COMMANDS, QUESTION, LOOKUP_STARTS, LOOKUP_ENDS, CALLS };
+enum call { OPEN, START, END, COMMANDS, BURST, QUESTION, LOOKUP_STARTS, LOOKUP_ENDS, CALLS };
 
-static const char *const names[CALLS] = {"open", "start", "end", "commands", "question", "lookup_starts", "lookup_ends"};
+static const char *const names[CALLS] = {"open", "start", "end", "commands", "burst", "question", "lookup_starts", "lookup_ends"};
 
 /* What a call is handed: of the head's seven numbers where they are lent, or what they are where they are shown. */
 struct handed {
@@ -21,9 +21,9 @@ struct handed {
     const void *slices[4];
     size_t lengths[4];
     uint32_t arguments[4];
-    /* The input and the room for answers of a packet. */
-    const void *bytes[2];
-    size_t byte_lengths[2];
+    /* The input and the room for answers of a packet, or the events and the result words of a burst. */
+    const void *own_slices[2];
+    size_t own_lengths[2];
     const void *results[3];
 };
 
@@ -81,9 +81,15 @@ uint8_t nimbleshale_end(LENT(const, ), uint32_t tick, uint32_t number)
 uint8_t nimbleshale_commands(LENT(, ), const uint8_t *input, size_t input_length, uint8_t ended, uint8_t *out, size_t out_length, size_t *taken,
                              size_t *written)
 {
-    const struct handed handed = {.lent = NUMBERS, NOTED_SLICES, .arguments = {ended}, .bytes = {input, out},
-                                  .byte_lengths = {input_length, out_length}, .results = {taken, written}};
+    const struct handed handed = {.lent = NUMBERS, NOTED_SLICES, .arguments = {ended}, .own_slices = {input, out},
+                                  .own_lengths = {input_length, out_length}, .results = {taken, written}};
     return note(COMMANDS, &handed);
+}
+
+uint8_t nimbleshale_burst(LENT(, ), const uint8_t *events, size_t events_length, uint64_t *results, size_t results_length)
+{
+    const struct handed handed = {.lent = NUMBERS, NOTED_SLICES, .own_slices = {events, results}, .own_lengths = {events_length, results_length}};
+    return note(BURST, &handed);
 }
 
 uint8_t nimbleshale_question(SHOWN, uint32_t k1, uint32_t k2, uint32_t t1, uint32_t t2, uint64_t *count, uint64_t *sum, uint32_t *pages)
@@ -109,7 +115,8 @@ static uint64_t memory[4];
 static struct nimbleshale_store store;
 static struct nimbleshale_totals totals;
 static uint32_t number;
-static uint8_t input[1], out[1];
+static uint8_t input[1], out[1], events[1];
+static uint64_t results[1];
 static size_t taken, written;
 
 static void fill_store(void)
@@ -138,6 +145,7 @@ static uint8_t make(enum call call)
     case START: return nimbleshale_store_start(&store, 31, 32, 33, &number);
     case END: return nimbleshale_store_end(&store, 31, 32);
     case COMMANDS: return nimbleshale_store_commands(&store, input, 41, 31, out, 42, &taken, &written);
+    case BURST: return nimbleshale_store_burst(&store, events, 41, results, 42);
     case QUESTION: return nimbleshale_store_question(&store, 31, 32, 33, 34, &totals);
     case LOOKUP_STARTS: return nimbleshale_store_lookup_starts(&store, 31, 32, &totals);
     case LOOKUP_ENDS: return nimbleshale_store_lookup_ends(&store, 31, 32, &totals);
@@ -157,26 +165,32 @@ static void expect(enum call call, const char *what, size_t place, int same)
 /* A call's arguments and results; a place that it does not have is 0. */
 static void expect_own(enum call call)
 {
-    static const uint32_t arguments[CALLS] = {0, 3, 2, 1, 4, 2, 2};
-    const void *results[3] = {NULL, NULL, NULL}, *bytes[2] = {input, out};
+    static const uint32_t arguments[CALLS] = {0, 3, 2, 1, 0, 4, 2, 2};
+    const void *single[3] = {NULL, NULL, NULL}, *slices[2] = {NULL, NULL};
     if (call == START)
-        results[0] = &number;
+        single[0] = &number;
     if (call == COMMANDS) {
-        results[0] = &taken;
-        results[1] = &written;
+        single[0] = &taken;
+        single[1] = &written;
+        slices[0] = input;
+        slices[1] = out;
+    }
+    if (call == BURST) {
+        slices[0] = events;
+        slices[1] = results;
     }
     if (call >= QUESTION) {
-        results[0] = &totals.count;
-        results[1] = &totals.sum;
-        results[2] = &totals.pages;
+        single[0] = &totals.count;
+        single[1] = &totals.sum;
+        single[2] = &totals.pages;
     }
     for (uint32_t at = 0; at < 4; at++)
         expect(call, "argument", at, found.arguments[at] == (at < arguments[call] ? 31 + at : 0));
     for (size_t at = 0; at < 3; at++)
-        expect(call, "result", at, found.results[at] == results[at]);
+        expect(call, "result", at, found.results[at] == single[at]);
     for (size_t at = 0; at < 2; at++) {
-        expect(call, "slice of bytes", at, found.bytes[at] == (call == COMMANDS ? bytes[at] : NULL));
-        expect(call, "length of bytes", at, found.byte_lengths[at] == (call == COMMANDS ? 41 + at : 0));
+        expect(call, "slice of its own", at, found.own_slices[at] == slices[at]);
+        expect(call, "length of its own", at, found.own_lengths[at] == (slices[at] != NULL ? 41 + at : 0));
     }
 }
 

@@ -4,103 +4,81 @@
 //! Beside the book: 27 and 28 come exactly if the pages or the root entry lack, which a copy of the store with more room shows; a refused
 //! call changes nothing; pages opened are the pages on the paths; and the pages and the height of each tree keep to their bounds.
 //!
+//! Among the calls are bursts, some of them to be refused. The book gets their events one by one, and so does a second store, by single calls: what
+//! the events get, and what the burst leaves, must be the same.
+//!
 //! histories [ROUNDS]
 
 mod book;
+mod bursts;
+mod commands;
 mod library;
 mod shapes;
+mod trees;
 
 use book::Book;
-use library::{by_library, Answer, Call, Random, Store, PAGE_WORDS};
+use bursts::{call_of, event_of, of_unknown_kind, unset_results, EVENT_BYTES, MOST_EVENTS};
+use library::{burst_by_library, by_library, Answer, Call, Random, Store, PAGE_WORDS};
 use shapes::{Keys, Pace, Shape};
-use std::collections::{BTreeMap, BTreeSet};
+use std::collections::BTreeMap;
+use trees::{lacks_room, pages_opened, Tree};
 
-/// One tree of a store, as its words say.
-struct Tree<'a> {
-    table: &'a [u64],
-    list: &'a [u64],
-    pages: u32,
-    roots: u32,
+/// Of so many calls one is a burst. Of so many bursts one is to be refused, and of so many events one has a kind that there is not.
+const CALLS_A_BURST: u32 = 40;
+const BURSTS_A_REFUSED_ONE: u32 = 8;
+const EVENTS_AN_UNKNOWN_ONE: u32 = 40;
+
+/// What came about in bursts.
+#[derive(Default)]
+struct Reached {
+    bursts: u64,
+    empty: u64,
+    full: u64,
+    events: u64,
+    refused: u64,
+    unknown: u64,
+    /// Bursts in which an event got 27, or 28, and a later one was accepted
+    after_27: u64,
+    after_28: u64,
+    /// Bursts refused for each ground of 31: too long, cut inside an event, too few result words
+    too_long: u64,
+    cut: u64,
+    short: u64,
 }
 
-impl Tree<'_> {
-    fn starts(store: &Store) -> Tree<'_> {
-        Tree { table: &store.start_table, list: &store.start_roots, pages: store.head.start_pages_used, roots: store.head.start_roots_used }
+impl Reached {
+    /// An accepted burst of which these are the results, a refusal and a number each.
+    fn count(&mut self, results: &[[u64; 2]]) {
+        let accepted_after = |refusal: u64| {
+            let first = results.iter().position(|result| result[0] == refusal);
+            u64::from(first.is_some_and(|first| results[first..].iter().any(|result| result[0] == 0)))
+        };
+        self.bursts += 1;
+        self.empty += u64::from(results.is_empty());
+        self.full += u64::from(results.len() == MOST_EVENTS);
+        self.events += results.len() as u64;
+        self.refused += results.iter().filter(|result| result[0] != 0).count() as u64;
+        self.unknown += results.iter().filter(|result| result[0] == 6).count() as u64;
+        self.after_27 += accepted_after(27);
+        self.after_28 += accepted_after(28);
     }
 
-    fn ends(store: &Store) -> Tree<'_> {
-        Tree { table: &store.end_table, list: &store.end_roots, pages: store.head.end_pages_used, roots: store.head.end_roots_used }
+    /// Each with its name. One that never came about is a test that was not made.
+    fn named(&self) -> [(u64, &'static str); 11] {
+        [
+            (self.bursts, "bursts"),
+            (self.empty, "empty"),
+            (self.full, "of 256 events"),
+            (self.events, "events"),
+            (self.refused, "of them refused"),
+            (self.unknown, "of unknown kind"),
+            (self.after_27, "bursts with an event accepted after a 27"),
+            (self.after_28, "after a 28"),
+            (self.too_long, "refused with 31 as too long"),
+            (self.cut, "as cut inside an event"),
+            (self.short, "for want of a result word"),
+        ]
     }
-
-    fn left(&self) -> u32 {
-        (self.table.len() / PAGE_WORDS) as u32 - self.pages
-    }
-
-    /// The pages on the path of (t, k): "the root for t, then from each page above level 0 the child of the row that is live at t and has
-    /// low key ≤ k < high key".
-    fn path(&self, t: u32, k: u32) -> u32 {
-        let root = self.list[..self.roots as usize].iter().rfind(|&&entry| entry as u32 <= t).unwrap();
-        let (mut page, mut pages) = ((root >> 32) as usize, 1);
-        loop {
-            let words = &self.table[PAGE_WORDS * page..][..PAGE_WORDS];
-            if words[0] == 0 {
-                return pages;
-            }
-            let row = words[4..].chunks(4).take(words[1] as usize).find(|row| {
-                let (low, high, birth, end) = (row[0] as u16 as u32, (row[0] >> 16) as u16 as u32, row[1] as u32, (row[1] >> 32) as u32);
-                birth <= t && t < end && low <= k && k < high
-            });
-            page = (row.unwrap()[0] >> 32) as usize;
-            pages += 1;
-        }
-    }
-
-    /// "A tree is as many pages high as the level of its last root plus 1."
-    fn height(&self) -> u32 {
-        let page = (self.list[self.roots as usize - 1] >> 32) as usize;
-        self.table[PAGE_WORDS * page] as u32 + 1
-    }
-
-    /// A tree h > 1 pages high took at least 2 × 20^(h-1) - 1 different keys above zero; one that took n points uses at most 4 + 4n/9 pages.
-    fn keeps_bounds(&self, keys: &[u32]) -> bool {
-        let different: BTreeSet<u32> = keys.iter().copied().filter(|&key| key > 0).collect();
-        let height = self.height();
-        (height == 1 || different.len() as u32 + 1 >= 2 * 20u32.pow(height - 1)) && self.pages as usize <= 4 + 4 * keys.len() / 9
-    }
-}
-
-fn pages_opened(store: &Store, call: Call) -> u32 {
-    let (starts, ends) = (Tree::starts(store), Tree::ends(store));
-    match call {
-        Call::Question { k1, k2, t1, t2 } => {
-            let high = starts.path(t2 - 1, k2 - 1) + ends.path(t1, k2 - 1);
-            high + if k1 == 0 { 0 } else { starts.path(t2 - 1, k1 - 1) + ends.path(t1, k1 - 1) }
-        }
-        Call::LookupStarts { t, k } => starts.path(t, k),
-        Call::LookupEnds { t, k } => ends.path(t, k),
-        _ => Answer::unset(0).totals.pages,
-    }
-}
-
-/// Whether 27 or 28 was the right refusal: with more room the call is accepted, and shows how many pages and root entries it makes.
-fn lacks_room(store: &Store, call: Call, refusal: u8) -> bool {
-    let mut roomy = store.clone();
-    for table in [&mut roomy.start_table, &mut roomy.end_table] {
-        table.truncate(table.len() / PAGE_WORDS * PAGE_WORDS);
-        table.resize(table.len() + 7 * PAGE_WORDS, 0);
-    }
-    roomy.start_roots.push(0);
-    roomy.end_roots.push(0);
-    if by_library(&mut roomy, call).refusal != 0 {
-        return false;
-    }
-    let (before, after) = match call {
-        Call::Start { .. } => (Tree::starts(store), Tree::starts(&roomy)),
-        _ => (Tree::ends(store), Tree::ends(&roomy)),
-    };
-    let lacks_pages = after.pages - before.pages > before.left();
-    let lacks_root = after.roots > before.roots && before.roots as usize == before.list.len();
-    refusal == 27 && lacks_pages || refusal == 28 && !lacks_pages && lacks_root
 }
 
 #[derive(Default)]
@@ -108,63 +86,207 @@ struct Counts {
     compared: u64,
     differed: u64,
     refusals: BTreeMap<u8, u64>,
+    reached: Reached,
     highest: u32,
 }
 
 impl Counts {
-    fn judge(&mut self, same: bool, seed: u64, call: Call, found: Answer, wanted: Answer) {
+    fn judge(&mut self, same: bool, seed: u64, what: impl FnOnce() -> String) {
         self.compared += 1;
         if !same {
             self.differed += 1;
             if self.differed <= 10 {
-                println!("differs: history {seed}, {call:?}: {found:?}, not {wanted:?}");
+                println!("differs: history {seed}, {}", what());
             }
         }
     }
 }
 
-/// A history of so many calls on a store that is opened first. Where `whole`, the store is compared word for word after a refusal and after a
-/// call that only reads, and it is opened anew now and then.
-fn history(seed: u64, mut shape: Shape, mut store: Store, calls: u32, whole: bool, counts: &mut Counts) {
-    let mut random = Random(!seed);
-    let mut book = Book::default();
-    for turn in 0..calls {
-        let anew = turn == 0 || whole && random.one_in(800);
-        let call = if anew { Call::Open } else { shape.call(&mut random, book.last, book.passes.len() as u32, &book.open) };
-        let before = whole.then(|| store.clone());
-        let found = by_library(&mut store, call);
-        *counts.refusals.entry(found.refusal).or_default() += 1;
-        let mut wanted = match (book.refusal(call), found.refusal) {
-            (0, refusal @ (27 | 28)) => Answer::unset(refusal),
-            (0, _) => book.turn(call),
-            (refusal, _) => Answer::unset(refusal),
-        };
-        if wanted.refusal == 0 {
-            wanted.totals.pages = pages_opened(&store, call);
-        }
-        let written = wanted.refusal == 0 && matches!(call, Call::Open | Call::Start { .. } | Call::End { .. });
-        let kept = if written { head_is_of(&store, &book) } else { before.is_none_or(|before| before == store) };
-        // A copy of a large store takes long, so that not every one is made.
-        let tried = matches!(found.refusal, 27 | 28) && (whole || random.one_in(8));
-        let exact = !tried || lacks_room(&store, call, found.refusal);
-        counts.judge(found == wanted && kept && exact, seed, call, found, wanted);
-    }
-    let started: Vec<u32> = book.passes.iter().map(|pass| pass.key).collect();
-    let ended: Vec<u32> = book.passes.iter().filter(|pass| pass.end.is_some()).map(|pass| pass.key).collect();
-    let kept = Tree::starts(&store).keeps_bounds(&started) && Tree::ends(&store).keeps_bounds(&ended);
-    counts.judge(kept, seed, Call::Open, Answer::unset(0), Answer::unset(0));
-    counts.highest = counts.highest.max(Tree::starts(&store).height()).max(Tree::ends(&store).height());
+/// A history on a store. Where `whole`, the store is compared word for word after a refusal and after a call that only reads, and after a burst.
+struct History {
+    seed: u64,
+    random: Random,
+    shape: Shape,
+    book: Book,
+    store: Store,
+    /// A store like it, on which all is done by single calls
+    single: Store,
+    whole: bool,
 }
 
-/// The head has the book's last tick, number started and open passes.
-fn head_is_of(store: &Store, book: &Book) -> bool {
-    let head = &store.head;
-    (head.last, head.started, head.count_open) == (book.last, book.passes.len() as u32, book.open.len() as u32)
-        && store.passes.chunks(4).take(book.open.len()).zip(&book.open).all(|(place, &number)| {
-            let pass = &book.passes[number as usize];
-            place == [number, pass.key, pass.weight, pass.start]
-        })
-        && store.passes[4 * book.open.len()..].iter().all(|&number| number == 0)
+impl History {
+    /// So many calls, of which the first is an opening; each event of a burst is one of them.
+    fn run(seed: u64, shape: Shape, store: Store, calls: u32, whole: bool, counts: &mut Counts) {
+        let mut history = History { seed, random: Random(!seed), shape, book: Book::default(), single: store.clone(), store, whole };
+        history.call(Call::Open, counts);
+        let mut made = 1;
+        while made < calls {
+            made += 1;
+            if history.random.one_in(CALLS_A_BURST) {
+                made += history.burst(counts);
+                continue;
+            }
+            let anew = whole && history.random.one_in(800);
+            let call = if anew { Call::Open } else { history.next_call() };
+            history.call(call, counts);
+        }
+        history.end(counts);
+    }
+
+    /// The next call by what the book knows.
+    fn next_call(&mut self) -> Call {
+        let book = &self.book;
+        self.shape.call(&mut self.random, book.last, book.passes.len() as u32, &book.open)
+    }
+
+    fn call(&mut self, call: Call, counts: &mut Counts) {
+        let before = self.whole.then(|| self.store.clone());
+        let found = by_library(&mut self.store, call);
+        *counts.refusals.entry(found.refusal).or_default() += 1;
+        let mut wanted = self.by_book(call, found.refusal);
+        if wanted.refusal == 0 {
+            wanted.totals.pages = pages_opened(&self.store, call);
+        }
+        let writes = matches!(call, Call::Open | Call::Start { .. } | Call::End { .. });
+        let kept = if writes && wanted.refusal == 0 {
+            by_library(&mut self.single, call);
+            self.head_is_of_book()
+        } else {
+            before.is_none_or(|before| before == self.store)
+        };
+        let exact = self.lacks_room_if_said(call, found.refusal);
+        counts.judge(found == wanted && kept && exact, self.seed, || format!("{call:?}: {found:?}, not {wanted:?}"));
+    }
+
+    /// What the book answers. It is told a 27 or a 28.
+    fn by_book(&mut self, call: Call, told: u8) -> Answer {
+        match (self.book.refusal(call), told) {
+            (0, refusal @ (27 | 28)) => Answer::unset(refusal),
+            (0, _) => self.book.turn(call),
+            (refusal, _) => Answer::unset(refusal),
+        }
+    }
+
+    /// 27 and 28 are right. A copy of a large store takes long, so that not every one is made.
+    fn lacks_room_if_said(&mut self, call: Call, refusal: u8) -> bool {
+        let tried = matches!(refusal, 27 | 28) && (self.whole || self.random.one_in(8));
+        !tried || lacks_room(&self.single, call, refusal)
+    }
+
+    /// A burst that is refused or not. Returns how many events were entered.
+    fn burst(&mut self, counts: &mut Counts) -> u32 {
+        if self.random.one_in(BURSTS_A_REFUSED_ONE) {
+            self.refused_burst(counts);
+            return 0;
+        }
+        let most = *self.random.pick(&[0, 1, 2, 5, 5, 20, 20, 60, MOST_EVENTS as u32]);
+        let size = if self.random.one_in(3) { most } else { self.random.between(0, most) };
+        self.entered_burst(size, counts);
+        size
+    }
+
+    /// An event, drawn by what the second store knows: it is told the events of a burst before the book is.
+    fn draw_event(&mut self) -> Vec<u8> {
+        let head = &self.single.head;
+        let open: Vec<u32> = self.single.passes.chunks(4).take(head.count_open as usize).map(|pass| pass[0]).collect();
+        let event = loop {
+            let call = self.shape.call(&mut self.random, head.last, head.started, &open);
+            if let Some(event) = event_of(call) {
+                break event;
+            }
+        };
+        if self.random.one_in(EVENTS_AN_UNKNOWN_ONE) { of_unknown_kind(&mut self.random, event) } else { event }
+    }
+
+    /// An event by a single call on the second store: the two result words that it must get.
+    fn enter_alone(&mut self, event: &[u8], counts: &mut Counts) -> [u64; 2] {
+        let Some(call) = call_of(event) else { return [6, 0] };
+        let answer = by_library(&mut self.single, call);
+        let exact = self.lacks_room_if_said(call, answer.refusal);
+        counts.judge(exact, self.seed, || format!("{call:?} in a burst: {} with room", answer.refusal));
+        let starts = answer.refusal == 0 && matches!(call, Call::Start { .. });
+        [answer.refusal as u64, if starts { answer.number as u64 } else { 0 }]
+    }
+
+    /// What an event gets by the book, which is told whether the burst said 27 or 28 to it.
+    fn result_by_book(&mut self, event: &[u8], told: u64) -> [u64; 2] {
+        let Some(call) = call_of(event) else { return [6, 0] };
+        let answer = self.by_book(call, told.min(255) as u8);
+        let starts = answer.refusal == 0 && matches!(call, Call::Start { .. });
+        [answer.refusal as u64, if starts { answer.number as u64 } else { 0 }]
+    }
+
+    fn entered_burst(&mut self, size: u32, counts: &mut Counts) {
+        let (mut events, mut alone) = (Vec::new(), Vec::new());
+        for _ in 0..size {
+            let event = self.draw_event();
+            alone.push(self.enter_alone(&event, counts));
+            events.extend(event);
+        }
+        let mut results = unset_results(2 * size as usize + self.random.below(4) as usize);
+        let refusal = burst_by_library(&mut self.store, &events, &mut results);
+        let (found, behind) = results.split_at(2 * size as usize);
+        for (at, (event, result)) in events.chunks(EVENT_BYTES).zip(found.chunks(2)).enumerate() {
+            let by_book = self.result_by_book(event, result[0]);
+            let same = result == by_book && result == alone[at];
+            counts.judge(same, self.seed, || format!("event {at} of {size}, {event:?}: {result:?}, not {by_book:?}, alone {:?}", alone[at]));
+        }
+        let unset = unset_results(results.len());
+        let kept = refusal == 0 && behind == &unset[2 * size as usize..] && self.is_as_single() && self.head_is_of_book();
+        counts.judge(kept, self.seed, || format!("a burst of {size}: refusal {refusal}, and what it leaves"));
+        counts.reached.count(&alone);
+    }
+
+    /// A burst that meets one ground of 31. Its events would be accepted as often as any.
+    fn refused_burst(&mut self, counts: &mut Counts) {
+        let ground = self.random.below(3);
+        let size = if ground == 0 { MOST_EVENTS as u32 + 1 + self.random.below(60) } else { self.random.between(1, MOST_EVENTS as u32) };
+        let mut events: Vec<u8> = (0..size).flat_map(|_| self.draw_event()).collect();
+        let mut words = 2 * size + self.random.below(3);
+        match ground {
+            0 => counts.reached.too_long += 1,
+            1 => {
+                events.truncate(events.len() - self.random.between(1, EVENT_BYTES as u32 - 1) as usize);
+                counts.reached.cut += 1;
+            }
+            _ => {
+                words = if self.random.one_in(2) { 2 * size - 1 } else { self.random.below(2 * size) };
+                counts.reached.short += 1;
+            }
+        }
+        let mut results = unset_results(words as usize);
+        let refusal = burst_by_library(&mut self.store, &events, &mut results);
+        *counts.refusals.entry(refusal).or_default() += 1;
+        let kept = results == unset_results(words as usize) && self.is_as_single();
+        counts.judge(refusal == 31 && kept, self.seed, || format!("a burst of {} bytes and {words} words: {refusal}, not 31", events.len()));
+    }
+
+    /// Whether the store is as single calls leave it. Of a large one only the head is looked at, until the history ends.
+    fn is_as_single(&self) -> bool {
+        let (store, single) = (&self.store, &self.single);
+        if self.whole { store == single } else { store.head == single.head && store.passes == single.passes }
+    }
+
+    /// The head has the book's last tick, number started and open passes.
+    fn head_is_of_book(&self) -> bool {
+        let (head, passes, book) = (&self.store.head, &self.store.passes, &self.book);
+        (head.last, head.started, head.count_open) == (book.last, book.passes.len() as u32, book.open.len() as u32)
+            && passes.chunks(4).take(book.open.len()).zip(&book.open).all(|(place, &number)| {
+                let pass = &book.passes[number as usize];
+                place == [number, pass.key, pass.weight, pass.start]
+            })
+            && passes[4 * book.open.len()..].iter().all(|&number| number == 0)
+    }
+
+    /// The bounds of both trees, and the whole memory.
+    fn end(&self, counts: &mut Counts) {
+        let started: Vec<u32> = self.book.passes.iter().map(|pass| pass.key).collect();
+        let ended: Vec<u32> = self.book.passes.iter().filter(|pass| pass.end.is_some()).map(|pass| pass.key).collect();
+        let (starts, ends) = (Tree::starts(&self.store), Tree::ends(&self.store));
+        counts.judge(starts.keeps_bounds(&started) && ends.keeps_bounds(&ended), self.seed, || "bounds".to_string());
+        counts.judge(self.store == self.single, self.seed, || "the store that single calls leave".to_string());
+        counts.highest = counts.highest.max(starts.height()).max(ends.height());
+    }
 }
 
 /// A history of any shape over tables of any size up to 400 pages.
@@ -178,13 +300,13 @@ fn any_history(seed: u64, counts: &mut Counts) {
         table.resize(table.len() + more, 0);
     }
     let calls = 100 + 20 * pages.min(100) + random.below(400);
-    history(seed, Shape::any(&mut random), store, calls, pages <= 12, counts);
+    History::run(seed, Shape::any(&mut random), store, calls, pages <= 12, counts);
 }
 
 /// A long history over tables that never run full, so that trees grow three pages high and more.
 fn long_history(seed: u64, keys: Keys, pace: Pace, calls: u32, counts: &mut Counts) {
-    let pages = 8 + 4 * calls as usize / 9;
-    history(seed, Shape::new(keys, pace, 50, 49), Store::lent(pages, pages), calls, false, counts);
+    let pages = 8 + 4 * (calls as usize + MOST_EVENTS) / 9;
+    History::run(seed, Shape::new(keys, pace, 50, 49), Store::lent(pages, pages), calls, false, counts);
 }
 
 fn main() {
@@ -200,6 +322,9 @@ fn main() {
         long_history(3_000_000 + round, Keys::Bands, Pace::Slow, 40_000, &mut counts);
         long_history(4_000_000 + round, Keys::Rising, Pace::Jumps, 58_000, &mut counts);
     }
+    let reached = counts.reached.named();
+    let in_bursts: Vec<String> = reached.iter().map(|(times, name)| format!("{times} {name}")).collect();
+    println!("histories: {}", in_bursts.join(", "));
     let seen: Vec<String> = counts.refusals.iter().filter(|seen| *seen.0 != 0).map(|(refusal, times)| format!("{refusal} × {times}")).collect();
     println!(
         "histories: {} histories, trees up to {} pages high, refusals {}: {} compared, {} differed",
@@ -209,5 +334,6 @@ fn main() {
         counts.compared,
         counts.differed
     );
-    std::process::exit(i32::from(counts.differed != 0));
+    let all_reached = reached.iter().all(|&(times, _)| times > 0);
+    std::process::exit(i32::from(counts.differed != 0 || !all_reached));
 }

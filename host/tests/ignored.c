@@ -1,4 +1,4 @@
-/* Every call that answers with a refusal, made for nothing: the compiler must warn of each, 14 times in all. This program is never run. */
+/* Every call that answers with a refusal, made for nothing: the compiler must warn of each, 16 times in all. This program is never run. */
 #include <nimbleshale.h>
 
 static uint32_t number, passes[NIMBLESHALE_PASS_NUMBERS];
@@ -20,6 +20,7 @@ int main(void)
     nimbleshale_lookup_starts(SHOWN, 0, 0, &word, &word, &number);
     nimbleshale_lookup_ends(SHOWN, 0, 0, &word, &word, &number);
     nimbleshale_commands(LENT, &byte, 1, 0, bytes, 1, &taken, &written);
+    nimbleshale_burst(LENT, &byte, 1, &word, 1);
     nimbleshale_store_open(&store);
     nimbleshale_store_start(&store, 0, 0, 0, &number);
     nimbleshale_store_end(&store, 0, 0);
@@ -27,5 +28,6 @@ int main(void)
     nimbleshale_store_lookup_starts(&store, 0, 0, &totals);
     nimbleshale_store_lookup_ends(&store, 0, 0, &totals);
     nimbleshale_store_commands(&store, &byte, 1, 0, bytes, 1, &taken, &written);
+    nimbleshale_store_burst(&store, &byte, 1, &word, 1);
     return 0;
 }

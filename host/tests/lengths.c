@@ -9,9 +9,9 @@
 
 static unsigned long compared, differed;
 
-enum call { OPEN, START, END, QUESTION, LOOKUP_STARTS, LOOKUP_ENDS, COMMANDS, CALLS };
+enum call { OPEN, START, END, QUESTION, LOOKUP_STARTS, LOOKUP_ENDS, COMMANDS, BURST, CALLS };
 
-static const char *const names[CALLS] = {"open", "start", "end", "question", "lookup_starts", "lookup_ends", "commands"};
+static const char *const names[CALLS] = {"open", "start", "end", "question", "lookup_starts", "lookup_ends", "commands", "burst"};
 
 /* The first command of a packet of two, a question and one that is cut short: what it answers. The packet and the room for answers are of
  * different lengths, as long as they must be and no longer. 254 where not all of both is used. */
@@ -31,6 +31,24 @@ static uint8_t make_commands(struct nimbleshale_store *store)
     return answer;
 }
 
+/* The first event of a burst of two, a start and one of unknown kind: what it gets. One result word more is lent, and is left. */
+static uint8_t make_burst(struct nimbleshale_store *store)
+{
+    const size_t length = 2 * NIMBLESHALE_EVENT_BYTES, words = 2 * NIMBLESHALE_RESULT_WORDS + 1;
+    uint8_t *events = lend(length), answer;
+    uint64_t *results = lend(8 * words);
+    nimbleshale_event_start(events, 10, 450, 100);
+    results[0] = results[4] = 77;
+    answer = nimbleshale_store_burst(store, events, length, results, words);
+    if (answer == 0)
+        answer = (uint8_t)results[0];
+    if (results[1] != (answer == 0 ? 1 : 0) || results[2] != NIMBLESHALE_REFUSED_COMMAND || results[3] != 0 || results[4] != 77)
+        answer = 254;
+    give_back(events, length);
+    give_back(results, 8 * words);
+    return answer;
+}
+
 static uint8_t make(struct nimbleshale_store *store, enum call call)
 {
     struct nimbleshale_totals totals;
@@ -43,6 +61,7 @@ static uint8_t make(struct nimbleshale_store *store, enum call call)
     case LOOKUP_STARTS: return nimbleshale_store_lookup_starts(store, 10, 450, &totals);
     case LOOKUP_ENDS: return nimbleshale_store_lookup_ends(store, 10, 450, &totals);
     case COMMANDS: return make_commands(store);
+    case BURST: return make_burst(store);
     default: return 255;
     }
 }

@@ -1,4 +1,4 @@
-//! The library's seven functions as they are declared in `nimbleshale.h`, and a store with its lent memory on which a call can be made by the
+//! The library's eight functions as they are declared in `nimbleshale.h`, and a store with its lent memory on which a call can be made by the
 //! library or by the port. Each test program uses a part of it.
 
 #![allow(dead_code)]
@@ -57,6 +57,14 @@ extern "C" {
         start_table: *mut u64, start_table_length: usize, start_roots: *mut u64, start_roots_length: usize,
         end_table: *mut u64, end_table_length: usize, end_roots: *mut u64, end_roots_length: usize,
         input: *const u8, input_length: usize, ended: u8, out: *mut u8, out_length: usize, taken: &mut usize, written: &mut usize,
+    ) -> u8;
+    fn nimbleshale_burst(
+        last: &mut u32, started: &mut u32, count_open: &mut u32,
+        start_pages_used: &mut u32, start_roots_used: &mut u32, end_pages_used: &mut u32, end_roots_used: &mut u32,
+        passes: &mut [u32; PASS_NUMBERS],
+        start_table: *mut u64, start_table_length: usize, start_roots: *mut u64, start_roots_length: usize,
+        end_table: *mut u64, end_table_length: usize, end_roots: *mut u64, end_roots_length: usize,
+        events: *const u8, events_length: usize, results: *mut u64, results_length: usize,
     ) -> u8;
 }
 
@@ -177,6 +185,19 @@ pub fn packet_by_library(store: &mut Store, input: &[u8], ended: bool, out: &mut
 pub fn packet_by_port(store: &mut Store, input: &[u8], ended: bool, out: &mut [u8]) -> Fed {
     let Store { head, passes, start_table, start_roots, end_table, end_roots } = store;
     port::commands(head, Lent { passes, start_table, start_roots, end_table, end_roots }, input, ended, out)
+}
+
+/// A burst entered by the library.
+#[inline]
+pub fn burst_by_library(store: &mut Store, events: &[u8], results: &mut [u64]) -> u8 {
+    lent!(nimbleshale_burst, store, events.as_ptr(), events.len(), results.as_mut_ptr(), results.len())
+}
+
+/// A burst entered by the port.
+#[inline]
+pub fn burst_by_port(store: &mut Store, events: &[u8], results: &mut [u64]) -> u8 {
+    let Store { head, passes, start_table, start_roots, end_table, end_roots } = store;
+    port::burst(head, Lent { passes, start_table, start_roots, end_table, end_roots }, events, results)
 }
 
 /// Words of a page.

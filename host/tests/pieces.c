@@ -9,10 +9,13 @@
 #define UNTOUCHED 0x5a
 
 /* Streams of at most so many bytes are cut at every place. */
-#define SHORT 700
+#define SHORT 1000
 
 /* Random ways to cut each stream. */
 #define WAYS 24
+
+/* The streams of host/vectors, and P1: with fewer the test is not the one that it should be. */
+#define STREAMS 41
 
 /* Document 01's trial P1: its whole input and its whole output. */
 static char trial[] = "P1 010a00000094116400" "011400000098083200" "021e00000000000000" "03a00f88131e00000028000000"
@@ -280,5 +283,5 @@ int main(int count, char **names)
     printf("pieces: %lu streams in %lu runs, %lu calls, of which %lu waited for room, %lu for bytes, and %lu were told the end: ",
            (unsigned long)streams, runs, calls, waited_for_room, waited_for_bytes, told_end);
     printf("%lu compared, %lu differed\n", compared, differed);
-    return differed != 0 || streams < 61;
+    return differed != 0 || streams < STREAMS;
 }

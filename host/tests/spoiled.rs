@@ -1,19 +1,24 @@
 //! Spoiled memory: random heads, tables and root lists, each call made by the library and by the port on the same store. The answer and every
 //! number and word must be the same; a refused call, a question and a lookup must leave everything as it was; and every call must end. Packets of
-//! commands, too, are run by both.
+//! commands, too, are run by both; and so are bursts, whose events are also entered one by one.
 //!
 //! spoiled [ROUNDS]
 
+mod bursts;
 mod commands;
 mod library;
 mod made;
 mod shapes;
 
-use library::{by_library, by_port, packet_by_library, packet_by_port, Answer, Call, Random, Store, PAGE_WORDS};
+use bursts::{call_of, event_of, of_unknown_kind, unset_results, EVENT_BYTES, MOST_EVENTS};
+use library::{
+    burst_by_library, burst_by_port, by_library, by_port, packet_by_library, packet_by_port, Answer, Call, Random, Store, PAGE_WORDS,
+};
 use std::collections::BTreeMap;
 
-/// Packets on each store, after its calls.
+/// Packets on each store, and bursts, after its calls.
 const PACKETS: u64 = 4;
+const BURSTS: u64 = 4;
 
 /// A call with keys and ticks that the store's own words name, or close to them.
 fn call_on(random: &mut Random, store: &Store) -> Call {
@@ -64,6 +69,60 @@ fn same_of_packet(random: &mut Random, before: &Store) -> bool {
     found == wanted && by_library == by_port && library == port
 }
 
+/// What came about in bursts: how many were refused, what their events got, and how many accepted one after another that was refused by the state.
+#[derive(Default)]
+struct Reached {
+    refused: u64,
+    results: BTreeMap<u64, u64>,
+    accepted_later: u64,
+}
+
+/// A burst of such starts and ends, some of a kind that there is not. Some bursts are long, and some without their last bytes.
+fn burst_on(random: &mut Random, store: &Store) -> Vec<u8> {
+    let size = if random.one_in(40) { random.between(200, MOST_EVENTS as u32 + 2) } else { random.below(12) };
+    let mut events = Vec::new();
+    while events.len() < EVENT_BYTES * size as usize {
+        let Some(event) = event_of(call_on(random, store)) else { continue };
+        events.extend(if random.one_in(16) { of_unknown_kind(random, event) } else { event });
+    }
+    let cut = random.below(EVENT_BYTES as u32) as usize;
+    events.truncate(if random.one_in(8) { events.len().saturating_sub(cut) } else { events.len() });
+    events
+}
+
+/// The events of an accepted burst one by one, by the port: the result words.
+fn one_by_one(store: &mut Store, events: &[u8]) -> Vec<u64> {
+    let result = |event: &[u8]| {
+        let Some(call) = call_of(event) else { return [6, 0] };
+        let answer = by_port(store, call);
+        let starts = answer.refusal == 0 && matches!(call, Call::Start { .. });
+        [answer.refusal as u64, if starts { answer.number as u64 } else { 0 }]
+    };
+    events.chunks(EVENT_BYTES).flat_map(result).collect()
+}
+
+/// Whether library and port do the same with a burst, with any number of result words, and single calls the same as they.
+fn same_of_burst(random: &mut Random, before: &Store, reached: &mut Reached) -> bool {
+    let events = burst_on(random, before);
+    let count = events.len() / EVENT_BYTES;
+    let words = if random.one_in(8) { random.below(2 * count as u32 + 1) as usize } else { 2 * count + random.below(3) as usize };
+    let refuses = events.len() > EVENT_BYTES * MOST_EVENTS || events.len() % EVENT_BYTES != 0 || words < 2 * count;
+    let (mut found, mut wanted) = (unset_results(words), unset_results(words));
+    let (mut library, mut port, mut alone) = (before.clone(), before.clone(), before.clone());
+    let by_library = burst_by_library(&mut library, &events, &mut found);
+    let by_port = burst_by_port(&mut port, &events, &mut wanted);
+    let mut results = unset_results(words);
+    if !refuses {
+        let entered = one_by_one(&mut alone, &events);
+        results[..2 * count].copy_from_slice(&entered);
+        let first = entered.iter().step_by(2).position(|&refusal| refusal >= 20);
+        reached.accepted_later += u64::from(first.is_some_and(|first| entered[2 * first..].iter().step_by(2).any(|&refusal| refusal == 0)));
+        entered.iter().step_by(2).for_each(|&refusal| *reached.results.entry(refusal).or_default() += 1);
+    }
+    reached.refused += u64::from(refuses);
+    by_library == by_port && by_library == if refuses { 31 } else { 0 } && found == wanted && found == results && library == port && library == alone
+}
+
 /// A word of one of the tables.
 fn any_word(random: &mut Random, store: &Store, of_row: u32) -> u64 {
     let (table, pages) = if random.one_in(2) {
@@ -92,61 +151,99 @@ fn near_tick(random: &mut Random, store: &Store) -> u32 {
     }
 }
 
-fn main() {
-    let rounds: u64 = std::env::args().nth(1).map_or(1, |rounds| rounds.parse().expect("ROUNDS is a number"));
-    let (mut compared, mut differed, mut written, mut split) = (0u64, 0u64, 0u64, 0u64);
-    let mut refusals: BTreeMap<u8, u64> = BTreeMap::new();
-    let stores = 12_000 * rounds;
-    for seed in 0..stores {
-        let mut random = Random(seed);
-        let mut before = if random.one_in(3) { made::grown(&mut random) } else { made::random_trees(&mut random) };
-        for _ in 0..random.below(3) {
-            made::spoil(&mut random, &mut before);
-        }
-        let (mut library, mut port) = (before.clone(), before.clone());
-        for _ in 0..40 {
-            // A fault in the midst of calls, too.
-            if random.one_in(24) {
-                made::spoil(&mut random, &mut before);
-                library.clone_from(&before);
-                port.clone_from(&before);
+#[derive(Default)]
+struct Counts {
+    compared: u64,
+    differed: u64,
+    /// Accepted calls that write, and how many of them made pages
+    written: u64,
+    split: u64,
+    refusals: BTreeMap<u8, u64>,
+    in_bursts: Reached,
+}
+
+impl Counts {
+    fn judge(&mut self, same: bool, what: impl FnOnce() -> String) {
+        self.compared += 1;
+        if !same {
+            self.differed += 1;
+            if self.differed <= 10 {
+                println!("differs: {}", what());
             }
-            let call = call_on(&mut random, &before);
-            let found = by_library(&mut library, call);
-            let wanted = by_port(&mut port, call);
-            *refusals.entry(wanted.refusal).or_default() += 1;
-            let writes = wanted.refusal == 0 && matches!(call, Call::Open | Call::Start { .. } | Call::End { .. });
-            let kept = writes && library == port || !writes && library == before && port == before;
-            let set = wanted.refusal == 0 || found == Answer::unset(found.refusal);
-            compared += 1;
-            if found != wanted || !kept || !set {
-                differed += 1;
-                if differed <= 10 {
-                    println!("differs: store {seed}, {call:?}: {found:?}, not {wanted:?}; memory as it should be: {kept}");
-                }
-                library.clone_from(&port);
-            }
-            if writes {
-                written += 1;
-                let (after, earlier) = (&port.head, &before.head);
-                split += u64::from(after.start_pages_used > earlier.start_pages_used || after.end_pages_used > earlier.end_pages_used);
-                before.clone_from(&port);
-            } else if !kept {
-                library.clone_from(&before);
-                port.clone_from(&before);
-            }
-        }
-        let packets = (0..PACKETS).filter(|_| !same_of_packet(&mut random, &before)).count() as u64;
-        compared += PACKETS;
-        differed += packets;
-        if packets > 0 && differed <= 10 {
-            println!("differs: store {seed}, {packets} packets");
         }
     }
-    let seen: Vec<String> = refusals.iter().filter(|seen| *seen.0 != 0).map(|(refusal, times)| format!("{refusal} × {times}")).collect();
+}
+
+/// A call by the library and by the port, each on a copy of the store, which becomes what the port leaves.
+fn try_call(seed: u64, call: Call, before: &mut Store, [library, port]: [&mut Store; 2], counts: &mut Counts) {
+    let found = by_library(library, call);
+    let wanted = by_port(port, call);
+    *counts.refusals.entry(wanted.refusal).or_default() += 1;
+    let writes = wanted.refusal == 0 && matches!(call, Call::Open | Call::Start { .. } | Call::End { .. });
+    let kept = if writes { library == port } else { library == before && port == before };
+    let set = wanted.refusal == 0 || found == Answer::unset(found.refusal);
+    let same = found == wanted && kept && set;
+    counts.judge(same, || format!("store {seed}, {call:?}: {found:?}, not {wanted:?}; memory as it should be: {kept}"));
+    if writes {
+        counts.written += 1;
+        let (after, earlier) = (&port.head, &before.head);
+        counts.split += u64::from(after.start_pages_used > earlier.start_pages_used || after.end_pages_used > earlier.end_pages_used);
+        before.clone_from(port);
+    } else if !kept {
+        port.clone_from(before);
+    }
+    if !same {
+        library.clone_from(port);
+    }
+}
+
+/// A store with its calls, its packets and its bursts.
+fn try_store(seed: u64, counts: &mut Counts) {
+    let mut random = Random(seed);
+    let mut before = if random.one_in(3) { made::grown(&mut random) } else { made::random_trees(&mut random) };
+    for _ in 0..random.below(3) {
+        made::spoil(&mut random, &mut before);
+    }
+    let (mut library, mut port) = (before.clone(), before.clone());
+    for _ in 0..40 {
+        // A fault in the midst of calls, too.
+        if random.one_in(24) {
+            made::spoil(&mut random, &mut before);
+            library.clone_from(&before);
+            port.clone_from(&before);
+        }
+        let call = call_on(&mut random, &before);
+        try_call(seed, call, &mut before, [&mut library, &mut port], counts);
+    }
+    for _ in 0..PACKETS {
+        let same = same_of_packet(&mut random, &before);
+        counts.judge(same, || format!("store {seed}, a packet"));
+    }
+    for _ in 0..BURSTS {
+        let same = same_of_burst(&mut random, &before, &mut counts.in_bursts);
+        counts.judge(same, || format!("store {seed}, a burst"));
+    }
+}
+
+fn listed<T: std::fmt::Display>(times: impl Iterator<Item = (T, u64)>) -> String {
+    times.map(|(refusal, times)| format!("{refusal} × {times}")).collect::<Vec<_>>().join(", ")
+}
+
+fn main() {
+    let rounds: u64 = std::env::args().nth(1).map_or(1, |rounds| rounds.parse().expect("ROUNDS is a number"));
+    let mut counts = Counts::default();
+    let stores = 12_000 * rounds;
+    for seed in 0..stores {
+        try_store(seed, &mut counts);
+    }
+    let Counts { compared, differed, written, split, refusals, in_bursts } = counts;
+    println!(
+        "spoiled: {} bursts, {} refused with 31, {} with an event accepted after one that the state refused; events by what they got: {}",
+        BURSTS * stores, in_bursts.refused, in_bursts.accepted_later, listed(in_bursts.results.into_iter())
+    );
     println!(
         "spoiled: {stores} stores, {written} accepted writes, {split} of them with splits, refusals {}, {} packets: {compared} compared, {differed} differed",
-        seen.join(", "), PACKETS * stores
+        listed(refusals.into_iter().filter(|seen| seen.0 != 0)), PACKETS * stores
     );
-    std::process::exit(i32::from(differed != 0));
+    std::process::exit(i32::from(differed != 0 || in_bursts.accepted_later == 0));
 }

@@ -17,7 +17,7 @@ use through::{answers_in_turn, written};
 const LONG: usize = 70_000;
 
 /// Streams of at most so many bytes are written slowly, with a pause after each piece of at most so many bytes.
-const SHORT: usize = 700;
+const SHORT: usize = 1_000;
 const LARGEST_PIECE: u32 = 20;
 const PAUSE: Duration = Duration::from_micros(50);
 

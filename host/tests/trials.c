@@ -9,6 +9,8 @@
 #define OPEN_END 4294967295u
 #define SHOWN 50
 #define MOST_WORDS 16
+#define MOST_QUEUED 300
+#define WORDS_BEHIND 3
 
 static unsigned long trials, calls, compared, differed;
 
@@ -149,6 +151,125 @@ static void try_lookups(const uint32_t *n)
         uint32_t numbers[5] = {n[1], n[2] + at * n[3], n[4] + at * n[7], n[5] + at * n[7], n[6]};
         try_accepted(LOOKUP_STARTS, numbers);
     }
+}
+
+/* The queue: events that wait for a burst, and the refusal and the number that each must get. */
+static uint8_t queue[NIMBLESHALE_EVENT_BYTES * MOST_QUEUED];
+static uint32_t wanted_of[MOST_QUEUED][2];
+static uint32_t queued;
+
+/* A place for one more event, which must get this. */
+static uint8_t *queue_event(uint32_t refusal, uint32_t number)
+{
+    if (queued == MOST_QUEUED)
+        fault("too many events in the queue");
+    wanted_of[queued][0] = refusal;
+    wanted_of[queued][1] = number;
+    return queue + NIMBLESHALE_EVENT_BYTES * queued++;
+}
+
+static void queue_start(const uint32_t *n)
+{
+    nimbleshale_event_start(queue_event(0, n[3]), n[0], n[1], n[2]);
+}
+
+static void queue_start_refused(const uint32_t *n)
+{
+    nimbleshale_event_start(queue_event(n[3], 0), n[0], n[1], n[2]);
+}
+
+static void queue_end(const uint32_t *n)
+{
+    nimbleshale_event_end(queue_event(0, 0), n[0], n[1]);
+}
+
+static void queue_end_refused(const uint32_t *n)
+{
+    nimbleshale_event_end(queue_event(n[2], 0), n[0], n[1]);
+}
+
+/* queue kind B T K W refused R: a start under another kind */
+static void queue_kind(const uint32_t *n)
+{
+    uint8_t *event = queue_event(n[4], 0);
+    if (n[0] > 255)
+        fault("no first byte");
+    nimbleshale_event_start(event, n[1], n[2], n[3]);
+    event[0] = (uint8_t)n[0];
+}
+
+/* queue starts N tick T by D key K by S = P: of weight 100, numbered on from P */
+static void queue_starts(const uint32_t *n)
+{
+    for (uint32_t at = 0; at < n[0]; at++)
+        nimbleshale_event_start(queue_event(0, n[5] + at), n[1] + at * n[2], n[3] + at * n[4], 100);
+}
+
+/* queue ends N tick T by D number P: of the passes numbered on from P */
+static void queue_ends(const uint32_t *n)
+{
+    for (uint32_t at = 0; at < n[0]; at++)
+        nimbleshale_event_end(queue_event(0, 0), n[1] + at * n[2], n[3] + at);
+}
+
+/* The result words of a burst, which hold 900 + place before it. */
+static uint64_t list[NIMBLESHALE_RESULT_WORDS * MOST_QUEUED + WORDS_BEHIND];
+
+/* Hands over so many bytes of the queue and so many result words. */
+static uint8_t make_burst(uint32_t bytes, uint32_t words)
+{
+    uint8_t *events, refusal;
+    uint64_t *results;
+    if (bytes > NIMBLESHALE_EVENT_BYTES * queued || words > sizeof list / sizeof *list)
+        fault("no such burst");
+    events = lend(bytes);
+    results = lend(8 * (size_t)words);
+    for (uint32_t at = 0; at < words; at++)
+        results[at] = 900 + at;
+    memcpy(events, queue, bytes);
+    refusal = nimbleshale_store_burst(&store, events, bytes, results, words);
+    calls++;
+    expect("events that are altered", memcmp(events, queue, bytes) != 0, 0);
+    memcpy(list, results, 8 * (size_t)words);
+    give_back(events, bytes);
+    give_back(results, 8 * (size_t)words);
+    return refusal;
+}
+
+/* burst bytes B words W: so many bytes of the front of the queue, which are then gone from it, and so many result words. Each event gets what was
+ * said when it was queued. */
+static void try_burst_of(const uint32_t *n)
+{
+    const uint32_t events = n[0] / NIMBLESHALE_EVENT_BYTES;
+    expect("refusal", make_burst(n[0], n[1]), 0);
+    for (turn = 1; turn <= events; turn++) {
+        expect("refusal of the event", list[2 * turn - 2], wanted_of[turn - 1][0]);
+        expect("number of the event", list[2 * turn - 1], wanted_of[turn - 1][1]);
+    }
+    turn = 0;
+    for (uint32_t at = NIMBLESHALE_RESULT_WORDS * events; at < n[1]; at++)
+        expect("a word behind the results", list[at], 900 + at);
+    queued -= events;
+    memmove(queue, queue + NIMBLESHALE_EVENT_BYTES * events, NIMBLESHALE_EVENT_BYTES * queued);
+    memmove(wanted_of, wanted_of + events, sizeof *wanted_of * queued);
+}
+
+/* burst: the whole queue, with some words more than it needs */
+static void try_burst(const uint32_t *n)
+{
+    const uint32_t whole[2] = {NIMBLESHALE_EVENT_BYTES * queued, NIMBLESHALE_RESULT_WORDS * queued + WORDS_BEHIND};
+    (void)n;
+    try_burst_of(whole);
+}
+
+/* burst bytes B words W refused R: the queue stays, and nothing is written */
+static void try_burst_refused(const uint32_t *n)
+{
+    const uint64_t before = digest_store(&store);
+    expect("refusal", make_burst(n[0], n[1]), n[2]);
+    for (uint32_t at = 0; at < n[1]; at++)
+        expect("a result word", list[at], 900 + at);
+    expect("digest of head and memory", digest_store(&store), before);
 }
 
 /* A word of a page, or of a row of it, in the table of starts. */
@@ -337,6 +458,16 @@ static const struct {
     {"starts # tick # by # key # by #", try_starts},
     {"scattered # tick # by # point #", try_scattered},
     {"lookups starts # tick # key # by # = # # # by #", try_lookups},
+    {"queue start # # # = #", queue_start},
+    {"queue start # # # refused #", queue_start_refused},
+    {"queue end # #", queue_end},
+    {"queue end # # refused #", queue_end_refused},
+    {"queue kind # # # # refused #", queue_kind},
+    {"queue starts # tick # by # key # by # = #", queue_starts},
+    {"queue ends # tick # by # number #", queue_ends},
+    {"burst", try_burst},
+    {"burst bytes # words #", try_burst_of},
+    {"burst bytes # words # refused #", try_burst_refused},
     {"used # #", see_used},
     {"level # = #", see_level},
     {"rows # = #", see_rows},
@@ -403,6 +534,8 @@ static void end_trial(void)
 {
     if (is_begun && compared == compared_before)
         fault("the trial before this line compares nothing");
+    if (queued > 0)
+        fault("the trial before this line leaves events in the queue");
     if (is_lent)
         give_back_store(&store);
     is_begun = is_lent = 0;

@@ -103,12 +103,51 @@ static void try_call(struct nimbleshale_store *store, const char *line)
           line);
 }
 
+/* A burst and its result words, which hold 900 + place before the call. All of them are compared with those of the line. */
+static int same_burst(struct nimbleshale_store *store, const char *hex, size_t words, const uint64_t *expected)
+{
+    const size_t length = strspn(hex, "0123456789abcdef") / 2;
+    uint8_t *bytes = lend(length);
+    uint64_t *results = lend(8 * words);
+    int same;
+    size_t at;
+    for (at = 0; at < words; at++)
+        results[at] = 900 + at;
+    bytes_of(hex, bytes);
+    same = nimbleshale_store_burst(store, bytes, length, results, words) == expected[0];
+    for (at = 0; at < words; at++)
+        same = same && results[at] == expected[1 + at];
+    give_back(bytes, length);
+    give_back(results, 8 * words);
+    return same;
+}
+
+/* A burst's line: its bytes, how many words are lent, the refusal and all the words, and the digest. */
+static void try_burst(struct nimbleshale_store *store, const char *line)
+{
+    const char *answer = strstr(line, " = "), *after = strstr(line, " # ");
+    char *hex = malloc(strlen(line) + 1);
+    unsigned long words;
+    uint64_t *expected, digest;
+    if (hex == NULL || answer == NULL || after == NULL || sscanf(line, "b %s %lu", hex, &words) != 2)
+        exit(2);
+    expected = malloc(8 * (words + 1));
+    if (expected == NULL)
+        exit(2);
+    numbers_of(after + 3, 10, &digest, 1);
+    judge(numbers_of(answer + 3, 10, expected, words + 1) == words + 1 && same_burst(store, hex, words, expected) &&
+              digest_store(store) == digest,
+          line);
+    free(hex);
+    free(expected);
+}
+
 static void try_traces(FILE *file)
 {
     struct nimbleshale_store store;
     uint64_t head[263];
     char *line = NULL;
-    size_t room = 0, stores = 0, slices = 0;
+    size_t room = 0, stores = 0, slices = 0, bursts = 0;
     while (getline(&line, &room, file) > 0) {
         switch (line[0]) {
         case 'S':
@@ -130,12 +169,18 @@ static void try_traces(FILE *file)
         case 'o': case 's': case 'e': case 'l': case 'q':
             try_call(&store, line);
             break;
+        case 'b':
+            try_burst(&store, line);
+            bursts++;
+            break;
+        default:
+            judge(0, line);
         }
     }
     if (stores > 0)
         give_back_store(&store);
     free(line);
-    printf("vectors: %lu stores", (unsigned long)stores);
+    printf("vectors: %lu stores, %lu bursts", (unsigned long)stores, (unsigned long)bursts);
 }
 
 static void try_streams(FILE *file)

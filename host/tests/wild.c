@@ -1,4 +1,4 @@
-/* Libraries under the seven names, and command programs, that the tests must not let pass and must survive. None lives for more than five
+/* Libraries under the eight names, and command programs, that the tests must not let pass and must survive. None lives for more than five
  * minutes, in case that the tests fail to end it. What one does is said when it is compiled:
  *
  *   -DANSWER=N    every call answers N
@@ -91,6 +91,11 @@ uint8_t nimbleshale_lookup_ends(void)
 }
 
 uint8_t nimbleshale_commands(void)
+{
+    return called();
+}
+
+uint8_t nimbleshale_burst(void)
 {
     return called();
 }
