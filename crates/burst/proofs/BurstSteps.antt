@@ -18,10 +18,13 @@ use Rattle.c_numbers.specs.Said.{numberSaid}
 use Rattle.command.specs.Stream.{eventKind, answered}
 use Rattle.updates.specs.declared.types.Reply.{Reply}
 use Rattle.updates.specs.Replies.{RepliedAs}
+use Rattle.updates.proofs.RepliesAs.{replied}
+use Rattle.interpret.specs.declared.events.Event.{Event}
+use Rattle.interpret.specs.Events.{answerOf}
 use Rattle.demand.specs.Bursts.{mostEvents, eventBytes, eventWords, eventCount, burstRefusal, eventsFrom, eventsOf, firstEvent, answerTo, answersTo, storeBehind, newNumber, resultWords, unlessRefusedWhole, enterBurst}
 use Rattle.demand.proofs.BurstReadings.{Fits, fits-or-31}
 use Rattle.demand.proofs.EventBytes.{event-answer}
-use Rattle.burst.specs.BurstReplies.{EnteredAt, EventsEntered, BurstAs}
+use Rattle.burst.specs.BurstReplies.{EventsEntered, BurstAs}
 
 -- The pass number that an answer says, or 0
 pub number-new : (a : Answer) → numberSaid 0 (valuesOf a) ≡ newNumber a
@@ -44,23 +47,19 @@ result-put l at answer {refusal} {number} e f h =
     two-set l at refusal number h ∙ ap₂ (λ (a b : ℕ). overwrite l at (a ∷ (b ∷ []))) e (f ∙ number-new answer)
 
 -- The event of a place: its bytes are the first of those from there on
-pub event-entered : (s : Store) (bytes : List ℕ) (place : ℕ) → eventBytes * place + eventBytes ≤ length bytes → {operands : List ℕ}
-    → operands ≡ take 8 (drop 1 (drop (eventBytes * place) bytes)) → {r : Reply} {lent : Lent}
-    → RepliedAs (answered s operands (eventKind (getD bytes (eventBytes * place) 0))) r lent → {before results : List ℕ}
-    → results ≡ overwrite before (eventWords * place) (resultWords (r .answer ∷ []))
-    → EnteredAt (answerTo s (firstEvent (drop (eventBytes * place) bytes))) (r .head) (eventWords * place) before results lent
-event-entered s bytes place inside {operands} is {r} {lent} replied {before} {results} put =
+pub event-replies : (s : Store) (bytes : List ℕ) (place : ℕ) → eventBytes * place + eventBytes ≤ length bytes → (operands : List ℕ)
+    → operands ≡ take 8 (drop 1 (drop (eventBytes * place) bytes)) → {e e′ : Event}
+    → ((s : Store) → answerOf s e ≡ answered s operands (eventKind (getD bytes (eventBytes * place) 0))) → e ≡ e′
+    → {r : Reply} {lent : Lent} → RepliedAs (answerOf s e′) r lent
+    → RepliedAs (answerTo s (firstEvent (drop (eventBytes * place) bytes))) r lent
+event-replies s bytes place inside operands is read same x =
     let rest : List ℕ = drop (eventBytes * place) bytes in
     let first : getD rest 0 0 ≡ getD bytes (eventBytes * place) 0 =
     getD-drop (eventBytes * place) bytes 0 0 ∙ ap (λ (n : ℕ). getD bytes n 0) (add-zero (eventBytes * place)) in
     let eight : 8 ≤ length (take 8 (drop 1 rest)) = simp (length-take, length-drop) (omega (arith, inside)) in
-    let same : answered s operands (eventKind (getD bytes (eventBytes * place) 0)) ≡ answerTo s (firstEvent rest) =
+    let whole : answered s operands (eventKind (getD bytes (eventBytes * place) 0)) ≡ answerTo s (firstEvent rest) =
     ap₂ (λ (l : List ℕ) (kind : ℕ). answered s l (eventKind kind)) is (sym first) ∙ event-answer s (getD rest 0 0) (take 8 (drop 1 rest)) eight in
-    record {
-      words = put ∙ ap (λ (a : Answer). overwrite before (eventWords * place) (resultWords (a ∷ []))) (replied .answer ∙ ap (λ (a : Answered). a .answer) same);
-      head = replied .head ∙ ap (λ (a : Answered). a .store .head) same;
-      lent-is = replied .lent-is ∙ ap (λ (a : Answered). a .store .lent) same;
-    }
+    replied (sym whole ∙ sym (read s) ∙ ap (answerOf s) same) x
 
 -- A burst, by its refusal
 module _ (s : Store) (bytes before : List ℕ) where
@@ -137,24 +136,27 @@ module _ (s₀ : Store) (bytes before : List ℕ) where
       pub words-inside : eventWords * place + eventWords ≤ length results
       words-inside = omega (arith, more, room, g .long)
 
-      pub entered-on : {r : Head} {results′ : List ℕ} {lent : Lent} → EnteredAt (answerTo s (firstEvent rest)) r (eventWords * place) results results′ lent
-          → Going s₀ bytes before (record { head = r; lent = lent }) results′ (place + 1)
+      pub entered-on : {r : Reply} {lent : Lent} → RepliedAs (answerTo s (firstEvent rest)) r lent → {results′ : List ℕ}
+          → results′ ≡ overwrite results (eventWords * place) (resultWords (r .answer ∷ []))
+          → Going s₀ bytes before (record { head = r .head; lent = lent }) results′ (place + 1)
       unfolding eventsFrom storeBehind answersTo resultWords
-      entered-on {r} {results′} {lent} h =
+      entered-on {r} {lent} h {results′} put =
           let a : Answered = answerTo s (firstEvent rest) in
           let head = h .head in
           let lent-is = h .lent-is in
-          let later : List ℕ = resultWords (answersTo (record { head = r; lent = lent }) (eventsFrom left (drop (eventBytes * (place + 1)) bytes))) in
-          let after : a .store ≡ record { head = r; lent = lent } = λ i. record { head = sym head i; lent = sym lent-is i } in
+          let words : results′ ≡ overwrite results (eventWords * place) (resultWords (a .answer ∷ [])) =
+          put ∙ ap (λ (x : Answer). overwrite results (eventWords * place) (resultWords (x ∷ []))) (h .answer) in
+          let later : List ℕ = resultWords (answersTo (record { head = r .head; lent = lent }) (eventsFrom left (drop (eventBytes * (place + 1)) bytes))) in
+          let after : a .store ≡ record { head = r .head; lent = lent } = λ i. record { head = sym head i; lent = sym lent-is i } in
           let stores = ap (λ (n : ℕ). storeBehind s (eventsFrom n rest)) one-more
           ∙ ap₂ (λ (x : Store) (l : List ℕ). storeBehind x (eventsFrom left l)) after behind in
           let said = ap (λ (n : ℕ). overwrite results (eventWords * place) (resultWords (answersTo s (eventsFrom n rest)))) one-more
           ∙ ap₂ (λ (x : Store) (l : List ℕ). overwrite results (eventWords * place) (resultWords (a .answer ∷ answersTo x (eventsFrom left l)))) after behind
           ∙ sym (overwrite-more results (eventWords * place) (resultWords (a .answer ∷ [])) words-inside (eventWords * (place + 1)) later (omega arith))
-          ∙ ap (λ (l : List ℕ). overwrite l (eventWords * (place + 1)) later) (sym (h .words)) in
+          ∙ ap (λ (l : List ℕ). overwrite l (eventWords * (place + 1)) later) (sym words) in
           record {
             inside = omega (arith, more);
             store = g .store ∙ stores;
             words = g .words ∙ said;
-            long = ap length (h .words) ∙ overwrite-length results (eventWords * place) (resultWords (a .answer ∷ [])) words-inside ∙ g .long;
+            long = ap length words ∙ overwrite-length results (eventWords * place) (resultWords (a .answer ∷ [])) words-inside ∙ g .long;
           }

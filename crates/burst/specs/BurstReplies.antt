@@ -1,19 +1,12 @@
 -- What entering a burst hands back.
 use Prim.Native.Nat.{ℕ}
 use mathlib.Core.Path.{_≡_}
-use mathlib.Core.List.{List, [], _∷_}
+use mathlib.Core.List.{List}
 use Rattle.words.specs.Overwrite.{overwrite}
 use Rattle.store.specs.declared.types.Head.{Head}
 use Rattle.store.specs.Trees.{Lent, Store}
-use Rattle.store.specs.Answers.{Answered}
 use Rattle.demand.specs.Bursts.{Asked, answersTo, storeBehind, resultWords, Entered}
 use Rattle.burst.specs.declared.events.BurstReply.{BurstReply}
-
--- One event: the head and every lent word afterwards are those that a definition says, and its two words stand from a place on
-pub record EnteredAt (a : Answered) (r : Head) (from : ℕ) (before results : List ℕ) (lent : Lent) : Type 0 where
-  pub words : results ≡ overwrite before from (resultWords (a .answer ∷ []))
-  pub head : r ≡ a .store .head
-  pub lent-is : lent ≡ a .store .lent
 
 -- Events one after the other, with their words at the front of the result list
 pub record EventsEntered (s : Store) (es : List Asked) (r : Head) (before results : List ℕ) (lent : Lent) : Type 0 where

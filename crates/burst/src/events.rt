@@ -1,9 +1,11 @@
 // The events of a burst: each is entered as the stream's start or end is, and two words say what came of it.
 use c_numbers::number_of;
 use c_numbers::refusal_of;
-use interpret::run_event;
+use interpret::Event;
+use interpret::read_event;
 use store::Answer;
 use store::Head;
+use updates::Reply;
 ghost use mathlib.Core.Path.{_≡_};
 ghost use Prim.Native.Nat.{_+_, _*_, _≤_};
 ghost use mathlib.Core.List.{[], _∷_};
@@ -11,7 +13,8 @@ ghost use lib.ListN.{length, drop};
 ghost use Rattle.words.specs.Overwrite.{overwrite};
 ghost use Rattle.store.specs.Trees.{Lent, lentOf, Store, storeOf};
 ghost use Rattle.demand.specs.Bursts.{mostEvents, eventBytes, eventWords, eventCount, burstRefusal, firstEvent, eventsOf, answerTo, resultWords, enterBurst};
-ghost use Rattle.burst.specs.BurstReplies.{EnteredAt, EventsEntered, BurstAs};
+ghost use Rattle.updates.specs.Replies.{RepliedAs};
+ghost use Rattle.burst.specs.BurstReplies.{EventsEntered, BurstAs};
 
 // "firmware hands over up to 256 of them together, each as the 9 bytes of its command": its kind and 8 operand bytes.
 const MOST_EVENTS: usize = 256;
@@ -53,7 +56,7 @@ fn put_result(results: &mut [u64], place: usize, answer: Answer)
     results[first + 1] = number_of(answer, 0) as u64;
 }
 
-// Enters the event of a place, and says what came of it.
+// Enters the event of a place.
 fn enter_event(
     head: Head,
     start_table: &mut [u64],
@@ -62,31 +65,39 @@ fn enter_event(
     end_roots: &mut [u64],
     bytes: &[u8],
     place: usize,
-    results: &mut [u64],
-) -> Head
+) -> Reply
     requires { ⌜ eventBytes * place + eventBytes ≤ length (now bytes) ⌝ }
-    requires { ⌜ eventWords * place + eventWords ≤ length (now results) ⌝ }
     ensures { λ r. do
       let s : Store = storeOf head (now («start_table» .entry)) (now («start_roots» .entry)) (now («end_table» .entry)) (now («end_roots» .entry))
       let left : Lent = lentOf (now («start_table» .exit)) (now («start_roots» .exit)) (now («end_table» .exit)) (now («end_roots» .exit))
-      let rest = drop (eventBytes * place) (now (bytes .entry))
-      ⌜ EnteredAt (answerTo s (firstEvent rest)) r (eventWords * place) (now (results .entry)) (now (results .exit)) left ⌝ }
+      ⌜ RepliedAs (answerTo s (firstEvent (drop (eventBytes * place) (now (bytes .entry))))) r left ⌝ }
 {
     let first = EVENT_BYTES * place;
     let operands = first + 1;
     let next = first + EVENT_BYTES;
-    let reply = run_event(
-        head,
-        start_table,
-        start_roots,
-        end_table,
-        end_roots,
-        bytes[first],
-        &bytes[operands..next],
-    );
-    let answer = reply.answer;
-    put_result(results, place, answer);
-    reply.head
+    let event = read_event(bytes[first], &bytes[operands..next]);
+    match event {
+        Event::Start { tick, key, weight } => updates::start(
+            head,
+            start_table,
+            start_roots,
+            end_table,
+            end_roots,
+            tick,
+            key,
+            weight,
+        ),
+        Event::End { tick, number } => updates::end(
+            head,
+            start_table,
+            start_roots,
+            end_table,
+            end_roots,
+            tick,
+            number,
+        ),
+        Event::Refused(number) => Reply::refused(number, head),
+    }
 }
 
 // Enters the events in their order; a refused one does not keep the next from being tried.
@@ -110,7 +121,7 @@ fn enter_events(
     let mut after = head;
     let mut place: usize = 0;
     while place < count {
-        after = enter_event(
+        let reply = enter_event(
             after,
             start_table,
             start_roots,
@@ -118,8 +129,10 @@ fn enter_events(
             end_roots,
             bytes,
             place,
-            results,
         );
+        after = reply.head;
+        let answer = reply.answer;
+        put_result(results, place, answer);
         place += 1;
     }
     after

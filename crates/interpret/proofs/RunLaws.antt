@@ -13,8 +13,10 @@ use Rattle.updates.specs.Replies.{RepliedAs}
 use Rattle.updates.specs.RefusedReplies.{refusedReply}
 use Rattle.updates.proofs.RepliesAs.{replied, refused-reply}
 use Rattle.codec.specs.Bytes.{operand}
-use Rattle.command.specs.Stream.{Kind, unknown, command, startCommand, endCommand, questionCommand, answered}
+use Rattle.command.specs.Stream.{Kind, command, startCommand, endCommand, questionCommand, answered}
 use Rattle.command.proofs.KindLaws.{cut-short, whole}
+use Rattle.interpret.specs.declared.events.Event.{Event}
+use Rattle.interpret.specs.Events.{answerOf}
 
 -- A question leaves the store as it was
 question-keeps : (s : Store) (k1 k2 t1 t2 : ℕ) → perform s (question k1 k2 t1 t2) .store ≡ s
@@ -34,18 +36,21 @@ module _ (s : Store) (bytes : List ℕ) where
   pub of-kind : {a b : Kind} → a ≡ b → {r : Reply} {lent : Lent} → RepliedAs (answered s bytes b) r lent → RepliedAs (answered s bytes a) r lent
   of-kind e x = replied (ap (answered s bytes) e) x
 
-  pub refused-unknown : {kind : Kind} → kind ≡ unknown → {r : Reply} → r ≡ refusedReply 6 (s .head) → RepliedAs (answered s bytes kind) r (s .lent)
-  refused-unknown e is = of-kind e (refused-reply s 6 is)
+  -- The reply to the event that was taken from the bytes is the reply to them
+  pub event-replies : (kind : Kind) {e e′ : Event} → ((s : Store) → answerOf s e ≡ answered s bytes kind) → e ≡ e′ → {r : Reply} {lent : Lent}
+      → RepliedAs (answerOf s e′) r lent → RepliedAs (answered s bytes kind) r lent
+  event-replies kind read is x = replied (sym (read s) ∙ ap (answerOf s) is) x
 
-  -- The reply to the call that the bytes spell is the reply to the command
-  pub start-replies : 8 ≤ length bytes → {tick key weight : ℕ} → tick ≡ operand bytes 0 4 → key ≡ operand bytes 4 2 → weight ≡ operand bytes 6 2
-      → {r : Reply} {lent : Lent} → RepliedAs (perform s (start tick key weight)) r lent → RepliedAs (answered s bytes (command 8 startCommand)) r lent
-  start-replies h t k w x = replied (whole s bytes 8 startCommand h ∙ sym (λ i. perform s (start (t i) (k i) (w i)))) x
+  -- An event with its operands, and one that lacks some
+  pub start-read : 8 ≤ length bytes → {tick key weight : ℕ} → tick ≡ operand bytes 0 4 → key ≡ operand bytes 4 2 → weight ≡ operand bytes 6 2
+      → perform s (start tick key weight) ≡ answered s bytes (command 8 startCommand)
+  start-read h t k w = (λ i. perform s (start (t i) (k i) (w i))) ∙ sym (whole s bytes 8 startCommand h)
 
-  pub end-replies : 8 ≤ length bytes → {tick number : ℕ} → tick ≡ operand bytes 0 4 → number ≡ operand bytes 4 4
-      → {r : Reply} {lent : Lent} → RepliedAs (perform s (end tick number)) r lent → RepliedAs (answered s bytes (command 8 endCommand)) r lent
-  end-replies h t n x = replied (whole s bytes 8 endCommand h ∙ sym (λ i. perform s (end (t i) (n i)))) x
+  pub end-read : 8 ≤ length bytes → {tick number : ℕ} → tick ≡ operand bytes 0 4 → number ≡ operand bytes 4 4
+      → perform s (end tick number) ≡ answered s bytes (command 8 endCommand)
+  end-read h t n = (λ i. perform s (end (t i) (n i))) ∙ sym (whole s bytes 8 endCommand h)
 
+  -- The reply to the question that the bytes spell is the reply to the command
   pub question-replies : 12 ≤ length bytes → {k1 k2 t1 t2 : ℕ} → k1 ≡ operand bytes 0 2 → k2 ≡ operand bytes 2 2 → t1 ≡ operand bytes 4 4
       → t2 ≡ operand bytes 8 4 → {said : Answer} → said ≡ perform s (question k1 k2 t1 t2) .answer
       → RepliedAs (answered s bytes (command 12 questionCommand)) (record { answer = said; head = s .head }) (s .lent)

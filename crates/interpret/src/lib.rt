@@ -1,5 +1,7 @@
-// One command of the stream, run on lent slices: operands from bytes, and a call of the store. Neither function asks anything of what it is handed.
+// Commands taken from their bytes, and one command run on lent slices.
+mod events;
 mod run;
 
+pub use events::Event;
+pub use events::read_event;
 pub use run::run_command;
-pub use run::run_event;

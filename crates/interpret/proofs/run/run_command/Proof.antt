@@ -1,5 +1,7 @@
+use Rattle.command.specs.Stream.{eventKind}
 use Rattle.command.proofs.KindLaws.{kind-question, kind-event}
-use Rattle.interpret.proofs.RunLaws.{of-kind}
+use Rattle.interpret.proofs.RunLaws.{of-kind, event-replies}
+use Rattle.updates.proofs.RepliesAs.{refused-reply}
 use Rattle.store.specs.Trees.{storeOf}
 use borrow.Author.Needs.{needs}
 use Rattle.interpret.proofs.run.run_command.Statement.{statement}
@@ -25,8 +27,26 @@ returns c =
     let a = c .before .before .before .before .before .before .before .before .before .before .before .args in
     of-kind (storeOf (a .head) (a .start-table .now) (a .start-roots .now) (a .end-table .now) (a .end-roots .now)) (a .operands .now) (kind-question (a .code) (c .before .before .before .before .before .if1 .taken)) (c .run-question .ensures)
 
-run-event-requires : tie.Need-run-event-requires
-run-event-requires c κs = search needs
+read-event-requires : tie.Need-read-event-requires
+read-event-requires c κs = search needs
+
+enum-known-event : tie.Need-enum-known-event
+enum-known-event c = search needs
+
+start-requires : tie.Need-start-requires
+start-requires c κs = search needs
+
+enum-known-event-2 : tie.Need-enum-known-event-2
+enum-known-event-2 c = search needs
+
+end-requires : tie.Need-end-requires
+end-requires c κs = search needs
+
+enum-known-event-3 : tie.Need-enum-known-event-3
+enum-known-event-3 c = search needs
+
+refused-requires : tie.Need-refused-requires
+refused-requires c κs = search needs
 
 same-length-5 : tie.Need-same-length-5
 same-length-5 c = search needs
@@ -43,7 +63,32 @@ same-length-8 c = search needs
 returns-2 : tie.Need-returns-2
 returns-2 c =
     let a = c .before .before .before .before .before .before .before .before .before .before .before .before .before .before .before .before .before .before .before .args in
-    of-kind (storeOf (a .head) (a .start-table .now) (a .start-roots .now) (a .end-table .now) (a .end-roots .now)) (a .operands .now) (kind-event (a .code) (c .before .before .before .before .before .before .before .before .before .before .before .before .before .if1 .left)) (c .before .before .before .before .before .before .before .before .run-event .ensures)
+    of-kind (storeOf (a .head) (a .start-table .now) (a .start-roots .now) (a .end-table .now) (a .end-roots .now)) (a .operands .now) (kind-event (a .code) (c .before .before .before .before .before .before .before .before .before .before .before .before .before .if1 .left))
+    (event-replies (storeOf (a .head) (a .start-table .now) (a .start-roots .now) (a .end-table .now) (a .end-roots .now)) (a .operands .now) (eventKind (a .code)) (c .before .before .before .before .before .before .before .before .before .before .before .before .read-event .ensures) (c .before .before .before .before .before .before .before .before .before .before .event .given .1) (c .before .before .before .before .start .ensures))
+
+same-length-9 : tie.Need-same-length-9
+same-length-9 c = search needs
+
+same-length-10 : tie.Need-same-length-10
+same-length-10 c = search needs
+
+same-length-11 : tie.Need-same-length-11
+same-length-11 c = search needs
+
+same-length-12 : tie.Need-same-length-12
+same-length-12 c = search needs
+
+returns-3 : tie.Need-returns-3
+returns-3 c =
+    let a = c .before .before .before .before .before .before .before .before .before .before .before .before .before .before .before .before .before .before .before .args in
+    of-kind (storeOf (a .head) (a .start-table .now) (a .start-roots .now) (a .end-table .now) (a .end-roots .now)) (a .operands .now) (kind-event (a .code) (c .before .before .before .before .before .before .before .before .before .before .before .before .before .if1 .left))
+    (event-replies (storeOf (a .head) (a .start-table .now) (a .start-roots .now) (a .end-table .now) (a .end-roots .now)) (a .operands .now) (eventKind (a .code)) (c .before .before .before .before .before .before .before .before .before .before .before .before .read-event .ensures) (c .before .before .before .before .before .before .before .before .before .before .event2 .given .1) (c .before .before .before .before .end .ensures))
+
+returns-4 : tie.Need-returns-4
+returns-4 c =
+    let a = c .before .before .before .before .before .before .before .before .before .before .before .args in
+    of-kind (storeOf (a .head) (a .start-table .now) (a .start-roots .now) (a .end-table .now) (a .end-roots .now)) (a .operands .now) (kind-event (a .code) (c .before .before .before .before .before .if1 .left))
+    (event-replies (storeOf (a .head) (a .start-table .now) (a .start-roots .now) (a .end-table .now) (a .end-roots .now)) (a .operands .now) (eventKind (a .code)) (c .before .before .before .before .read-event .ensures) (c .before .before .event3 .given .1) (refused-reply (storeOf (a .head) (a .start-table .now) (a .start-roots .now) (a .end-table .now) (a .end-roots .now)) _ (c .refused .ensures)))
 
 pub run-command-spec : {M : Type 1} → statement M
 run-command-spec =
@@ -55,9 +100,21 @@ run-command-spec =
     same-length-3
     same-length-4
     returns
-    run-event-requires
+    read-event-requires
+    enum-known-event
+    start-requires
+    enum-known-event-2
+    end-requires
+    enum-known-event-3
+    refused-requires
     same-length-5
     same-length-6
     same-length-7
     same-length-8
-    returns-2)
+    returns-2
+    same-length-9
+    same-length-10
+    same-length-11
+    same-length-12
+    returns-3
+    returns-4)

@@ -1,0 +1,2 @@
+-- Events, as the code takes them from their bytes.
+pub mod Events
