@@ -37,6 +37,14 @@ pub fn of_unknown_kind(random: &mut Random, mut event: Vec<u8>) -> Vec<u8> {
     event
 }
 
+/// An end with one bit more in the two high bytes of its number, so that it is of no open pass; a start as it is.
+pub fn of_wider_number(random: &mut Random, mut event: Vec<u8>) -> Vec<u8> {
+    if event[0] == 2 {
+        event[7 + random.below(2) as usize] |= 1 << random.below(8);
+    }
+    event
+}
+
 /// Result words as they are before a call.
 pub fn unset_results(words: usize) -> Vec<u64> {
     (900..).take(words).collect()

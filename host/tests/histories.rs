@@ -17,13 +17,14 @@ mod shapes;
 mod trees;
 
 use book::Book;
-use bursts::{call_of, event_of, of_unknown_kind, unset_results, EVENT_BYTES, MOST_EVENTS};
+use bursts::{call_of, event_of, of_unknown_kind, of_wider_number, unset_results, EVENT_BYTES, MOST_EVENTS};
 use library::{burst_by_library, by_library, Answer, Call, Random, Store, PAGE_WORDS};
 use shapes::{Keys, Pace, Shape};
 use std::collections::BTreeMap;
 use trees::{lacks_room, pages_opened, Tree};
 
-/// Of so many calls one is a burst. Of so many bursts one is to be refused, and of so many events one has a kind that there is not.
+/// Of so many calls one is a burst. Of so many bursts one is to be refused, and of so many events one has a kind that there is not, or, where it is an
+/// end, the number of an open pass only in its low bytes.
 const CALLS_A_BURST: u32 = 40;
 const BURSTS_A_REFUSED_ONE: u32 = 8;
 const EVENTS_AN_UNKNOWN_ONE: u32 = 40;
@@ -195,7 +196,11 @@ impl History {
                 break event;
             }
         };
-        if self.random.one_in(EVENTS_AN_UNKNOWN_ONE) { of_unknown_kind(&mut self.random, event) } else { event }
+        match self.random.below(EVENTS_AN_UNKNOWN_ONE) {
+            0 => of_unknown_kind(&mut self.random, event),
+            1 => of_wider_number(&mut self.random, event),
+            _ => event,
+        }
     }
 
     /// An event by a single call on the second store: the two result words that it must get.

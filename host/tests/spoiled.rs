@@ -10,7 +10,7 @@ mod library;
 mod made;
 mod shapes;
 
-use bursts::{call_of, event_of, of_unknown_kind, unset_results, EVENT_BYTES, MOST_EVENTS};
+use bursts::{call_of, event_of, of_unknown_kind, of_wider_number, unset_results, EVENT_BYTES, MOST_EVENTS};
 use library::{
     burst_by_library, burst_by_port, by_library, by_port, packet_by_library, packet_by_port, Answer, Call, Random, Store, PAGE_WORDS,
 };
@@ -77,13 +77,17 @@ struct Reached {
     accepted_later: u64,
 }
 
-/// A burst of such starts and ends, some of a kind that there is not. Some bursts are long, and some without their last bytes.
+/// A burst of such starts and ends, some of a kind that there is not or of a number of no open pass. Some bursts are long, and some without their last bytes.
 fn burst_on(random: &mut Random, store: &Store) -> Vec<u8> {
     let size = if random.one_in(40) { random.between(200, MOST_EVENTS as u32 + 2) } else { random.below(12) };
     let mut events = Vec::new();
     while events.len() < EVENT_BYTES * size as usize {
         let Some(event) = event_of(call_on(random, store)) else { continue };
-        events.extend(if random.one_in(16) { of_unknown_kind(random, event) } else { event });
+        events.extend(match random.below(16) {
+            0 => of_unknown_kind(random, event),
+            1 => of_wider_number(random, event),
+            _ => event,
+        });
     }
     let cut = random.below(EVENT_BYTES as u32) as usize;
     events.truncate(if random.one_in(8) { events.len().saturating_sub(cut) } else { events.len() });
