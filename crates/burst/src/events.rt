@@ -7,7 +7,7 @@ use store::Answer;
 use store::Head;
 use updates::Reply;
 ghost use mathlib.Core.Path.{_≡_};
-ghost use Prim.Native.Nat.{_+_, _*_, _≤_};
+ghost use Prim.Native.Nat.{_+_, _*_, _/_, _≤_};
 ghost use mathlib.Core.List.{[], _∷_};
 ghost use lib.ListN.{length, drop};
 ghost use Rattle.words.specs.Overwrite.{overwrite};
@@ -30,6 +30,13 @@ pub struct BurstReply {
     pub head: Head,
 }
 
+// How many words the results of so many bytes take.
+fn words_needed(bytes: usize) -> usize
+    ensures { λ r. ⌜ r ≡ eventWords * (bytes / eventBytes) ⌝ }
+{
+    EVENT_WORDS * (bytes / EVENT_BYTES)
+}
+
 // 31 for a burst too long, one that ends inside an event, or too few words for the results.
 fn burst_refusal(bytes: &[u8], words: usize) -> u8
     ensures { λ r. ⌜ r ≡ burstRefusal (now (bytes .entry)) words ⌝ }
@@ -40,7 +47,7 @@ fn burst_refusal(bytes: &[u8], words: usize) -> u8
     if 0 < bytes.len() % EVENT_BYTES {
         return 31;
     }
-    if words < EVENT_WORDS * (bytes.len() / EVENT_BYTES) {
+    if words < words_needed(bytes.len()) {
         return 31;
     }
     0

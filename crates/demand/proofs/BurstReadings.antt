@@ -6,7 +6,6 @@ use mathlib.Core.Bool.{Bool, true, false, cond}
 use mathlib.Core.Logic.{_⊎_, inl, inr}
 use mathlib.Core.List.{List, [], _∷_, _++_}
 use lib.ListN.{length, getD, take, drop, length-append}
-use lib.Dec.{ltb}
 use lib.Seq.{take-at, drop-append-add}
 use borrow.Author.Tests.{ltb-false, le-ltb}
 use Rattle.store.specs.declared.types.Answer.{Answer}
@@ -15,7 +14,7 @@ use Rattle.store.specs.Trees.{Store}
 use Rattle.store.specs.Answers.{refusalOf}
 use Rattle.store.specs.Refusals.{firstMet}
 use Rattle.command.specs.Stream.{eventKind}
-use Rattle.demand.specs.Bursts.{mostEvents, eventBytes, eventWords, eventCount, burstRefusal, Asked, askedBy, eventsFrom, eventsOf, answerTo, answersTo, newNumber, resultWords}
+use Rattle.demand.specs.Bursts.{mostEvents, eventBytes, eventWords, eventCount, tooManyEvents, endsInsideEvent, tooFewWords, burstRefusal, Asked, askedBy, eventsFrom, eventsOf, answerTo, answersTo, newNumber, resultWords}
 
 -- So many whole events, no more than may come together, and two words for each
 pub record Fits (bytes : List ℕ) (words : ℕ) : Type 0 where
@@ -30,13 +29,13 @@ module _ (bytes : List ℕ) (words : ℕ) where
   byTests x y z = cond x 31 (cond y 31 (cond z 31 0))
 
   abbrev many : Bool
-  many = ltb (mostEvents * eventBytes) (length bytes)
+  many = tooManyEvents bytes .met
 
   abbrev inside : Bool
-  inside = ltb 0 (length bytes % eventBytes)
+  inside = endsInsideEvent bytes .met
 
   abbrev short : Bool
-  short = ltb words (eventWords * eventCount bytes)
+  short = tooFewWords bytes words .met
 
   pub takes-what-fits : Fits bytes words → burstRefusal bytes words ≡ 0
   unfolding burstRefusal firstMet
@@ -58,7 +57,7 @@ module _ (bytes : List ℕ) (words : ℕ) where
           let most = ltb-false (mostEvents * eventBytes) (length bytes) e in
           let none = ltb-false 0 (length bytes % eventBytes) f in
           let enough = ltb-false words (eventWords * eventCount bytes) g in
-          inl (record { events = eventCount bytes; whole = omega (arith, none); few = omega (arith, most); room = enough })
+          inl (record { events = eventCount bytes; whole = omega (arith, none); few = omega (arith, most); room = omega (arith, enough) })
 
 -- The events in their order: a kind and its 8 operand bytes, then the events of the bytes behind them
 pub first-of : (kind : ℕ) (operands bytes : List ℕ) → length operands ≡ 8
