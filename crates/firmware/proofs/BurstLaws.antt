@@ -1,39 +1,22 @@
 -- Bursts of events: what an exported call leaves, from what entering the burst hands back.
 use Prim.Native.Nat.{ℕ, zero, suc}
 use mathlib.Core.Path.{_≡_, refl, ap, sym, subst, _∙_}
-use mathlib.Core.List.{List, [], _∷_}
+use mathlib.Core.List.{List, []}
 use lib.ListN.{length, take}
 use Rattle.words.specs.Overwrite.{overwrite}
 use Rattle.words.proofs.OverwriteLaws.{overwrite-none}
 use Rattle.store.specs.declared.types.Head.{Head}
 use Rattle.store.specs.Trees.{Lent, Store}
 use Rattle.store.specs.Head.{openLimit}
-use Rattle.demand.specs.Bursts.{Asked, unknownKind, asked, eventsOf, answerTo, storeBehind, resultWords, burstRefusal, Entered, unlessRefusedWhole, enterBurst}
+use Rattle.demand.specs.Bursts.{Asked, eventsOf, resultWords, burstRefusal, Entered, unlessRefusedWhole, enterBurst}
 use Rattle.burst.specs.declared.events.BurstReply.{BurstReply}
 use Rattle.burst.specs.BurstReplies.{BurstAs}
 use Rattle.c_numbers.specs.Heads.{Fields, passNumbers, headOf, fieldsOf, numbersOf}
 use Rattle.firmware.specs.Exported.{Handed, storeIn, handedBack}
 use Rattle.c_numbers.proofs.HeadNumbers.{passes-length, numbers-back, others-kept}
-use Rattle.firmware.proofs.ExportedLists.{places-stay}
+use Rattle.firmware.proofs.ExportedLists.{tried-places}
 use Rattle.firmware.proofs.KeptPlaces.{all-places}
 use Rattle.firmware.specs.BurstCalls.{Lending, LeavesBurst}
-
--- Every burst leaves a head with as many places
-abbrev Places : Store → Type 0
-Places s = length (s .head .passes) ≡ openLimit
-
-event-places : (s : Store) → Places s → (e : Asked) → Places (answerTo s e .store)
-event-places s long unknownKind = long
-event-places s long (asked c) = places-stay s long c
-
-events-places : (s : Store) → Places s → (es : List Asked) → Places (storeBehind s es)
-unfolding storeBehind
-events-places s long [] = long
-events-places s long (e ∷ es) = events-places (answerTo s e .store) (event-places s long e) es
-
-burst-places : (n : ℕ) (s : Store) → Places s → (es : List Asked) → Places (unlessRefusedWhole n s es .store)
-burst-places zero s long es = events-places s long es
-burst-places (suc n) s long es = long
 
 -- A burst that is refused as a whole tries no event
 none-tried : (n : ℕ) (s : Store) (es : List Asked) → (unlessRefusedWhole n s es .refusal ≡ 0 → ⊥)
@@ -79,7 +62,7 @@ module _ (before : Handed) (events results : List ℕ) {head : Head} (of-head : 
       (record { handed = record { fields = fields; passes = passes; lent = lent }; results = results′ })
   burst-done long none fs ps =
       let old = passes-length (before .passes) 0 openLimit in
-      let new = burst-places (burstRefusal events (length results)) (storeIn before) old (eventsOf events) in
+      let new = tried-places (burstRefusal events (length results)) (storeIn before) old (eventsOf events) in
       let places = all-places (storeIn before .head) (b .store .head) old new in
       let fields-are = fs ∙ ap fieldsOf (is .head) in
       let passes-are =

@@ -1,11 +1,10 @@
--- A list of exported calls, each handed what the one before left, is a list of calls: the numbers of the open passes carry the head over.
+-- A list of exported calls and bursts, each handed what the one before left, is a list of calls and bursts: the numbers of the open passes carry the head over.
 use Prim.Native.Nat.{ℕ, zero, suc, _+_, _*_}
 use native.Mathlib.Omega.{arith}
 use mathlib.Core.Path.{_≡_, refl, ap, ap₂, sym, _∙_}
 use mathlib.Core.List.{List, [], _∷_, _++_, append-assoc}
 use lib.ListN.{length, getD, length-append, length-replicate, length-set}
 use lib.Seq.{getD-append-add}
-use Rattle.store.specs.declared.types.Answer.{Answer}
 use Rattle.store.specs.declared.types.OpenPass.{OpenPass}
 use Rattle.store.specs.declared.types.FoundPass.{FoundPass}
 use Rattle.store.specs.declared.types.FoundPass.the-variants.{Missing, At}
@@ -14,7 +13,9 @@ use Rattle.store.specs.Head.{openLimit, noPass, passOf}
 use Rattle.store.specs.Calls.{Call, opening, start, end, question, lookupIn}
 use Rattle.store.specs.Answers.{unlessRefused}
 use Rattle.store.specs.Writing.{endEntries, enterAll, passesWithout}
-use Rattle.store.specs.Performing.{refusal, served, perform, performAll}
+use Rattle.store.specs.Performing.{refusal, served, perform}
+use Rattle.demand.specs.Bursts.{Asked, unknownKind, asked, answerTo, storeBehind, unlessRefusedWhole}
+use Rattle.demand.specs.Steps.{Step, refusalOfStep, askedIn, performStep, performSteps}
 use Rattle.store.proofs.HeadLists.{closed-length}
 use Rattle.refusals.proofs.RefusalParts.{none-of}
 use Rattle.refusals.proofs.FoundPasses.{found-facts}
@@ -94,12 +95,29 @@ module _ (s : Store) (long : length (s .head .passes) ≡ openLimit) where
       go zero e = served-places c e
       go (suc n) e = long
 
-pub exported-list : (h : Handed) → length (h .passes) ≡ passNumbers → (calls : List Call) → exportAll h calls ≡ performAll (storeIn h) calls
-unfolding exportAll performAll
+-- So does every list of events, tried or refused as a whole
+abbrev Places : Store → Type 0
+Places s = length (s .head .passes) ≡ openLimit
+
+event-places : (s : Store) → Places s → (e : Asked) → Places (answerTo s e .store)
+event-places s long unknownKind = long
+event-places s long (asked c) = places-stay s long c
+
+events-places : (s : Store) → Places s → (es : List Asked) → Places (storeBehind s es)
+unfolding storeBehind
+events-places s long [] = long
+events-places s long (e ∷ es) = events-places (answerTo s e .store) (event-places s long e) es
+
+pub tried-places : (n : ℕ) (s : Store) → Places s → (es : List Asked) → Places (unlessRefusedWhole n s es .store)
+tried-places zero s long es = events-places s long es
+tried-places (suc n) s long es = long
+
+pub exported-list : (h : Handed) → length (h .passes) ≡ passNumbers → (steps : List Step) → exportAll h steps ≡ performSteps (storeIn h) steps
+unfolding exportAll performSteps
 exported-list h long [] = refl
-exported-list h long (c ∷ calls) =
-    let after : Store = perform (storeIn h) c .store in
-    let places = places-stay (storeIn h) (passes-length (h .passes) 0 openLimit) c in
+exported-list h long (step ∷ steps) =
+    let after : Store = performStep (storeIn h) step .store in
+    let places = tried-places (refusalOfStep step) (storeIn h) (passes-length (h .passes) 0 openLimit) (askedIn step) in
     let written : length (numbersOf (after .head .passes)) ≡ passNumbers = omega (arith, numbers-length (after .head .passes), places) in
-    ap (_∷_ (perform (storeIn h) c .answer))
-    (exported-list (handedBack after) written calls ∙ ap (λ (s : Store). performAll s calls) (store-back after places))
+    ap (_∷_ (performStep (storeIn h) step))
+    (exported-list (handedBack after) written steps ∙ ap (λ (s : Store). performSteps s steps) (store-back after places))

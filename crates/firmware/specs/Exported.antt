@@ -2,11 +2,10 @@
 use Prim.Native.Nat.{ℕ}
 use mathlib.Core.Path.{_≡_}
 use mathlib.Core.List.{List, [], _∷_}
-use Rattle.store.specs.declared.types.Answer.{Answer}
 use Rattle.store.specs.Trees.{Lent, Store}
-use Rattle.store.specs.Calls.{Call}
 use Rattle.store.specs.Answers.{refusalOf, Answered}
-use Rattle.store.specs.Performing.{perform}
+use Rattle.demand.specs.Bursts.{Entered}
+use Rattle.demand.specs.Steps.{Step, performStep}
 use Rattle.c_numbers.specs.Heads.{Fields, headOf, fieldsOf, numbersOf}
 
 -- The head's numbers, its open passes as numbers, and the lent slices
@@ -28,7 +27,7 @@ pub record Leaves (a : Answered) (r : ℕ) (before after : Handed) : Type 0 wher
   pub left : after ≡ handedBack (a .store)
   pub kept : (r ≡ 0 → ⊥) → after ≡ before
 
--- Exported calls one after the other: each is handed what the one before left
-unfoldable pub exportAll : Handed → List Call → List Answer
+-- Exported calls and bursts one after the other: each is handed what the one before left
+unfoldable pub exportAll : Handed → List Step → List Entered
 exportAll h [] = []
-exportAll h (c ∷ cs) = perform (storeIn h) c .answer ∷ exportAll (handedBack (perform (storeIn h) c .store)) cs
+exportAll h (step ∷ steps) = performStep (storeIn h) step ∷ exportAll (handedBack (performStep (storeIn h) step .store)) steps
