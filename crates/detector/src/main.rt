@@ -30,7 +30,7 @@ fn run_program(
       ⌜ Served programFeed after (r .over) ⌝ }
 {
     let reply = updates::open(
-        head::opened_head(),
+        open_passes::opened_head(),
         start_table,
         start_roots,
         end_table,

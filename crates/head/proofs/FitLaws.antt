@@ -10,7 +10,7 @@ use lib.Seq.{slice}
 use borrow.Author.Tests.{le-leb, lt-leb, ltb-true}
 use Rattle.store.specs.declared.types.OpenPass.{OpenPass}
 use Rattle.store.specs.Head.{passFits, passesFit, risesTo, numbersRise}
-use Rattle.head.proofs.PassesFrom.{pass-here, no-pass-left}
+use Rattle.open_passes.proofs.PassesFrom.{pass-here, no-pass-left}
 
 -- The first number is not below the least that it may be
 abbrev risesFrom : ℕ → List OpenPass → Bool

@@ -1,5 +1,2 @@
--- Laws of the code over a head: loops over the open passes, and the list closed up.
-pub mod PassesFrom
+-- Laws of the test of a head.
 pub mod FitLaws
-pub mod FindLaws
-pub mod ClosingUp

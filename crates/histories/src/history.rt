@@ -150,7 +150,7 @@ pub fn history(
     requires { ⌜ 1 ≤ anew ⌝ }
 {
     let mut run = Run {
-        head: head::opened_head(),
+        head: open_passes::opened_head(),
         book: PassBook {
             last: 0,
             started: 0,

@@ -53,6 +53,6 @@ pub fn open(
     open_tree(end_table, end_roots);
     Reply {
         answer: Answer::Opened,
-        head: head::opened_head(),
+        head: open_passes::opened_head(),
     }
 }

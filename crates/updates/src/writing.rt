@@ -2,9 +2,9 @@
 // ruled out, and then nothing can go wrong.
 use crate::types::Reply;
 use enter::enter;
-use head::ended_head;
-use head::find_pass;
-use head::started_head;
+use open_passes::ended_head;
+use open_passes::find_pass;
+use open_passes::started_head;
 use refusals::end_refusal;
 use refusals::start_refusal;
 use store::Answer;

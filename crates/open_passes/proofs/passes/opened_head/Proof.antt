@@ -1,6 +1,6 @@
 use borrow.Author.Needs.{needs}
-use Rattle.head.proofs.passes.opened_head.Statement.{statement}
-use Rattle.head.proofs.passes.opened_head.Tie as tie
+use Rattle.open_passes.proofs.passes.opened_head.Statement.{statement}
+use Rattle.open_passes.proofs.passes.opened_head.Tie as tie
 
 no-pass-requires : tie.Need-no-pass-requires
 no-pass-requires c κs = search needs

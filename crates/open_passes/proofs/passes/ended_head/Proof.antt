@@ -4,10 +4,10 @@ use lib.ListN.{length, set}
 use native.Mathlib.Omega.{arith}
 use Rattle.tree.proofs.Lists.{length-mapped}
 use Rattle.store.specs.Head.{openLimit, noPass}
-use Rattle.head.proofs.ClosingUp.{withPasses, endedWith, movedTo, move-none, move-more, move-done}
+use Rattle.open_passes.proofs.ClosingUp.{withPasses, endedWith, movedTo, move-none, move-more, move-done}
 use borrow.Author.Needs.{needs}
-use Rattle.head.proofs.passes.ended_head.Statement.{statement}
-use Rattle.head.proofs.passes.ended_head.Tie as tie
+use Rattle.open_passes.proofs.passes.ended_head.Statement.{statement}
+use Rattle.open_passes.proofs.passes.ended_head.Tie as tie
 
 abbrev Inv-loop : tie.InvT-loop
 Inv-loop used tick place head₀ count last at₀ head at =

@@ -8,7 +8,7 @@ use borrow.Author.Tests.{eq-eqb, ne-eqb}
 use Rattle.store.specs.declared.types.OpenPass.{OpenPass}
 use Rattle.store.specs.declared.types.FoundPass.the-variants.{Missing, At}
 use Rattle.store.specs.Head.{findPass}
-use Rattle.head.proofs.PassesFrom.{pass-here, no-pass-left}
+use Rattle.open_passes.proofs.PassesFrom.{pass-here, no-pass-left}
 
 module _ (passes : List OpenPass) (count : ℕ) (room : count ≤ length passes) (number place : ℕ) where
   module _ (d : OpenPass) (more : place < count) where

@@ -5,10 +5,10 @@ use lib.Seq.{slice}
 use native.Mathlib.Omega.{arith}
 use Rattle.tree.proofs.Lists.{length-mapped}
 use Rattle.store.specs.Head.{openLimit, noPass, findPass, passOf}
-use Rattle.head.proofs.FindLaws.{find-here, find-next, find-none}
+use Rattle.open_passes.proofs.FindLaws.{find-here, find-next, find-none}
 use borrow.Author.Needs.{needs}
-use Rattle.head.proofs.passes.find_pass.Statement.{statement}
-use Rattle.head.proofs.passes.find_pass.Tie as tie
+use Rattle.open_passes.proofs.passes.find_pass.Statement.{statement}
+use Rattle.open_passes.proofs.passes.find_pass.Tie as tie
 
 abbrev Inv-loop : tie.InvT-loop
 Inv-loop number head count place₀ place =
