@@ -1,28 +1,26 @@
 -- What running a piece of the stream hands back.
-use Prim.Native.Nat.{ℕ, _+_, _≤_}
+use Prim.Native.Nat.{ℕ, _+_}
 use mathlib.Core.Path.{_≡_}
-use mathlib.Core.Bool.{not}
 use mathlib.Core.List.{List}
+use mathlib.Core.Bool.{Bool, true, cond, not, _&&_}
 use lib.ListN.{length, getD, drop}
+use lib.Dec.{ltb}
 use Rattle.words.specs.Overwrite.{overwrite}
-use Rattle.store.specs.Trees.{Lent, Store}
-use Rattle.command.specs.Stream.{runOne}
+use Rattle.store.specs.Trees.{Lent}
 use Rattle.command.specs.Pieces as piece
-use Rattle.command.specs.Pieces.{commandLength}
+use Rattle.command.specs.Pieces.{mustWait}
 use Rattle.pieces.specs.declared.pieces.Fed.{Fed}
 
--- The command at a place of a piece, with what is taken and written counted from the front: the bytes written, whether the run is over, the head and
--- every lent word afterwards are those that a definition says
-pub record RanAt (s : Store) (input : List ℕ) (at : ℕ) (r : Fed) (from : ℕ) (before out : List ℕ) (lent : Lent) : Type 0 where
-  pub taken : r .taken ≡ at + commandLength (getD input at 0) (drop (at + 1) input)
-  pub inside : r .taken ≤ length input
-  pub output : out ≡ overwrite before from (runOne s (getD input at 0) (drop (at + 1) input) .output)
-  pub size : r .written ≡ from + length (runOne s (getD input at 0) (drop (at + 1) input) .output)
-  pub over : r .over ≡ not (runOne s (getD input at 0) (drop (at + 1) input) .on)
-  pub head : r .head ≡ runOne s (getD input at 0) (drop (at + 1) input) .store .head
-  pub lent-is : lent ≡ runOne s (getD input at 0) (drop (at + 1) input) .store .lent
+-- The command at a place of a piece runs where the run goes on, there is one, and it does not wait
+unfoldable pub runsAt : (on : Bool) (room : ℕ) (ended : Bool) → List ℕ → ℕ → Bool
+runsAt on room ended input at = on && (ltb at (length input) && not (mustWait room ended (getD input at 0) (drop (at + 1) input)))
 
--- The same of a piece
+-- Where none runs, the run is over behind a command that ends it and at the end of the input
+unfoldable pub isOver : (on : Bool) (at count : ℕ) (ended : Bool) → Bool
+isOver on at count ended = cond on (not (ltb at count) && ended) true
+
+-- A piece: how many bytes are taken and written, the bytes written, whether the run is over, the head and every lent word afterwards are those that a
+-- definition says
 pub record FedAs (a : piece.Fed) (r : Fed) (before out : List ℕ) (lent : Lent) : Type 0 where
   pub taken : r .taken ≡ a .taken
   pub output : out ≡ overwrite before 0 (a .output)

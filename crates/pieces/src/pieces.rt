@@ -4,14 +4,14 @@ use framing::command_length;
 use framing::goes_on;
 use framing::must_wait;
 use interpret::run_command;
+use store::Answer;
 use store::Head;
+use updates::Reply;
 ghost use mathlib.Core.Path.{_≡_};
-ghost use Prim.Native.Nat.{_+_, _≤_, _<_};
-ghost use lib.ListN.{length, getD, drop};
+ghost use lib.ListN.{length};
 ghost use Rattle.store.specs.Trees.{Lent, lentOf, Store, storeOf};
-ghost use Rattle.command.specs.Stream.{longestAnswer};
-ghost use Rattle.command.specs.Pieces.{mustWait, runPiece};
-ghost use Rattle.pieces.specs.Fed.{RanAt, FedAs};
+ghost use Rattle.command.specs.Pieces.{runPiece};
+ghost use Rattle.pieces.specs.Fed.{runsAt, isOver, FedAs};
 
 // What a piece leaves: the head for the next one, how many bytes were taken and written, and whether the run is over.
 pub struct Fed {
@@ -21,56 +21,32 @@ pub struct Fed {
     pub over: bool,
 }
 
-// Whether the command at a place of the piece waits.
-fn waits_at(input: &[u8], at: usize, ended: bool, room: usize) -> bool
-    requires { ⌜ at < length (now input) ⌝ }
-    ensures { λ r. ⌜ r ≡ mustWait room ended (getD (now (input .entry)) at 0) (drop (at + 1) (now (input .entry))) ⌝ }
+// Whether the command at a place of the piece runs now: the run goes on, there is one, and it does not wait.
+fn runs_at(on: bool, input: &[u8], at: usize, ended: bool, room: usize) -> bool
+    ensures { λ r. ⌜ r ≡ runsAt on room ended (now (input .entry)) at ⌝ }
 {
+    if !on {
+        return false;
+    }
+    if input.len() <= at {
+        return false;
+    }
     let code = input[at];
     let behind = at + 1;
-    must_wait(code, &input[behind..], ended, room)
+    !must_wait(code, &input[behind..], ended, room)
 }
 
-// Runs the command at a place of the piece, and writes what it says into `out` from a place on.
-fn run_at(
-    head: Head,
-    start_table: &mut [u64],
-    start_roots: &mut [u64],
-    end_table: &mut [u64],
-    end_roots: &mut [u64],
-    input: &[u8],
-    at: usize,
-    out: &mut [u8],
-    from: usize,
-) -> Fed
-    requires { ⌜ at < length (now input) ⌝ }
-    requires { ⌜ from + longestAnswer ≤ length (now out) ⌝ }
-    ensures { λ r. do
-      let s : Store = storeOf head (now («start_table» .entry)) (now («start_roots» .entry)) (now («end_table» .entry)) (now («end_roots» .entry))
-      let left : Lent = lentOf (now («start_table» .exit)) (now («start_roots» .exit)) (now («end_table» .exit)) (now («end_roots» .exit))
-      ⌜ RanAt s (now (input .entry)) at r from (now (out .entry)) (now (out .exit)) left ⌝ }
+// Whether the run is over at a place where no command runs.
+fn is_over(on: bool, at: usize, count: usize, ended: bool) -> bool
+    ensures { λ r. ⌜ r ≡ isOver on at count ended ⌝ }
 {
-    let code = input[at];
-    let behind = at + 1;
-    let rest = &input[behind..];
-    let reply = run_command(
-        head,
-        start_table,
-        start_roots,
-        end_table,
-        end_roots,
-        code,
-        rest,
-    );
-    let answer = reply.answer;
-    let written = put_answer(out, from, answer);
-    let after = reply.head;
-    Fed {
-        head: after,
-        taken: at + command_length(code, rest),
-        written,
-        over: !goes_on(code, rest),
+    if !on {
+        return true;
     }
+    if at < count {
+        return false;
+    }
+    ended
 }
 
 // Runs as much of a piece as it may. `ended` says that no byte comes after these: only then is a command that lacks operands cut short.
@@ -89,37 +65,39 @@ pub fn run_piece(
       let left : Lent = lentOf (now («start_table» .exit)) (now («start_roots» .exit)) (now («end_table» .exit)) (now («end_roots» .exit))
       ⌜ FedAs (runPiece (length (now (out .entry))) ended s (now (input .entry))) r (now (out .entry)) (now (out .exit)) left ⌝ }
 {
-    let mut fed = Fed {
+    // A head is 1 KB, and each struct that holds one gets its own place on the stack. So the loop keeps the head in the reply alone, where a command
+    // leaves it for the next one, and has one way out. The answer set here is never written.
+    let mut reply = Reply {
+        answer: Answer::Opened,
         head,
-        taken: 0,
-        written: 0,
-        over: false,
     };
-    while fed.taken < input.len() {
-        if waits_at(input, fed.taken, ended, out.len() - fed.written) {
-            return fed;
-        }
-        let now = fed.head;
-        fed = run_at(
+    let mut taken: usize = 0;
+    let mut written: usize = 0;
+    let mut on = true;
+    while runs_at(on, input, taken, ended, out.len() - written) {
+        let code = input[taken];
+        let behind = taken + 1;
+        let rest = &input[behind..];
+        let now = reply.head;
+        reply = run_command(
             now,
             start_table,
             start_roots,
             end_table,
             end_roots,
-            input,
-            fed.taken,
-            out,
-            fed.written,
+            code,
+            rest,
         );
-        if fed.over {
-            return fed;
-        }
+        let answer = reply.answer;
+        written = put_answer(out, written, answer);
+        taken += command_length(code, rest);
+        on = goes_on(code, rest);
     }
-    let left = fed.head;
+    let after = reply.head;
     Fed {
-        head: left,
-        taken: fed.taken,
-        written: fed.written,
-        over: ended,
+        head: after,
+        taken,
+        written,
+        over: is_over(on, taken, input.len(), ended),
     }
 }
