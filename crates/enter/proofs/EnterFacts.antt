@@ -10,7 +10,7 @@ use Rattle.tree.specs.Row.{word, rowStart, rowsOf, pageWords, rowLimit}
 use Rattle.tree.specs.Limits.{mostRows, mostAppended}
 use Rattle.tree.specs.KeyOrder.{Placed}
 use Rattle.tree.specs.TrueValue.{Search, none, one}
-use Rattle.page.proofs.PageReadings.{header-facts}
+use Rattle.live.proofs.PageReadings.{header-facts}
 use Rattle.tree.specs.Tree.{Tree, pageAt, levelOf, metAt}
 use Rattle.tree.specs.RowSteps.{Point, rowAround, gainRows, leafRows, relinkRow}
 use Rattle.tree.specs.declared.types.Became.{Became}

@@ -15,7 +15,7 @@ use Rattle.tree.specs.Limits.{mostRows}
 use Rattle.tree.specs.Edit.{withRows}
 use Rattle.tree.specs.Fresh.{zeros}
 use Rattle.tree.proofs.PageCodec.{Fits, with-level, with-count, with-range, with-rows}
-use Rattle.page.proofs.WithRows.{Holds, with-holds, is-with}
+use Rattle.rows.proofs.WithRows.{Holds, with-holds, is-with}
 use Rattle.tree.specs.declared.types.TreeUse.{TreeUse}
 use Rattle.tree.specs.Tree.{Tree, pageAt, putPage}
 use Rattle.tree.specs.declared.types.Became.the-variants.{Stays}

@@ -23,7 +23,7 @@ use Rattle.tree.specs.Fresh.{newRow}
 use Rattle.tree.proofs.Places.{AtPlace, order-places}
 use Rattle.tree.proofs.Searches.{first-has, first-passes}
 use Rattle.tree.proofs.PageCodec.{Fits, row-fits, rows-fit, rows-length, row-at-place, with-length, with-count, with-rows}
-use Rattle.page.proofs.WithRows.{with-same, with-with}
+use Rattle.rows.proofs.WithRows.{with-same, with-with}
 use Rattle.tree.specs.RowSteps.{Point, gained, cutAt, linkedTo, replaceRow, rowAround, rowFrom, gainIn, gainRows, cutIn, leafRows, relinkRow}
 use Rattle.tree.specs.declared.types.Child.{Child}
 use Rattle.tree.specs.declared.types.Became.{Became}

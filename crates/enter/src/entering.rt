@@ -1,9 +1,9 @@
 // Entering a point: the descent calls itself on the child page, and each page is edited on the way back up.
 use page::Page;
-use page::page_at;
 use ranges::Place;
 use row_steps::Change;
 use row_steps::change_words;
+use rows::page_at;
 use split::Done;
 use split::split_page;
 use tree::Became;
@@ -142,7 +142,7 @@ pub fn enter_from(
     let Place::At(place) = inner else {
         return change_page(table, used, 0, page, Change::Lowest(gain), value, t);
     };
-    let row = page::row_at(page_at(table, page), place);
+    let row = rows::row_at(page_at(table, page), place);
     let below = enter_from(table, used, level - 1, row.child, k, value, t);
     let became = below.became;
     let above = Change::Above {

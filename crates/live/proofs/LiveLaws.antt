@@ -16,11 +16,11 @@ use Rattle.words.specs.Value as value
 use Rattle.tree.specs.Row.{rowStart, rowsFrom, rowLimit, live, valueStart}
 use Rattle.tree.specs.RowEdits.{rowIn}
 use Rattle.tree.specs.KeyOrder.{Placed, keepIf, livePlaced}
-use Rattle.page.specs.Entries.{placedAt}
+use Rattle.rows.specs.RowPlaces.{placedAt}
 use Rattle.ranges.specs.KeyRanges.{rangeOf, rangeLow, placeIn}
 use Rattle.live.specs.LiveRows.{endedBy, liveRows, Listed}
 use Rattle.live.specs.LiveHeld.{addBelow}
-use Rattle.page.proofs.EntryLaws.{liveFrom, live-more}
+use Rattle.rows.proofs.SeatedRows.{liveFrom, live-more}
 use Rattle.words.proofs.LoopLaws.{drop-here, drop-none}
 
 -- One comparison of whole words tells whether an end is after t

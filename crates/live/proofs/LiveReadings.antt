@@ -40,11 +40,11 @@ use Rattle.live.specs.declared.test.Tested.{Tested}
 use Rattle.live.specs.declared.test.Tested.the-variants.{Spoiled, Sound}
 use Rattle.live.specs.Tested.{TestedAs, ListsFit, heldTested, opened}
 use Rattle.live.specs.LiveHeld.{addBelow, heldAtPlace, heldAmong, surveyAmong}
-use Rattle.page.proofs.EntryLaws.{Seated, low-fits, high-fits, live-more, live-seated, liveFrom, order-seated}
+use Rattle.rows.proofs.SeatedRows.{Seated, low-fits, high-fits, live-more, live-seated, liveFrom, order-seated}
 use Rattle.tree.proofs.Searches.{first-has}
 use Rattle.tree.proofs.Sorted.{sort-length}
 use Rattle.tree.proofs.UseLaws.{in-use-inside}
-use Rattle.page.proofs.PageReadings.{header-facts, sound-few}
+use Rattle.live.proofs.PageReadings.{header-facts, sound-few}
 use Rattle.ranges.proofs.NearestLaws.{Short, range-low-is, range-high-is, rowFits, least-inside, place-is-first}
 use Rattle.ranges.proofs.RangeTiles.{tiles-once, once-tiles}
 
@@ -89,7 +89,7 @@ module _ (page : List ℕ) (t n : ℕ) (few : n ≤ rowLimit) where
   seated = live-seated page n t 0 n (omega arith)
 
   short : (x : Placed) → Seated page n x → Short x
-  short x s = record { low-short = low-fits page n (omega arith) x s; high-short = high-fits page n (omega arith) x s }
+  short x s = record { low-short = low-fits page n x s; high-short = high-fits page n x s }
 
   pub rows-short : All Short (liveRows t page n)
   rows-short = all-map (Seated page n) Short short (liveRows t page n) seated

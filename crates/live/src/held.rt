@@ -2,12 +2,12 @@
 use crate::test::Tested;
 use crate::test::open_page;
 use page::Page;
-use page::page_at;
-use page::row_at;
-use page::row_start;
 use ranges::Place;
 use ranges::find_holder;
 use ranges::range_low;
+use rows::page_at;
+use rows::row_at;
+use rows::row_start;
 use tree::Held;
 use tree::Row;
 use tree::TreeUse;

@@ -1,8 +1,8 @@
 // The rows of a page that are live at a tick, as two arrays in the order of the rows' places: their key ranges, and their places.
 // They are not put in key order. Whether they hold each key once, which of them holds a key, and what the lower ones add up to is found
 // without, by loops over small numbers that a processor takes several at a time.
-use page::row_start;
 use ranges::range_of;
+use rows::row_start;
 ghost use mathlib.Core.Path.{_≡_};
 ghost use mathlib.Core.Bool.{cond};
 ghost use Prim.Native.Nat.{_+_, _≤_};

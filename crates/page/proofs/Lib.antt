@@ -1,8 +1,2 @@
--- Laws of one page's code: key order, edits of rows, and pages written whole.
-pub mod InsertLaws
-pub mod EntryLaws
-pub mod OrderRowLaws
-pub mod PageReadings
-pub mod EditLaws
+-- Laws of pages written whole.
 pub mod FreshLaws
-pub mod WithRows

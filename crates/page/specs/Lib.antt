@@ -1,3 +1,2 @@
--- One page as the code has it: the key order of its live rows, a page as a value.
-pub mod Entries
+-- A page as a value, and the words that it stands for.
 pub mod PageValue

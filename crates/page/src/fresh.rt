@@ -1,7 +1,7 @@
 // A page as a value: what a call builds before it writes a page whole.
-use crate::edit::put_row;
-use crate::row::new_row;
-use crate::row::row_start;
+use rows::new_row;
+use rows::put_row;
+use rows::row_start;
 use tree::Row;
 use words::Value;
 ghost use mathlib.Core.Path.{_≡_};

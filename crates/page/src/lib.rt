@@ -1,22 +1,5 @@
-// One page, on its own words: its rows, edits of rows, key order, fresh pages.
-// A function here is lent the words of one page and sees no other page; only `page_at`, which cuts these words out of the table, is lent the table.
-// `in_use` tells beforehand whether the page is one to be met.
-mod edit;
+// A page as a value, with the sizes of the page kind as its constants: made empty or as a two-row root, given rows, and written whole into the words of
+// one page.
 mod fresh;
-mod order;
-mod row;
-mod table;
 
-pub use edit::append_row;
-pub use edit::end_row;
-pub use edit::put_row;
 pub use fresh::Page;
-pub use order::entry_place;
-pub use order::key_order;
-pub use row::born_at;
-pub use row::gained_row;
-pub use row::new_row;
-pub use row::row_at;
-pub use row::row_start;
-pub use table::in_use;
-pub use table::page_at;

@@ -17,9 +17,9 @@ use Rattle.tree.specs.TrueValue.{Search, none, one, first}
 use Rattle.tree.specs.PageTest.{soundAt}
 use Rattle.ranges.specs.Nearest.{placeFound}
 use Rattle.live.specs.Survey.{surveyOf, isAround}
-use Rattle.page.proofs.EntryLaws.{Seated, order-seated}
+use Rattle.rows.proofs.SeatedRows.{Seated, order-seated}
 use Rattle.tree.proofs.Searches.{first-has, first-passes}
-use Rattle.page.proofs.PageReadings.{sound-few}
+use Rattle.live.proofs.PageReadings.{sound-few}
 use Rattle.plan.specs.declared.planning.Counts.{Counts}
 use Rattle.plan.specs.declared.planning.Met.{Met}
 use Rattle.plan.specs.declared.planning.Met.the-variants as met

@@ -15,7 +15,7 @@ use Rattle.tree.specs.PageTest.{soundAt}
 use Rattle.ranges.specs.Nearest.{placeFound}
 use Rattle.live.specs.Survey.{startsFrom, isAround, surveyOf}
 use Rattle.tree.proofs.Lists.{count}
-use Rattle.page.proofs.EntryLaws.{Seated, order-seated}
+use Rattle.rows.proofs.SeatedRows.{Seated, order-seated}
 use Rattle.tree.proofs.Searches.{first-has}
 use Rattle.plan.specs.declared.planning.Counts.{Counts}
 use Rattle.plan.specs.declared.planning.Met.{Met}

@@ -57,7 +57,7 @@ fn appended_for(words: &[u64], place: Place, t: u32) -> usize
     let Place::At(at) = place else {
         return 0;
     };
-    let row = page::row_at(words, at);
+    let row = rows::row_at(words, at);
     if row.birth == t {
         return 0;
     }
@@ -81,7 +81,7 @@ fn meet_words(words: &[u64], survey: Survey, t: u32) -> Met
     match inner {
         Place::Missing => Met::Lowest(counts),
         Place::At(at) => {
-            let row = page::row_at(words, at);
+            let row = rows::row_at(words, at);
             Met::Around { counts, row }
         }
     }
@@ -106,7 +106,7 @@ fn meet_page(
     let Surveyed::Sound(survey) = surveyed else {
         return Met::Spoiled;
     };
-    meet_words(page::page_at(table, page), survey, t)
+    meet_words(rows::page_at(table, page), survey, t)
 }
 
 // How many pages take the rows of a page that has so many rows, and so many live ones, after the steps.

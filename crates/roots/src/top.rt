@@ -1,6 +1,6 @@
 // The test of a root: whether a descent may start at its page.
-use page::in_use;
-use page::page_at;
+use rows::in_use;
+use rows::page_at;
 use tree::Root;
 use tree::TreeUse;
 ghost use mathlib.Core.Path.{_≡_};

@@ -14,7 +14,7 @@ use Rattle.tree.specs.KeyOrder.{Placed}
 use Rattle.tree.specs.Edit.{ended, bornAt, withRows}
 use Rattle.tree.proofs.Lists.{all-set, all-append}
 use Rattle.tree.proofs.PageCodec.{Fits, row-fits, rows-fit, rows-length, with-length, with-count, with-rows}
-use Rattle.page.proofs.WithRows.{put-is-with, append-is-with, with-with}
+use Rattle.rows.proofs.WithRows.{put-is-with, append-is-with, with-with}
 use Rattle.tree.specs.RowSteps.{replaceRow}
 use Rattle.row_steps.specs.PageEdits.{replaceWords}
 

@@ -1,7 +1,7 @@
 // The steps of an entry on the words of one page.
-use page::born_at;
-use page::gained_row;
 use ranges::Place;
+use rows::born_at;
+use rows::gained_row;
 use tree::Became;
 use tree::Child;
 use tree::Row;
@@ -67,11 +67,11 @@ fn replace_row(page: &mut [u64], place: usize, old: Row, new: Row, t: u32)
     ensures { λ _. ⌜ now (page .exit) ≡ replaceWords t (now (page .entry)) place old new ⌝ }
 {
     if old.birth == t {
-        page::put_row(page, place, new);
+        rows::put_row(page, place, new);
         return;
     }
-    page::end_row(page, place, t);
-    page::append_row(page, born_at(new, t));
+    rows::end_row(page, place, t);
+    rows::append_row(page, born_at(new, t));
 }
 
 // The row at a place returns with a point's value added.
@@ -80,7 +80,7 @@ fn gain_at(page: &mut [u64], place: usize, value: Value, t: u32)
     requires { ⌜ rowStart (word (now page) 1 + 1) ≤ length (now page) ⌝ }
     ensures { λ _. ⌜ now (page .exit) ≡ gainWords t value (now (page .entry)) (Place.At place) ⌝ }
 {
-    let old = page::row_at(page, place);
+    let old = rows::row_at(page, place);
     replace_row(page, place, old, gained_row(old, value), t);
 }
 
@@ -101,9 +101,9 @@ fn cut_at(page: &mut [u64], place: usize, k: u16, value: Value, t: u32)
     requires { ⌜ rowStart (word (now page) 1 + 2) ≤ length (now page) ⌝ }
     ensures { λ _. ⌜ now (page .exit) ≡ cutWords t k value (now (page .entry)) place ⌝ }
 {
-    let old = page::row_at(page, place);
+    let old = rows::row_at(page, place);
     replace_row(page, place, old, cut_row(old, k), t);
-    page::append_row(page, page::new_row(t, k, old.high, 0, value));
+    rows::append_row(page, rows::new_row(t, k, old.high, 0, value));
 }
 
 // A leaf takes the point.
@@ -127,9 +127,9 @@ fn link_halves(page: &mut [u64], place: usize, old: Row, lower: Child, upper: Ch
 {
     replace_row(page, place, old, linked_row(old, lower), t);
     let nothing = Value::zero();
-    page::append_row(
+    rows::append_row(
         page,
-        page::new_row(t, upper.low, upper.high, upper.page, nothing),
+        rows::new_row(t, upper.low, upper.high, upper.page, nothing),
     );
 }
 
@@ -151,7 +151,7 @@ fn gain_and_link(page: &mut [u64], place: usize, gain: Place, became: Became, va
     requires { ⌜ rowStart (word (now page) 1 + mostAppended) ≤ length (now page) ⌝ }
     ensures { λ _. ⌜ now (page .exit) ≡ changeWords t value (now (page .entry)) (Change.Above place gain became) ⌝ }
 {
-    let row = page::row_at(page, place);
+    let row = rows::row_at(page, place);
     gain_row(page, gain, value, t);
     link_row(page, place, row, became, t);
 }

@@ -17,7 +17,7 @@ use Rattle.page.specs.declared.fresh.Page.{Page}
 use Rattle.tree.specs.Row.{word, rowLimit, rowStart, valueStart}
 use Rattle.tree.specs.TrueValue.{totalWhere}
 use Rattle.tree.specs.Fresh.{freshPage}
-use Rattle.page.specs.Entries.{entryPlace}
+use Rattle.key_order.specs.Entries.{entryPlace}
 use Rattle.page.specs.PageValue.{pageRows, encodePage, emptyPage, withRow, noRows}
 use Rattle.words.proofs.LoopLaws.{drop-here}
 use Rattle.tree.proofs.OrderTotals.{total-stored}

@@ -18,10 +18,11 @@ use Rattle.tree.specs.Edit.{bornAt}
 use Rattle.tree.specs.Fresh.{freshPage}
 use Rattle.tree.proofs.Lists.{all-drop, map-take, map-drop}
 use Rattle.page.specs.PageValue.{encodePage, emptyPage}
-use Rattle.page.specs.Entries.{entryOf, entryPlace, InPage}
-use Rattle.page.proofs.EntryLaws.{Seated, seated-place, order-seated}
+use Rattle.key_order.specs.Entries.{entryOf, entryPlace, InPage}
+use Rattle.rows.proofs.SeatedRows.{Seated, order-seated}
+use Rattle.key_order.proofs.EntryLaws.{seated-place}
 use Rattle.words.proofs.LoopLaws.{drop-here}
-use Rattle.page.proofs.PageReadings.{in-page, entries-are}
+use Rattle.key_order.proofs.OrderReadings.{in-page, entries-are}
 use Rattle.tree.specs.declared.types.TreeUse.{TreeUse}
 use Rattle.tree.specs.Tree.{putPage}
 use Rattle.tree.specs.declared.types.Became.the-variants.{Copied, Halved}

@@ -15,7 +15,7 @@ use Rattle.tree.specs.RowEdits.{rowIn}
 use Rattle.tree.specs.Edit.{bornAt}
 use Rattle.tree.specs.Fresh.{freshPage}
 use Rattle.page.specs.PageValue.{withRow}
-use Rattle.page.specs.Entries.{entryPlace, Ordered}
+use Rattle.key_order.specs.Entries.{entryPlace, Ordered}
 use Rattle.tree.specs.declared.types.TreeUse.{TreeUse}
 use Rattle.tree.specs.Tree.{putPage}
 use Rattle.tree.specs.declared.types.Became.the-variants.{Stays}

@@ -1,8 +1,8 @@
 // The pages that an overflow makes. The rows of the page that overflowed are copied in key order from its words, of which `order` has the entries.
 use crate::done::Done;
 use page::Page;
-use page::born_at;
-use page::gained_row;
+use rows::born_at;
+use rows::gained_row;
 use tree::Became;
 use tree::Child;
 use tree::TreeUse;
@@ -14,7 +14,7 @@ ghost use Rattle.words.specs.Value as value;
 ghost use Rattle.tree.specs.Row.{word, headerWords, pageWords, rowLimit, copyLimit};
 ghost use Rattle.tree.specs.Limits.{mostRows, mostMade};
 ghost use Rattle.page.specs.PageValue.{encodePage, emptyPage};
-ghost use Rattle.page.specs.Entries.{InPage};
+ghost use Rattle.key_order.specs.Entries.{InPage};
 ghost use Rattle.tree.specs.Use.{takenPage};
 ghost use Rattle.tree.specs.Taking.{HasPages, Takes};
 ghost use Rattle.tree.specs.Tree.{putPage};
@@ -46,7 +46,7 @@ fn filled(
     let mut page = Page::empty(words[0], low, high, t);
     let mut at = from;
     while at < to {
-        let row = page::row_at(words, page::entry_place(order[at]));
+        let row = rows::row_at(words, key_order::entry_place(order[at]));
         let place = page.count;
         page.rows[place] = born_at(row, t);
         page.count = place + 1;
@@ -68,7 +68,7 @@ fn total_of(words: &[u64], order: &[u64], from: usize, to: usize) -> Value
     let mut total = Value::zero();
     let mut at = from;
     while at < to {
-        let row = page::row_at(words, page::entry_place(order[at]));
+        let row = rows::row_at(words, key_order::entry_place(order[at]));
         total = total.plus(row.value);
         at += 1;
     }
@@ -172,7 +172,7 @@ fn halve_rows(
     let range = words[2];
     let low = words::low_key(range);
     let high = words::high_key(range);
-    let middle = page::row_at(words, page::entry_place(order[cut])).low;
+    let middle = rows::row_at(words, key_order::entry_place(order[cut])).low;
     let below = total_of(words, order, start, cut);
     let nothing = Value::zero();
     put_rows(
@@ -223,7 +223,7 @@ pub fn split_page(table: &mut [u64], used: TreeUse, made: u32, words: &[u64], t:
     ensures { λ r. ⌜ r .became ≡ splitWords (now (table .entry)) used made (now (words .entry)) t .became ⌝ }
 {
     let mut order = [0u64; Page::MOST_ROWS];
-    let start = page::key_order(words, words[1] as usize, t, &mut order);
+    let start = key_order::key_order(words, words[1] as usize, t, &mut order);
     let number = taken_page(used, made);
     let range = words[2];
     let low = words::low_key(range);

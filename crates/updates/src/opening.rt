@@ -23,7 +23,7 @@ fn open_tree(table: &mut [u64], roots: &mut [u64])
     ensures { λ _. ⌜ now (table .exit) ≡ openedTree (now (table .entry)) (now (roots .entry)) .table ⌝ }
     ensures { λ _. ⌜ now (roots .exit) ≡ openedTree (now (table .entry)) (now (roots .entry)) .roots ⌝ }
 {
-    let row = page::new_row(0, 0, words::KEY_LIMIT, 0, Value::zero());
+    let row = rows::new_row(0, 0, words::KEY_LIMIT, 0, Value::zero());
     put_page(
         table,
         0,

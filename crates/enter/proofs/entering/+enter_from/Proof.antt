@@ -26,8 +26,8 @@ use Rattle.enter.proofs.entering.enter_from.Kinds as enter-from-kinds
 use Rattle.enter.proofs.entering.+enter_from.Lts-enter_from as enter-from-lts
 use Rattle.enter.proofs.entering.enter_leaf.Reads as enter-leaf-reads
 use Rattle.enter.proofs.entering.change_page.Reads as change-page-reads
-use Rattle.page.proofs.page_at.Reads as page-at-reads
-use Rattle.page.proofs.row_at.Reads as row-at-reads
+use Rattle.rows.proofs.page_at.Reads as page-at-reads
+use Rattle.rows.proofs.row_at.Reads as row-at-reads
 use Rattle.live.proofs.survey_page.Reads as survey-page-reads
 use Rattle.enter.proofs.entering.+enter_from.{statement}
 use Rattle.enter.proofs.entering.+enter_from.Tie.{close}

@@ -20,7 +20,7 @@ use Rattle.enter.proofs.entering.change_page.Reads as reads
 use Rattle.enter.proofs.entering.change_page.Lts as lts
 use Rattle.enter.proofs.entering.copy_words.Reads as copy-words-reads
 use Rattle.enter.proofs.entering.settle_page.Reads as settle-page-reads
-use Rattle.page.proofs.page_at.Reads as page-at-reads
+use Rattle.rows.proofs.page_at.Reads as page-at-reads
 use Rattle.row_steps.proofs.change_words.Reads as change-words-reads
 
 -- What the functions that are called ask and tell

@@ -10,7 +10,7 @@ use Rattle.tree.specs.RowEdits.{rowIn}
 use Rattle.tree.specs.Edit.{bornAt}
 use Rattle.page.specs.declared.fresh.Page.{Page}
 use Rattle.page.specs.PageValue.{withRow, emptyPage}
-use Rattle.page.specs.Entries.{entryPlace, InPage}
+use Rattle.key_order.specs.Entries.{entryPlace, InPage}
 use Rattle.tree.proofs.Lists.{length-mapped}
 use Rattle.words.proofs.LoopLaws.{all-here}
 use Rattle.split.specs.SplitWords.{between, copyOf, fillPage, gainPage}

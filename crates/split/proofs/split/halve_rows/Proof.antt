@@ -12,7 +12,7 @@ use Rattle.tree.specs.Row.{word, rowStart, rowWords, copyLimit}
 use Rattle.tree.specs.Limits.{mostRows}
 use Rattle.tree.specs.RowEdits.{rowIn}
 use Rattle.page.specs.PageValue.{emptyPage, encodePage}
-use Rattle.page.specs.Entries.{entryPlace}
+use Rattle.key_order.specs.Entries.{entryPlace}
 use Rattle.words.proofs.LoopLaws.{all-here}
 use Rattle.tree.specs.Tree.{putPage}
 use Rattle.tree.specs.Overflow.{lowerHalf}

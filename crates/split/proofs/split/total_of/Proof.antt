@@ -8,7 +8,7 @@ use Rattle.words.specs.declared.value.Value.{Value}
 use Rattle.words.specs.Value.{zero, plus}
 use Rattle.tree.specs.Row.{rowStart, rowWords}
 use Rattle.tree.specs.RowEdits.{rowIn}
-use Rattle.page.specs.Entries.{entryPlace, InPage}
+use Rattle.key_order.specs.Entries.{entryPlace, InPage}
 use Rattle.words.proofs.LoopLaws.{all-here}
 use Rattle.split.specs.SplitWords.{between, addRows}
 use Rattle.split.proofs.SplitLaws.{add-more, add-none}

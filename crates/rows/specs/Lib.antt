@@ -1,0 +1,2 @@
+-- Rows as the code finds them in a page.
+pub mod RowPlaces
