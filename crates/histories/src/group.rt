@@ -1,6 +1,6 @@
 // A group of histories of one shape: twenty on small parts of the memory, on which pages and places for roots run out, and one on the whole.
-use crate::counts::Counts;
 use crate::history::history;
+use observed::Counts;
 use random_calls::Keys;
 use random_calls::NUMBERS;
 use random_calls::Pace;

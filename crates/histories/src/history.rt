@@ -1,11 +1,11 @@
 // A history: calls made on a store and put to the book, and their answers compared.
-use crate::counts::Counts;
-use crate::counts::refusal_of;
-use crate::counts::same;
-use crate::left_behind::head_agrees;
 use crate::outcome::Outcome;
 use crate::outcome::made;
-use crate::paths::height;
+use observed::Counts;
+use observed::head_agrees;
+use observed::height;
+use observed::refusal_of;
+use observed::same;
 use pass_book::Call;
 use pass_book::PassBook;
 use pass_book::book_turn;

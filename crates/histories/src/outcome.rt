@@ -1,10 +1,10 @@
 // A call made on the store, and all that is seen of it.
 use crate::call::make;
-use crate::counts::refusal_of;
-use crate::left_behind::memory_sum;
-use crate::paths::height;
-use crate::paths::pages_opened;
-use crate::paths::word_at;
+use observed::height;
+use observed::memory_sum;
+use observed::pages_opened;
+use observed::refusal_of;
+use observed::word_at;
 use pass_book::Call;
 use store::Answer;
 use store::Head;

@@ -1,8 +1,8 @@
 // Random histories of the store against the pass book. The program writes what was compared and what differed.
 mod report;
 
-use histories::Counts;
 use histories::group_of;
+use observed::Counts;
 use random_calls::NUMBERS;
 use report::say;
 use report::say_counts;

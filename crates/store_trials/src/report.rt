@@ -1,6 +1,6 @@
 // What the program writes.
-use histories::Counts;
 use libc::STDOUT_FILENO;
+use observed::Counts;
 
 pub fn say(text: &[u8]) {
     io::write_all(STDOUT_FILENO, text);

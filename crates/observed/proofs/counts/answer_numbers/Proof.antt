@@ -1,8 +1,8 @@
 use mathlib.Core.Path.{ap, sym}
-use Rattle.histories.specs.Answers.{answerNumbers}
+use Rattle.observed.specs.Answers.{answerNumbers}
 use borrow.Author.Needs.{needs}
-use Rattle.histories.proofs.counts.answer_numbers.Statement.{statement}
-use Rattle.histories.proofs.counts.answer_numbers.Tie as tie
+use Rattle.observed.proofs.counts.answer_numbers.Statement.{statement}
+use Rattle.observed.proofs.counts.answer_numbers.Tie as tie
 
 enum-known-answer : tie.Need-enum-known-answer
 enum-known-answer c = search needs

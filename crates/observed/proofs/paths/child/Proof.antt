@@ -1,8 +1,8 @@
 use Prim.Native.Nat.{_-_, _≤_, _^_}
 use Rattle.tree.specs.Row.{rowLimit}
 use borrow.Author.Needs.{needs}
-use Rattle.histories.proofs.paths.child.Statement.{statement}
-use Rattle.histories.proofs.paths.child.Tie as tie
+use Rattle.observed.proofs.paths.child.Statement.{statement}
+use Rattle.observed.proofs.paths.child.Tie as tie
 
 abbrev Inv-loop : tie.InvT-loop
 Inv-loop table page t k from rows row₀ row =

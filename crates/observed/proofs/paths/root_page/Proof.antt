@@ -1,7 +1,7 @@
 use Prim.Native.Nat.{_≤_}
 use borrow.Author.Needs.{needs}
-use Rattle.histories.proofs.paths.root_page.Statement.{statement}
-use Rattle.histories.proofs.paths.root_page.Tie as tie
+use Rattle.observed.proofs.paths.root_page.Statement.{statement}
+use Rattle.observed.proofs.paths.root_page.Tie as tie
 
 abbrev Inv-loop : tie.InvT-loop
 Inv-loop roots used t left₀ left =

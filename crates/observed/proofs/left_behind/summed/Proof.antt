@@ -1,8 +1,8 @@
 use Prim.Native.Nat.{_-_, _≤_}
 use lib.ListN.{length}
 use borrow.Author.Needs.{needs}
-use Rattle.histories.proofs.left_behind.summed.Statement.{statement}
-use Rattle.histories.proofs.left_behind.summed.Tie as tie
+use Rattle.observed.proofs.left_behind.summed.Statement.{statement}
+use Rattle.observed.proofs.left_behind.summed.Tie as tie
 
 abbrev Inv-loop : tie.InvT-loop
 Inv-loop slice before sum₀ at₀ sum at =

@@ -1,7 +1,7 @@
 -- An answer as numbers: its kind, and the fields that it has.
 use Rattle.store.specs.declared.types.Answer.{Answer}
 use Rattle.store.specs.declared.types.Answer.the-variants as said
-use Rattle.histories.specs.declared.counts.AnswerNumbers.{AnswerNumbers}
+use Rattle.observed.specs.declared.counts.AnswerNumbers.{AnswerNumbers}
 
 abbrev pub answerNumbers : Answer → AnswerNumbers
 answerNumbers (said.Refused refusal) = record { kind = 0; number = refusal; sum = 0; pages = 0 }

@@ -1,7 +1,7 @@
 use Prim.Native.Nat.{_-_, _≤_, _<_, _^_}
 use borrow.Author.Needs.{needs}
-use Rattle.histories.proofs.paths.path_length.Statement.{statement}
-use Rattle.histories.proofs.paths.path_length.Tie as tie
+use Rattle.observed.proofs.paths.path_length.Statement.{statement}
+use Rattle.observed.proofs.paths.path_length.Tie as tie
 
 abbrev Inv-loop : tie.InvT-loop
 Inv-loop table roots used t k page₀ length₀ page length =

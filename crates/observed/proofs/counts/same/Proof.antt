@@ -1,10 +1,10 @@
 use mathlib.Core.Path.{sym}
 use mathlib.Core.Bool.{true≢false}
 use borrow.Author.Tests.{eqb-true}
-use Rattle.histories.proofs.SameNumbers.{same-answers}
+use Rattle.observed.proofs.SameNumbers.{same-answers}
 use borrow.Author.Needs.{needs}
-use Rattle.histories.proofs.counts.same.Statement.{statement}
-use Rattle.histories.proofs.counts.same.Tie as tie
+use Rattle.observed.proofs.counts.same.Statement.{statement}
+use Rattle.observed.proofs.counts.same.Tie as tie
 
 answer-numbers-requires : tie.Need-answer-numbers-requires
 answer-numbers-requires c κs = search needs

@@ -3,8 +3,8 @@ use native.Mathlib.Omega.{arith}
 use mathlib.Core.Path.{_≡_, refl, ap}
 use Rattle.store.specs.declared.types.Answer.{Answer}
 use Rattle.store.specs.declared.types.Answer.the-variants as said
-use Rattle.histories.specs.declared.counts.AnswerNumbers.{AnswerNumbers}
-use Rattle.histories.specs.Answers.{answerNumbers}
+use Rattle.observed.specs.declared.counts.AnswerNumbers.{AnswerNumbers}
+use Rattle.observed.specs.Answers.{answerNumbers}
 
 same-numbers : (a b : Answer) → answerNumbers a .kind ≡ answerNumbers b .kind → answerNumbers a .number ≡ answerNumbers b .number → answerNumbers a .sum ≡ answerNumbers b .sum → answerNumbers a .pages ≡ answerNumbers b .pages → a ≡ b
 same-numbers (said.Refused n) (said.Refused m) of-kind of-number of-sum of-pages = ap said.Refused of-number

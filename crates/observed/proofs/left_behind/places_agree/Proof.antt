@@ -4,8 +4,8 @@ use mathlib.Core.Path.{_≡_}
 use lib.ListN.{length}
 use Rattle.store.specs.Head.{openLimit}
 use borrow.Author.Needs.{needs}
-use Rattle.histories.proofs.left_behind.places_agree.Statement.{statement}
-use Rattle.histories.proofs.left_behind.places_agree.Tie as tie
+use Rattle.observed.proofs.left_behind.places_agree.Statement.{statement}
+use Rattle.observed.proofs.left_behind.places_agree.Tie as tie
 
 abbrev Inv-loop : tie.InvT-loop
 Inv-loop passes started head place₀ least₀ place least =

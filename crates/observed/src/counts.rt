@@ -2,7 +2,7 @@
 use store::Answer;
 ghost use mathlib.Core.Path.{_≡_};
 ghost use mathlib.Core.Bool.{true};
-ghost use Rattle.histories.specs.Answers.{answerNumbers};
+ghost use Rattle.observed.specs.Answers.{answerNumbers};
 
 pub struct Counts {
     pub calls: u64,
