@@ -1,10 +1,10 @@
 use Prim.Native.Nat.{_*_}
 use native.Mathlib.Omega.{arith}
 use lib.ListN.{length-set}
-use Rattle.burst.proofs.BurstSteps.{result-put}
+use Rattle.burst_words.proofs.ResultLaws.{result-put}
 use borrow.Author.Needs.{needs}
-use Rattle.burst.proofs.events.put_result.Statement.{statement}
-use Rattle.burst.proofs.events.put_result.Tie as tie
+use Rattle.burst_words.proofs.results.put_result.Statement.{statement}
+use Rattle.burst_words.proofs.results.put_result.Tie as tie
 
 mul-first : tie.Need-mul-first
 mul-first c = search needs

@@ -5,8 +5,8 @@ use borrow.Author.Tests.{lt-ltb, le-ltb}
 use Rattle.store.specs.Refusals.{firstMet}
 use Rattle.demand.specs.Bursts.{burstRefusal}
 use borrow.Author.Needs.{needs}
-use Rattle.burst.proofs.events.burst_refusal.Statement.{statement}
-use Rattle.burst.proofs.events.burst_refusal.Tie as tie
+use Rattle.burst_words.proofs.refusal.burst_refusal.Statement.{statement}
+use Rattle.burst_words.proofs.refusal.burst_refusal.Tie as tie
 
 mul-if1 : tie.Need-mul-if1
 mul-if1 c = search needs
