@@ -3,7 +3,7 @@ use crate::live::list_live;
 use page::Page;
 use page::in_use;
 use page::page_at;
-use ranges::tiles;
+use tiles::tiles;
 use tree::TreeUse;
 ghost use mathlib.Core.Path.{_≡_};
 ghost use Prim.Native.Nat.{_*_, _≤_, _<_};
