@@ -5,10 +5,10 @@ use mathlib.Core.List.{List}
 use lib.ListN.{length, getD, set, take, drop, length-set}
 use Rattle.words.specs.Overwrite.{overwrite}
 use Rattle.codec.proofs.ByteLaws.{put-none, put-all}
-use Rattle.turns.proofs.BufferLaws.{move-more, rest-length}
+use Rattle.turn_input.proofs.BufferLaws.{move-more, rest-length}
 use borrow.Author.Needs.{needs}
-use Rattle.turns.proofs.input.keep_rest.Statement.{statement}
-use Rattle.turns.proofs.input.keep_rest.Tie as tie
+use Rattle.turn_input.proofs.input.keep_rest.Statement.{statement}
+use Rattle.turn_input.proofs.input.keep_rest.Tie as tie
 
 abbrev Inv-loop : tie.InvT-loop
 Inv-loop buffer₀ taken end at₀ buffer at =

@@ -4,8 +4,8 @@ use mathlib.Core.List.{List}
 use lib.ListN.{length, drop, length-take, length-drop}
 use borrow.Rule.Slice.PartMut.{putMid, take-put}
 use borrow.Author.Needs.{needs}
-use Rattle.turns.proofs.input.read_behind.Statement.{statement}
-use Rattle.turns.proofs.input.read_behind.Tie as tie
+use Rattle.turn_input.proofs.input.read_behind.Statement.{statement}
+use Rattle.turn_input.proofs.input.read_behind.Tie as tie
 
 sub-read : tie.Need-sub-read
 sub-read c = search needs
