@@ -1,50 +1,28 @@
 -- A burst as the code enters it: what has been entered so far, and what is left of the definition.
-use Prim.Native.Nat.{ℕ, zero, suc, _+_, _-_, _*_, _/_, _≤_, _<_}
+use Prim.Native.Nat.{ℕ, zero, suc, _+_, _-_, _*_, _≤_, _<_}
 use native.Mathlib.Nat.{add-zero, sub-zero}
 use native.Mathlib.Omega.{arith}
 use mathlib.Core.Path.{_≡_, refl, ap, ap₂, sym, subst, _∙_}
 use mathlib.Core.Logic.{_⊎_, inl, inr}
 use mathlib.Core.List.{List, [], _∷_}
-use lib.ListN.{length, getD, take, drop, set, length-take, length-drop}
+use lib.ListN.{length, getD, take, drop, length-take, length-drop}
 use lib.Seq.{drop-drop, getD-drop}
 use Rattle.words.specs.Overwrite.{overwrite}
-use Rattle.words.proofs.OverwriteLaws.{overwrite-none, overwrite-more, overwrite-sets, overwrite-length}
+use Rattle.words.proofs.OverwriteLaws.{overwrite-none, overwrite-more, overwrite-length}
 use Rattle.store.specs.declared.types.Answer.{Answer}
-use Rattle.store.specs.declared.types.Answer.the-variants.{Refused, Opened, Started, Ended, Totals}
 use Rattle.store.specs.declared.types.Head.{Head}
 use Rattle.store.specs.Trees.{Lent, Store}
-use Rattle.store.specs.Answers.{refusalOf, valuesOf, Answered}
-use Rattle.c_numbers.specs.Said.{numberSaid}
+use Rattle.store.specs.Answers.{Answered}
 use Rattle.command.specs.Stream.{eventKind, answered}
 use Rattle.updates.specs.declared.types.Reply.{Reply}
 use Rattle.updates.specs.Replies.{RepliedAs}
 use Rattle.updates.proofs.RepliesAs.{replied}
 use Rattle.interpret.specs.declared.events.Event.{Event}
 use Rattle.interpret.specs.Events.{answerOf}
-use Rattle.demand.specs.Bursts.{mostEvents, eventBytes, eventWords, eventCount, burstRefusal, eventsFrom, eventsOf, firstEvent, answerTo, answersTo, storeBehind, newNumber, resultWords, unlessRefusedWhole, enterBurst}
+use Rattle.demand.specs.Bursts.{mostEvents, eventBytes, eventWords, eventCount, burstRefusal, eventsFrom, eventsOf, firstEvent, answerTo, answersTo, storeBehind, resultWords, unlessRefusedWhole, enterBurst}
 use Rattle.demand.proofs.BurstReadings.{Fits, fits-or-31}
 use Rattle.demand.proofs.EventBytes.{event-answer}
 use Rattle.burst.specs.BurstReplies.{EventsEntered, BurstAs}
-
--- The pass number that an answer says, or 0
-pub number-new : (a : Answer) → numberSaid 0 (valuesOf a) ≡ newNumber a
-number-new (Refused n) = refl
-number-new Opened = refl
-number-new (Started number) = refl
-number-new Ended = refl
-number-new (Totals count sum pages) = refl
-
--- An answer's two words, stored one behind the other
-two-set : (l : List ℕ) (at a b : ℕ) → at + 2 ≤ length l → set (set l at a) (at + 1) b ≡ overwrite l at (a ∷ (b ∷ []))
-two-set l at a b h =
-    let next : at + 1 ≡ suc at = omega arith in
-    ap (λ (i : ℕ). set (set l at a) i b) next ∙ overwrite-sets l at (a ∷ (b ∷ [])) h
-
-pub result-put : (l : List ℕ) (at : ℕ) (answer : Answer) {refusal number : ℕ} → refusal ≡ refusalOf answer → number ≡ numberSaid 0 (valuesOf answer)
-    → at + 2 ≤ length l → set (set l at refusal) (at + 1) number ≡ overwrite l at (resultWords (answer ∷ []))
-unfolding resultWords
-result-put l at answer {refusal} {number} e f h =
-    two-set l at refusal number h ∙ ap₂ (λ (a b : ℕ). overwrite l at (a ∷ (b ∷ []))) e (f ∙ number-new answer)
 
 -- The event of a place: its bytes are the first of those from there on
 pub event-replies : (s : Store) (bytes : List ℕ) (place : ℕ) → eventBytes * place + eventBytes ≤ length bytes → (operands : List ℕ)

@@ -1,66 +1,23 @@
 // The events of a burst: each is entered as the stream's start or end is, and two words say what came of it.
-use c_numbers::number_of;
-use c_numbers::refusal_of;
+use burst_words::EVENT_BYTES;
+use burst_words::burst_refusal;
+use burst_words::put_result;
 use interpret::Event;
 use interpret::read_event;
-use store::Answer;
 use store::Head;
 use updates::Reply;
 ghost use mathlib.Core.Path.{_≡_};
-ghost use Prim.Native.Nat.{_+_, _*_, _/_, _≤_};
-ghost use mathlib.Core.List.{[], _∷_};
+ghost use Prim.Native.Nat.{_+_, _*_, _≤_};
 ghost use lib.ListN.{length, drop};
-ghost use Rattle.words.specs.Overwrite.{overwrite};
 ghost use Rattle.store.specs.Trees.{Lent, lentOf, Store, storeOf};
-ghost use Rattle.demand.specs.Bursts.{mostEvents, eventBytes, eventWords, eventCount, burstRefusal, firstEvent, eventsOf, answerTo, resultWords, enterBurst};
+ghost use Rattle.demand.specs.Bursts.{mostEvents, eventBytes, eventWords, eventCount, firstEvent, eventsOf, answerTo, enterBurst};
 ghost use Rattle.updates.specs.Replies.{RepliedAs};
 ghost use Rattle.burst.specs.BurstReplies.{EventsEntered, BurstAs};
-
-// "firmware hands over up to 256 of them together, each as the 9 bytes of its command": its kind and 8 operand bytes.
-const MOST_EVENTS: usize = 256;
-
-const EVENT_BYTES: usize = 9;
-
-// "two 64-bit words per event".
-const EVENT_WORDS: usize = 2;
 
 // 31 or 0, and the head for the next call: refused, the head that was handed in.
 pub struct BurstReply {
     pub refusal: u8,
     pub head: Head,
-}
-
-// How many words the results of so many bytes take.
-fn words_needed(bytes: usize) -> usize
-    ensures { λ r. ⌜ r ≡ eventWords * (bytes / eventBytes) ⌝ }
-{
-    EVENT_WORDS * (bytes / EVENT_BYTES)
-}
-
-// 31 for a burst too long, one that ends inside an event, or too few words for the results.
-fn burst_refusal(bytes: &[u8], words: usize) -> u8
-    ensures { λ r. ⌜ r ≡ burstRefusal (now (bytes .entry)) words ⌝ }
-{
-    if MOST_EVENTS * EVENT_BYTES < bytes.len() {
-        return 31;
-    }
-    if 0 < bytes.len() % EVENT_BYTES {
-        return 31;
-    }
-    if words < words_needed(bytes.len()) {
-        return 31;
-    }
-    0
-}
-
-// Writes the two words of the event of a place: "the refusal number or 0, and the new pass number or 0".
-fn put_result(results: &mut [u64], place: usize, answer: Answer)
-    requires { ⌜ eventWords * place + eventWords ≤ length (now results) ⌝ }
-    ensures { λ _. ⌜ now (results .exit) ≡ overwrite (now (results .entry)) (eventWords * place) (resultWords (answer ∷ [])) ⌝ }
-{
-    let first = EVENT_WORDS * place;
-    results[first] = refusal_of(answer) as u64;
-    results[first + 1] = number_of(answer, 0) as u64;
 }
 
 // Enters the event of a place.

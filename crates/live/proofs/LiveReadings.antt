@@ -31,9 +31,9 @@ use Rattle.tree.proofs.Tiling.{rowsTile-tiles, tiles-rowsTile}
 use Rattle.tree.proofs.OrderTotals.{placedValue, total-stored, order-total}
 use Rattle.live.specs.Survey.{isAround, startsFrom, surveyOf}
 use Rattle.words.specs.Sums.{count}
-use Rattle.ranges.specs.KeyRanges.{rangeOf, rangeLow, rangeHigh, placeIn}
+use Rattle.ranges.specs.KeyRanges.{rangeOf, rangeLow, rangeHigh, placeIn, holdsKey}
 use Rattle.live.specs.LiveRows.{liveRows, Listed, AllIn}
-use Rattle.ranges.specs.TileTest.{holdsKey, tiles}
+use Rattle.tiles.specs.TileTest.{tiles}
 use Rattle.ranges.specs.declared.search.Place.the-variants.{At, Missing}
 use Rattle.ranges.specs.Nearest.{noRange, least, placeAt, placeFound}
 use Rattle.live.specs.declared.test.Tested.{Tested}
@@ -46,7 +46,7 @@ use Rattle.tree.proofs.Sorted.{sort-length}
 use Rattle.tree.proofs.UseLaws.{in-use-inside}
 use Rattle.live.proofs.PageReadings.{header-facts, sound-few}
 use Rattle.ranges.proofs.NearestLaws.{Short, range-low-is, range-high-is, rowFits, least-inside, place-is-first}
-use Rattle.ranges.proofs.RangeTiles.{tiles-once, once-tiles}
+use Rattle.tiles.proofs.RangeTiles.{tiles-once, once-tiles}
 
 -- Tests that agree on all items of a list find the same item
 first-same : {A : Type 0} (f g : A → Bool) (xs : List A) → All (λ (x : A). f x ≡ g x) xs → first f xs ≡ first g xs

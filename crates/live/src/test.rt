@@ -1,9 +1,9 @@
 // Refusal 26: the test of a page, on its own words and in the table.
 use crate::live::list_live;
 use page::Page;
-use ranges::tiles;
 use rows::in_use;
 use rows::page_at;
+use tiles::tiles;
 use tree::TreeUse;
 ghost use mathlib.Core.Path.{_≡_};
 ghost use Prim.Native.Nat.{_*_, _≤_, _<_};

@@ -11,8 +11,7 @@ use lib.ListN.{length, getD, drop}
 use borrow.Author.Tests.{le-leb, lt-leb, lt-ltb, le-ltb}
 use Rattle.tree.specs.Row.{rowLimit}
 use Rattle.ranges.specs.declared.search.Place.the-variants.{At}
-use Rattle.ranges.specs.KeyRanges.{rangeLow, rangeHigh}
-use Rattle.ranges.specs.TileTest.{lesser, holdsKey}
+use Rattle.ranges.specs.KeyRanges.{rangeLow, rangeHigh, lesser, holdsKey}
 use Rattle.ranges.specs.Nearest.{noRange, fits, candidate, least, placeAt, holder, holderSum}
 use Rattle.words.proofs.LoopLaws.{drop-here, drop-none}
 use Rattle.ranges.proofs.LesserLaws.{lesser-first, lesser-second}

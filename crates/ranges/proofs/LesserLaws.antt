@@ -1,11 +1,11 @@
--- The lesser and the larger of two numbers.
+-- The lesser of two numbers.
 use Prim.Native.Nat.{ℕ, _≤_}
 use native.Mathlib.Omega.{arith}
 use mathlib.Core.Path.{_≡_, refl, sym, _∙_}
 use mathlib.Core.Bool.{Bool, true, false, cond}
 use lib.Dec.{ltb}
 use borrow.Author.Tests.{ltb-true, ltb-false, le-ltb}
-use Rattle.ranges.specs.TileTest.{lesser, larger}
+use Rattle.ranges.specs.KeyRanges.{lesser}
 
 pub lesser-first : (a b : ℕ) → a ≤ b → lesser a b ≡ a
 lesser-first a b h = go (ltb a b) refl
@@ -42,11 +42,3 @@ lesser-assoc a b c = go (ltb a b) (ltb b c) refl refl
     go false true e f = lesser-first b c (omega (arith, ltb-true b c f)) ∙ sym (lesser-second a b (ltb-false a b e))
     go false false e f =
         lesser-second b c (ltb-false b c f) ∙ sym (lesser-second a c (omega (arith, ltb-false a b e, ltb-false b c f)))
-
--- The larger of two numbers is at least the first
-pub larger-least : (a b : ℕ) → a ≤ larger a b
-larger-least a b = go (ltb a b) refl
-  where
-    go : (c : Bool) → ltb a b ≡ c → a ≤ cond c b a
-    go true e = omega (arith, ltb-true a b e)
-    go false e = omega arith

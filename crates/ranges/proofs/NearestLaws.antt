@@ -11,8 +11,7 @@ use borrow.Author.Tests.{leb-true, leb-false, ltb-false, le-leb, lt-leb}
 use Rattle.tree.specs.KeyOrder.{Placed, placedLow, placedHigh, insertBy, sortBy}
 use Rattle.tree.specs.TrueValue.{Search, none, one, first}
 use Rattle.ranges.specs.declared.search.Place.the-variants.{At}
-use Rattle.ranges.specs.KeyRanges.{rangeOf, rangeLow, rangeHigh, placeIn}
-use Rattle.ranges.specs.TileTest.{lesser}
+use Rattle.ranges.specs.KeyRanges.{rangeOf, rangeLow, rangeHigh, placeIn, lesser}
 use Rattle.ranges.specs.Nearest.{noRange, fits, candidate, least, placeAt, placeFound}
 use Rattle.tree.proofs.Lists.{All}
 use Rattle.tree.proofs.Sorted.{Sorted, sortBy-sorted}

@@ -1,5 +1,7 @@
 -- The key ranges of rows, one number each, as the code keeps them in arrays.
 use Prim.Native.Nat.{ℕ, _/_, _%_}
+use mathlib.Core.Bool.{Bool, cond, _&&_}
+use lib.Dec.{leb, ltb}
 use Rattle.words.specs.Words.{keyRange}
 use Rattle.tree.specs.KeyOrder.{Placed}
 
@@ -13,5 +15,11 @@ rangeLow e = e % 65536
 abbrev pub rangeHigh : ℕ → ℕ
 rangeHigh e = e / 65536
 
+abbrev pub holdsKey : ℕ → ℕ → Bool
+holdsKey q e = leb (rangeLow e) q && ltb q (rangeHigh e)
+
 abbrev pub placeIn : Placed → ℕ
 placeIn x = x .place
+
+abbrev pub lesser : ℕ → ℕ → ℕ
+lesser a b = cond (ltb a b) a b

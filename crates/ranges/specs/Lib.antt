@@ -1,4 +1,3 @@
--- Key ranges as the code has them: the page test on them, in any order, and the first one in key order that fits.
+-- Key ranges as the code has them, and the first one in key order that fits.
 pub mod KeyRanges
-pub mod TileTest
 pub mod Nearest

@@ -8,8 +8,7 @@ use Rattle.tree.specs.KeyOrder.{Placed}
 use Rattle.tree.specs.TrueValue.{Search, none, one}
 use Rattle.ranges.specs.declared.search.Place.{Place}
 use Rattle.ranges.specs.declared.search.Place.the-variants.{At, Missing}
-use Rattle.ranges.specs.KeyRanges.{rangeLow, rangeHigh}
-use Rattle.ranges.specs.TileTest.{lesser, holdsKey}
+use Rattle.ranges.specs.KeyRanges.{rangeLow, rangeHigh, holdsKey, lesser}
 
 -- The number of no range: above those of all that fit
 abbrev pub noRange : ℕ

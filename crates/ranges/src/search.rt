@@ -1,8 +1,8 @@
 // Which live row of a page a lookup or an entry is after: the first one in key order, by low key and then by place, that fits.
+use crate::range::holds_key;
+use crate::range::lesser;
 use crate::range::range_high;
 use crate::range::range_low;
-use crate::tile::holds_key;
-use crate::tile::lesser;
 ghost use mathlib.Core.Path.{_≡_};
 ghost use mathlib.Core.Bool.{_&&_};
 ghost use Prim.Native.Nat.{_+_, _≤_, _<_};

@@ -1,3 +1,2 @@
 -- Laws of the turns.
-pub mod BufferLaws
 pub mod TurnLaws

@@ -18,7 +18,7 @@ use Rattle.command.proofs.PieceReadings.{takes-inside, room-enough, unfinished-
 use Rattle.pieces.specs.declared.pieces.Fed.{Fed}
 use Rattle.pieces.specs.Fed.{FedAs}
 use Rattle.turns.specs.Turns.{pieceRead, IsRead, feedOf, mostWaiting, Turned, mostTurns, Served}
-use Rattle.turns.proofs.BufferLaws.{rest-waits}
+use Rattle.turn_input.proofs.BufferLaws.{rest-waits}
 
 module _ (s : Store) (room : ℕ) (before : List ℕ) (waiting : ℕ) (read : List ℕ) (came : ℕ) (front : take waiting read ≡ take waiting before)
     (inside : waiting + came ≤ length read) where

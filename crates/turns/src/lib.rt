@@ -1,5 +1,4 @@
 // The turns of the command program: read, run, write.
-mod input;
 mod run;
 mod turn;
 

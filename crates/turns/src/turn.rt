@@ -1,10 +1,10 @@
 // One turn of the program: read, run, write.
-use crate::input::keep_rest;
-use crate::input::read_behind;
 use libc::STDOUT_FILENO;
 use pieces::Fed;
 use pieces::run_piece;
 use store::Head;
+use turn_input::keep_rest;
+use turn_input::read_behind;
 ghost use mathlib.Core.Path.{_≡_};
 ghost use Prim.Native.Nat.{_+_, _*_, _≤_, _<_};
 ghost use mathlib.Core.Bool.{false};

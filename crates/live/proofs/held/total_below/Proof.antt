@@ -10,7 +10,7 @@ use Rattle.ranges.specs.KeyRanges.{rangeLow}
 use Rattle.live.specs.LiveRows.{AllIn}
 use Rattle.live.specs.LiveHeld.{addBelow}
 use Rattle.words.proofs.LoopLaws.{all-here}
-use Rattle.ranges.proofs.SumLaws.{one-small, one-is-one}
+use Rattle.tiles.proofs.SumLaws.{one-small, one-is-one}
 use Rattle.live.proofs.LiveLaws.{below-on, below-none}
 use borrow.Author.Needs.{needs}
 use Rattle.live.proofs.held.total_below.Statement.{statement}

@@ -1,4 +1,4 @@
-use Rattle.ranges.proofs.SumLaws.{one-small}
+use Rattle.tiles.proofs.SumLaws.{one-small}
 use Prim.Native.Nat.{ℕ, _-_, _≤_}
 use native.Mathlib.Omega.{arith}
 use mathlib.Core.Path.{_≡_, refl, ap, _∙_}

@@ -5,7 +5,7 @@ use Rattle.ranges.proofs.LesserLaws.{lesser-second, lesser-still}
 use mathlib.Core.Path.{_≡_}
 use Prim.Native.Nat.{_-_, _≤_}
 use lib.ListN.{length, drop}
-use Rattle.ranges.specs.TileTest.{lesser}
+use Rattle.ranges.specs.KeyRanges.{lesser}
 use Rattle.ranges.specs.Nearest.{least}
 use borrow.Author.Needs.{needs}
 use Rattle.ranges.proofs.search.least_candidate.Statement.{statement}

@@ -1,0 +1,2 @@
+-- Laws for the proofs of a burst's words.
+pub mod ResultLaws

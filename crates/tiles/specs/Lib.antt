@@ -1,0 +1,2 @@
+-- The page test on key ranges, in any order.
+pub mod TileTest

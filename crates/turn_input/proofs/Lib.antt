@@ -1,0 +1,2 @@
+-- Laws of the bytes that wait.
+pub mod BufferLaws
