@@ -6,10 +6,10 @@ use crate::paths::height;
 use crate::paths::pages_opened;
 use crate::paths::word_at;
 use pass_book::Call;
+use replies::Reply;
 use store::Answer;
 use store::Head;
 use tree::TreeUse;
-use updates::Reply;
 ghost use Prim.Native.Nat.{_≤_};
 ghost use Rattle.tree.specs.Limits.{mostMade};
 
