@@ -14,8 +14,9 @@ use std::collections::{BTreeMap, BTreeSet};
 use std::process::ExitCode;
 
 /// The public contracts: what each is, and where it stands.
-const ROOTS: [(&str, &str); 13] = [
+const ROOTS: [(&str, &str); 14] = [
     ("the calls that only read", "queries"),
+    ("opening a store", "opening"),
     ("the calls that write", "updates"),
     ("the calls for C", "firmware"),
     ("bursts of starts and ends on lent slices", "burst"),

@@ -14,9 +14,9 @@ use Rattle.store.specs.declared.types.Head.{Head}
 use Rattle.store.specs.Trees.{Lent, Store}
 use Rattle.store.specs.Answers.{Answered}
 use Rattle.command.specs.Stream.{eventKind, answered}
-use Rattle.updates.specs.declared.types.Reply.{Reply}
-use Rattle.updates.specs.Replies.{RepliedAs}
-use Rattle.updates.proofs.RepliesAs.{replied}
+use Rattle.replies.specs.declared.types.Reply.{Reply}
+use Rattle.replies.specs.Replies.{RepliedAs}
+use Rattle.replies.proofs.RepliesAs.{replied}
 use Rattle.interpret.specs.declared.events.Event.{Event}
 use Rattle.interpret.specs.Events.{answerOf}
 use Rattle.demand.specs.Bursts.{mostEvents, eventBytes, eventWords, eventCount, burstRefusal, eventsFrom, eventsOf, firstEvent, answerTo, answersTo, storeBehind, resultWords, unlessRefusedWhole, enterBurst}

@@ -4,14 +4,14 @@ use burst_words::burst_refusal;
 use burst_words::put_result;
 use interpret::Event;
 use interpret::read_event;
+use replies::Reply;
 use store::Head;
-use updates::Reply;
 ghost use mathlib.Core.Path.{_≡_};
 ghost use Prim.Native.Nat.{_+_, _*_, _≤_};
 ghost use lib.ListN.{length, drop};
 ghost use Rattle.store.specs.Trees.{Lent, lentOf, Store, storeOf};
 ghost use Rattle.demand.specs.Bursts.{mostEvents, eventBytes, eventWords, eventCount, firstEvent, eventsOf, answerTo, enterBurst};
-ghost use Rattle.updates.specs.Replies.{RepliedAs};
+ghost use Rattle.replies.specs.Replies.{RepliedAs};
 ghost use Rattle.burst.specs.BurstReplies.{EventsEntered, BurstAs};
 
 // 31 or 0, and the head for the next call: refused, the head that was handed in.

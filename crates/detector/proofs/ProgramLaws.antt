@@ -6,8 +6,8 @@ use Rattle.store.specs.Trees.{Lent, Store}
 use Rattle.store.specs.Head.{openedHead}
 use Rattle.store.specs.Calls.{opening}
 use Rattle.store.specs.Performing.{perform}
-use Rattle.updates.specs.declared.types.Reply.{Reply}
-use Rattle.updates.specs.Replies.{RepliedAs}
+use Rattle.replies.specs.declared.types.Reply.{Reply}
+use Rattle.replies.specs.Replies.{RepliedAs}
 use Rattle.command.specs.Stream.{programLent, programStore, output}
 use Rattle.command.specs.Pieces.{programFeed, writtenAll, inputOf}
 use Rattle.command.proofs.AnyPieces.{any-pieces}

@@ -29,7 +29,7 @@ fn run_program(
       let after : Store = storeOf (r .head) (now («start_table» .exit)) (now («start_roots» .exit)) (now («end_table» .exit)) (now («end_roots» .exit))
       ⌜ Served programFeed after (r .over) ⌝ }
 {
-    let reply = updates::open(
+    let reply = opening::open(
         open_passes::opened_head(),
         start_table,
         start_roots,

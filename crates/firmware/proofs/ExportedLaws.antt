@@ -14,8 +14,8 @@ use Rattle.store.specs.Answers.{refusalOf, valuesOf, Answered, unlessRefused}
 use Rattle.store.specs.Calls.{Call}
 use Rattle.store.specs.Performing.{refusal, served, perform}
 use Rattle.store.proofs.Outcomes.{served-answers}
-use Rattle.updates.specs.declared.types.Reply.{Reply}
-use Rattle.updates.specs.Replies.{RepliedAs}
+use Rattle.replies.specs.declared.types.Reply.{Reply}
+use Rattle.replies.specs.Replies.{RepliedAs}
 use Rattle.c_numbers.specs.Heads.{Fields, passNumbers, headOf, fieldsOf, numbersOf}
 use Rattle.c_numbers.specs.Said.{numberSaid, Told, Tells}
 use Rattle.firmware.specs.Exported.{Handed, storeIn, handedBack, Leaves}

@@ -19,8 +19,8 @@ use Rattle.store.proofs.ArgumentFacts.{may-start}
 use Rattle.store.proofs.HeadLists.{closed-length, closed-rest}
 use Rattle.refusals.proofs.RefusalParts.{none-of}
 use Rattle.refusals.proofs.FoundPasses.{found-facts}
-use Rattle.updates.specs.declared.types.Reply.{Reply}
-use Rattle.updates.specs.Replies.{RepliedAs}
+use Rattle.replies.specs.declared.types.Reply.{Reply}
+use Rattle.replies.specs.Replies.{RepliedAs}
 use Rattle.c_numbers.specs.Heads.{passNumbers, headOf}
 use Rattle.c_numbers.proofs.HeadNumbers.{passes-length}
 use Rattle.firmware.specs.Exported.{Handed, storeIn}

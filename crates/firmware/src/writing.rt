@@ -205,7 +205,7 @@ pub extern "C" fn nimbleshale_open(
         *end_roots_used,
         passes,
     );
-    let reply = updates::open(head, start_table, start_roots, end_table, end_roots);
+    let reply = opening::open(head, start_table, start_roots, end_table, end_roots);
     let answer = reply.answer;
     let refusal = refusal_of(answer);
     if refusal != 0 {

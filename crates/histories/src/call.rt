@@ -1,10 +1,10 @@
 // A call of the book made on the store.
 use pass_book::Asked;
 use pass_book::Call;
+use replies::Reply;
 use store::Answer;
 use store::Head;
 use store::TreeName;
-use updates::Reply;
 
 fn look_up(
     head: Head,
@@ -69,7 +69,7 @@ pub fn make(
     call: Call,
 ) -> Reply {
     match call {
-        Call::Open => updates::open(head, start_table, start_roots, end_table, end_roots),
+        Call::Open => opening::open(head, start_table, start_roots, end_table, end_roots),
         Call::Start { tick, key, weight } => updates::start(
             head,
             start_table,

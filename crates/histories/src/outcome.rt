@@ -6,10 +6,10 @@ use observed::pages_opened;
 use observed::refusal_of;
 use observed::word_at;
 use pass_book::Call;
+use replies::Reply;
 use store::Answer;
 use store::Head;
 use tree::TreeUse;
-use updates::Reply;
 ghost use Prim.Native.Nat.{_≤_};
 ghost use Rattle.tree.specs.Limits.{mostMade};
 

@@ -8,10 +8,10 @@ use Rattle.store.specs.Trees.{Lent, Store}
 use Rattle.store.specs.Answers.{unlessRefused}
 use Rattle.store.specs.Calls.{Call, start, end, question}
 use Rattle.store.specs.Performing.{refusal, served, perform}
-use Rattle.updates.specs.declared.types.Reply.{Reply}
-use Rattle.updates.specs.Replies.{RepliedAs}
-use Rattle.updates.specs.RefusedReplies.{refusedReply}
-use Rattle.updates.proofs.RepliesAs.{replied, refused-reply}
+use Rattle.replies.specs.declared.types.Reply.{Reply}
+use Rattle.replies.specs.Replies.{RepliedAs}
+use Rattle.replies.specs.RefusedReplies.{refusedReply}
+use Rattle.replies.proofs.RepliesAs.{replied, refused-reply}
 use Rattle.codec.specs.Bytes.{operand}
 use Rattle.command.specs.Stream.{Kind, command, startCommand, endCommand, questionCommand, answered}
 use Rattle.command.proofs.KindLaws.{cut-short, whole}

@@ -3,10 +3,10 @@ use crate::events::Event;
 use crate::events::read_event;
 use codec::number2;
 use codec::number4;
+use replies::Reply;
 use store::Head;
-use updates::Reply;
 ghost use Rattle.store.specs.Trees.{Lent, lentOf, Store, storeOf};
-ghost use Rattle.updates.specs.Replies.{RepliedAs};
+ghost use Rattle.replies.specs.Replies.{RepliedAs};
 ghost use Rattle.command.specs.Stream.{command, questionCommand, kindOf, answered};
 
 // "03h question: k1 2, k2 2, t1 4, t2 4." The head stays, and every lent word.

@@ -14,8 +14,8 @@ use Rattle.words.proofs.OverwriteLaws.{overwrite-none, overwrite-more}
 use Rattle.store.specs.declared.types.Answer.{Answer}
 use Rattle.store.specs.declared.types.Head.{Head}
 use Rattle.store.specs.Trees.{Lent, Store}
-use Rattle.updates.specs.declared.types.Reply.{Reply}
-use Rattle.updates.specs.Replies.{RepliedAs}
+use Rattle.replies.specs.declared.types.Reply.{Reply}
+use Rattle.replies.specs.Replies.{RepliedAs}
 use Rattle.command.specs.Stream as stream
 use Rattle.command.specs.Stream.{kindOf, operandBytes, longestAnswer, written, answered, goesOn, runOne}
 use Rattle.command.specs.Pieces as piece

@@ -1,6 +1,4 @@
--- Laws of what the calls that write answer and hand back.
-pub mod RepliesAs
-pub mod OpeningReplies
+-- Laws of the starts and ends that are accepted.
 pub mod PlannedEntries
 pub mod StartReplies
 pub mod EndReplies

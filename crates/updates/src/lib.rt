@@ -1,9 +1,5 @@
-// The calls that write the store: opening, start and end. None of them asks anything of what it is handed.
-mod opening;
-mod types;
+// The calls that enter a point: start and end. None of them asks anything of what it is handed.
 mod writing;
 
-pub use opening::open;
-pub use types::Reply;
 pub use writing::end;
 pub use writing::start;

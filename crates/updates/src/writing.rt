@@ -1,12 +1,12 @@
 // The calls that enter a point: a start into the tree of starts, an end into the tree of ends. Nothing is written before every refusal is
 // ruled out, and then nothing can go wrong.
-use crate::types::Reply;
 use enter::enter;
 use open_passes::ended_head;
 use open_passes::find_pass;
 use open_passes::started_head;
 use refusals::end_refusal;
 use refusals::start_refusal;
+use replies::Reply;
 use store::Answer;
 use store::FoundPass;
 use store::Head;
@@ -16,7 +16,7 @@ ghost use Rattle.store.specs.Trees.{Lent, lentOf, Store, storeOf};
 ghost use Rattle.store.specs.Calls.{start, end};
 ghost use Rattle.store.specs.Writing.{pointOf};
 ghost use Rattle.store.specs.Performing.{perform};
-ghost use Rattle.updates.specs.Replies.{RepliedAs};
+ghost use Rattle.replies.specs.Replies.{RepliedAs};
 
 // What a pass of a weight adds to a tree: a count of 1, and the weight.
 fn one_pass(weight: u32) -> Value

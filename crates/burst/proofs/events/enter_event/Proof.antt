@@ -5,7 +5,7 @@ use mathlib.Core.List.{List}
 use lib.ListN.{take, drop}
 use lib.Seq.{drop-drop}
 use Rattle.store.specs.Trees.{storeOf}
-use Rattle.updates.proofs.RepliesAs.{refused-reply}
+use Rattle.replies.proofs.RepliesAs.{refused-reply}
 use Rattle.burst.proofs.BurstSteps.{event-replies}
 use borrow.Author.Needs.{needs}
 use Rattle.burst.proofs.events.enter_event.Statement.{statement}

@@ -1,7 +1,7 @@
 use Rattle.command.specs.Stream.{eventKind}
 use Rattle.command.proofs.KindLaws.{kind-question, kind-event}
 use Rattle.interpret.proofs.RunLaws.{of-kind, event-replies}
-use Rattle.updates.proofs.RepliesAs.{refused-reply}
+use Rattle.replies.proofs.RepliesAs.{refused-reply}
 use Rattle.store.specs.Trees.{storeOf}
 use borrow.Author.Needs.{needs}
 use Rattle.interpret.proofs.run.run_command.Statement.{statement}

@@ -8,7 +8,7 @@ use Rattle.store.specs.Calls.{end}
 use Rattle.store.specs.Writing.{endedHead}
 use Rattle.store.proofs.TreeLaws.{same-lent}
 use Rattle.refusals.proofs.Outcomes.{call-refused, call-served}
-use Rattle.updates.proofs.RepliesAs.{replied, refused-reply}
+use Rattle.replies.proofs.RepliesAs.{replied, refused-reply}
 use Rattle.updates.proofs.EndReplies.{end-accepted, served-end}
 use borrow.Author.Needs.{needs}
 use Rattle.updates.proofs.writing.end.Statement.{statement}

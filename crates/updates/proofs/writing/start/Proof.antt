@@ -8,7 +8,7 @@ use Rattle.store.specs.Writing.{startedHead}
 use Rattle.store.specs.Performing.{served}
 use Rattle.store.proofs.TreeLaws.{same-lent}
 use Rattle.refusals.proofs.Outcomes.{call-refused, call-served}
-use Rattle.updates.proofs.RepliesAs.{replied, refused-reply}
+use Rattle.replies.proofs.RepliesAs.{replied, refused-reply}
 use Rattle.updates.proofs.StartReplies.{start-accepted}
 use borrow.Author.Needs.{needs}
 use Rattle.updates.proofs.writing.start.Statement.{statement}

@@ -2,7 +2,7 @@
 use store::Answer;
 use store::Head;
 ghost use mathlib.Core.Path.{_≡_};
-ghost use Rattle.updates.specs.RefusedReplies.{refusedReply};
+ghost use Rattle.replies.specs.RefusedReplies.{refusedReply};
 
 // The answer, and the head for the next call: refused, the head that was handed in.
 pub struct Reply {

@@ -6,10 +6,10 @@ use Rattle.store.specs.Performing.{served}
 use Rattle.store.proofs.TreeLaws.{same-lent}
 use Rattle.store.proofs.OpeningReady.{takes-enough, each-enough}
 use Rattle.refusals.proofs.Outcomes.{call-refused, call-served}
-use Rattle.updates.proofs.RepliesAs.{replied, refused-reply}
+use Rattle.replies.proofs.RepliesAs.{replied, refused-reply}
 use borrow.Author.Needs.{needs}
-use Rattle.updates.proofs.opening.open.Statement.{statement}
-use Rattle.updates.proofs.opening.open.Tie as tie
+use Rattle.opening.proofs.opening.open.Statement.{statement}
+use Rattle.opening.proofs.opening.open.Tie as tie
 
 opening-refusal-requires : tie.Need-opening-refusal-requires
 opening-refusal-requires c κs = search needs

@@ -2,7 +2,7 @@
 use Prim.Native.Nat.{ℕ}
 use Rattle.store.specs.declared.types.Head.{Head}
 use Rattle.store.specs.declared.types.Answer.the-variants.{Refused}
-use Rattle.updates.specs.declared.types.Reply.{Reply}
+use Rattle.replies.specs.declared.types.Reply.{Reply}
 
 -- "A refusal returns its number and no other field"
 abbrev pub refusedReply : ℕ → Head → Reply

@@ -1,7 +1,7 @@
 // Opening a store: an empty tree of starts, an empty tree of ends, and a head that says so.
-use crate::types::Reply;
 use page::Page;
 use refusals::opening_refusal;
+use replies::Reply;
 use split::put_page;
 use store::Answer;
 use store::Head;
@@ -14,7 +14,7 @@ ghost use Rattle.tree.specs.Opened.{openedTree};
 ghost use Rattle.store.specs.Trees.{Lent, lentOf, Store, storeOf};
 ghost use Rattle.store.specs.Calls.{opening};
 ghost use Rattle.store.specs.Performing.{perform};
-ghost use Rattle.updates.specs.Replies.{RepliedAs};
+ghost use Rattle.replies.specs.Replies.{RepliedAs};
 
 // Page 0, a leaf with one row of value zero over all keys, born at 0, and the first root entry, which is for it. No other word changes.
 fn open_tree(table: &mut [u64], roots: &mut [u64])

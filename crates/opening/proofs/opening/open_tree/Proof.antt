@@ -4,10 +4,10 @@ use Rattle.words.proofs.OverwriteLaws.{overwrite-one}
 use Rattle.tree.specs.Opened.{firstPage}
 use Rattle.page.specs.PageValue.{encodePage}
 use Rattle.tree.specs.Tree.{putPage}
-use Rattle.updates.proofs.OpeningReplies.{first-page}
+use Rattle.opening.proofs.OpeningPage.{first-page}
 use borrow.Author.Needs.{needs}
-use Rattle.updates.proofs.opening.open_tree.Statement.{statement}
-use Rattle.updates.proofs.opening.open_tree.Tie as tie
+use Rattle.opening.proofs.opening.open_tree.Statement.{statement}
+use Rattle.opening.proofs.opening.open_tree.Tie as tie
 
 zero-requires : tie.Need-zero-requires
 zero-requires c κs = search needs

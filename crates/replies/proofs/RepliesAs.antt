@@ -3,9 +3,9 @@ use Prim.Native.Nat.{ℕ}
 use mathlib.Core.Path.{_≡_, refl, ap, sym, subst}
 use Rattle.store.specs.Trees.{Lent, Store}
 use Rattle.store.specs.Answers.{Answered}
-use Rattle.updates.specs.declared.types.Reply.{Reply}
-use Rattle.updates.specs.Replies.{RepliedAs}
-use Rattle.updates.specs.RefusedReplies.{refusedReply}
+use Rattle.replies.specs.declared.types.Reply.{Reply}
+use Rattle.replies.specs.Replies.{RepliedAs}
+use Rattle.replies.specs.RefusedReplies.{refusedReply}
 use Rattle.refusals.proofs.Outcomes.{refusedAs}
 
 pub replied : {a b : Answered} {r : Reply} {lent : Lent} → a ≡ b → RepliedAs b r lent → RepliedAs a r lent

@@ -1,0 +1,2 @@
+-- Laws of the opening.
+pub mod OpeningPage

@@ -1,0 +1,2 @@
+-- Laws of what the calls that write hand back.
+pub mod RepliesAs
