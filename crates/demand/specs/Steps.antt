@@ -82,7 +82,7 @@ pub record BookStep : Type 0 where
   pub said : BookSaid
   pub book : Book
 
--- "the book answers 31, or event by event"
+-- The book too answers a refused burst as a whole, and every other one event by event
 abbrev pub unlessBookRefuses : ℕ → Book → List Asked → (refusals : List ℕ) → BookStep
 unlessBookRefuses zero b es rs = record { said = record { refusal = 0; answers = bookAnswersTo b es rs }; book = bookBehind b es rs }
 unlessBookRefuses (suc n) b es rs = record { said = record { refusal = suc n; answers = [] }; book = b }

@@ -96,7 +96,7 @@ module _ (s : Store) (long : length (s .head .passes) ≡ openLimit) where
       go (suc n) e = long
 
 -- So does every list of events, tried or refused as a whole
-abbrev Places : Store → Type 0
+abbrev pub Places : Store → Type 0
 Places s = length (s .head .passes) ≡ openLimit
 
 event-places : (s : Store) → Places s → (e : Asked) → Places (answerTo s e .store)

@@ -21,7 +21,7 @@ use Rattle.c_numbers.specs.Heads.{Fields, passNumbers, headOf, fieldsOf, number
 use Rattle.c_numbers.proofs.HeadNumbers.{passes-length, others-kept}
 use Rattle.firmware.specs.Exported.{Handed, storeIn, handedBack}
 use Rattle.firmware.specs.Packets.{Packet, LeavesOf, handedOn, exportPackets}
-use Rattle.firmware.proofs.ExportedLists.{store-back, places-stay}
+use Rattle.firmware.proofs.ExportedLists.{store-back, places-stay, Places}
 use Rattle.firmware.proofs.KeptPlaces.{all-places}
 
 -- A truth value as a byte
@@ -30,9 +30,6 @@ as-byte true = refl
 as-byte false = refl
 
 -- Every packet leaves a head with as many places
-abbrev Places : Store → Type 0
-Places s = length (s .head .passes) ≡ openLimit
-
 command-places : (s : Store) → Places s → (bytes : List ℕ) (kind : Kind) → Places (runKind s bytes kind .store)
 command-places s long bytes unknown = long
 command-places s long bytes (command n call) = go (ltb (length bytes) n)
