@@ -7,8 +7,8 @@ ghost use mathlib.Core.Path.{_≡_};
 ghost use mathlib.Core.List.{[], _∷_};
 ghost use Rattle.store.specs.Calls.{start, question};
 ghost use Rattle.store.specs.Refusals.{firstMet};
-ghost use Rattle.store.specs.Grounds.{keyTooHigh, noTick, argumentGrounds, beforeLast, allOpen, allStarted, notOpen, atItsStart};
-ghost use Rattle.store.specs.Performing.{since};
+ghost use Rattle.store.specs.Grounds.{keyTooHigh, noTick, argumentGrounds, beforeLast, allOpen, allStarted, notOpen};
+ghost use Rattle.store.specs.Performing.{isFound};
 
 // The input of a start: 1, 3, 4.
 pub fn start_input(tick: u32, key: u32, weight: u32) -> u8
@@ -87,18 +87,15 @@ pub fn start_state(last: u32, count: u32, started: u32, tick: u32) -> u8
     0
 }
 
-// An end, by the head's last tick and where the pass of its number was found: 21, 22, 23.
+// An end, by the head's last tick and where the pass of its number was found: 21, 22.
 pub fn end_state(last: u32, tick: u32, found: FoundPass) -> u8
-    ensures { λ r. ⌜ r ≡ firstMet (beforeLast last tick ∷ (notOpen (since found) ∷ (atItsStart tick (since found) ∷ []))) ⌝ }
+    ensures { λ r. ⌜ r ≡ firstMet (beforeLast last tick ∷ (notOpen (isFound found) ∷ [])) ⌝ }
 {
     if tick < last {
         return 21;
     }
-    let FoundPass::At { place: _, pass } = found else {
-        return 22;
-    };
-    if tick == pass.start {
-        return 23;
+    match found {
+        FoundPass::Missing => 22,
+        FoundPass::At { place: _, pass: _ } => 0,
     }
-    0
 }

@@ -1,7 +1,7 @@
 -- The four lookups of a question as the bands of two trees: the starts less the ends.
 use Prim.Native.Nat.{ℕ, _+_, _-_, _≤_}
 use native.Mathlib.Omega.{arith}
-use mathlib.Core.Path.{_≡_, refl}
+use mathlib.Core.Path.{_≡_, refl, ap, sym}
 use mathlib.Core.Bool.{Bool, true, false, cond}
 use mathlib.Core.Logic.{_⊎_, inl, inr}
 use lib.Dec.{eqb}
@@ -11,11 +11,11 @@ use Rattle.tree.specs.declared.types.Lookup.{Lookup}
 use Rattle.tree.specs.declared.types.Lookup.the-variants.{Spoiled, Found}
 use Rattle.tree.specs.Tree.{Tree}
 use Rattle.tree.specs.Lookup.{lookup}
-use Rattle.tree.proofs.PathLength.{pages-at-most}
 use Rattle.lookup.proofs.LookupLaws.{same-found}
 use Rattle.store.specs.Reading.{isSpoiled, valueOf, pagesOf}
-use Rattle.queries.specs.Bands.{without, inBand}
-use Rattle.queries.proofs.Differences.{two-values, four-values}
+use Rattle.store.proofs.LookupPages.{pages-four}
+use Rattle.queries.specs.Bands.{without, inBand, nothing, bandBefore}
+use Rattle.queries.proofs.Differences.{no-value, two-values, four-values}
 
 -- The four lookups of a question, of which the last two are not made where `first` says that the band starts at key 0
 module _ (first : Bool) (a b c d : Lookup) where
@@ -45,25 +45,36 @@ band-case false (Found v m) (Found w n) Spoiled d = inl (refl, refl)
 band-case false (Found v m) (Found w n) (Found x p) Spoiled = inl (refl, refl)
 band-case false (Found v m) (Found w n) (Found x p) (Found y q) = inr (refl, same-found (four-values v w x y) (omega arith))
 
--- A band opens at most 8 pages
-few : (tree : Tree) (t k : ℕ) → pagesOf (lookup tree t k) ≤ 4
-few tree t k = go (lookup tree t k) refl
-  where
-    go : (found : Lookup) → lookup tree t k ≡ found → pagesOf found ≤ 4
-    go Spoiled e = omega arith
-    go (Found v n) e = pages-at-most tree t k e
+-- The band of a tree is made of two lookups, also where none is made because the question starts at tick 0
+pub band-of-two : (early first : Bool) (b d : Lookup)
+    → cond early nothing (cond first b (without b d)) ≡ cond first (cond early nothing b) (without (cond early nothing b) (cond early nothing d))
+band-of-two true true b d = refl
+band-of-two true false b d = ap (λ (v : Value). Found v 0) (sym no-value)
+band-of-two false true b d = refl
+band-of-two false false b d = refl
 
+-- A band opens at most 8 pages
 pub few-pages : (tree : Tree) (t k : ℕ) {found : Lookup} → found ≡ lookup tree t k → pagesOf found ≤ 8
-few-pages tree t k e = rw e (omega (arith, few tree t k))
+few-pages tree t k e = rw e (omega (arith, pages-four tree t k))
 
 less-few : (a b : Lookup) → pagesOf a ≤ 4 → pagesOf b ≤ 4 → pagesOf (without a b) ≤ 8
 less-few Spoiled b h l = omega arith
 less-few (Found v m) Spoiled h l = omega arith
 less-few (Found v m) (Found w n) h l = omega arith
 
-pub band-few : (tree : Tree) (t k1 k2 : ℕ) {found : Lookup} → found ≡ inBand tree t k1 k2 → pagesOf found ≤ 8
-band-few tree t k1 k2 e = rw e (go (eqb k1 0))
+in-band-few : (tree : Tree) (t k1 k2 : ℕ) → pagesOf (inBand tree t k1 k2) ≤ 8
+in-band-few tree t k1 k2 = go (eqb k1 0)
   where
     go : (b : Bool) → pagesOf (cond b (lookup tree t (k2 - 1)) (without (lookup tree t (k2 - 1)) (lookup tree t (k1 - 1)))) ≤ 8
-    go true = omega (arith, few tree t (k2 - 1))
-    go false = less-few (lookup tree t (k2 - 1)) (lookup tree t (k1 - 1)) (few tree t (k2 - 1)) (few tree t (k1 - 1))
+    go true = omega (arith, pages-four tree t (k2 - 1))
+    go false = less-few (lookup tree t (k2 - 1)) (lookup tree t (k1 - 1)) (pages-four tree t (k2 - 1)) (pages-four tree t (k1 - 1))
+
+pub band-few : (tree : Tree) (t k1 k2 : ℕ) {found : Lookup} → found ≡ inBand tree t k1 k2 → pagesOf found ≤ 8
+band-few tree t k1 k2 e = rw e (in-band-few tree t k1 k2)
+
+pub band-before-few : (tree : Tree) (t k1 k2 : ℕ) {found : Lookup} → found ≡ bandBefore tree t k1 k2 → pagesOf found ≤ 8
+band-before-few tree t k1 k2 e = rw e (go (eqb t 0))
+  where
+    go : (early : Bool) → pagesOf (cond early nothing (inBand tree (t - 1) k1 k2)) ≤ 8
+    go true = omega arith
+    go false = in-band-few tree (t - 1) k1 k2

@@ -42,6 +42,10 @@ two-only : (a b : ℕ)
     → (((a + (2 ^ 64 - b % 2 ^ 64)) % 2 ^ 64 + (2 ^ 64 - 0 % 2 ^ 64)) % 2 ^ 64 + 0) % 2 ^ 64 ≡ (a + (2 ^ 64 - b % 2 ^ 64)) % 2 ^ 64
 two-only a b = omega arith
 
+pub no-value : minus zero zero ≡ zero
+unfolding minus
+no-value = value-path (omega arith) (omega arith)
+
 pub four-values : (a b c d : Value) → minus (minus a c) (minus b d) ≡ plus (minus (minus a b) c) d
 unfolding plus minus
 four-values a b c d =

@@ -9,6 +9,7 @@ use store::Answer;
 use store::Head;
 use tree::Lookup;
 use tree::TreeUse;
+use words::Value;
 ghost use mathlib.Core.Path.{_≡_};
 ghost use Prim.Native.Nat.{_*_, _≤_, _<_};
 ghost use lib.ListN.{length};
@@ -19,7 +20,7 @@ ghost use Rattle.store.specs.Trees.{Store, storeOf};
 ghost use Rattle.store.specs.Calls.{question, lookupIn};
 ghost use Rattle.store.specs.Reading.{pagesOf};
 ghost use Rattle.store.specs.Performing.{perform};
-ghost use Rattle.queries.specs.Bands.{without, inBand, answerOf};
+ghost use Rattle.queries.specs.Bands.{without, inBand, bandBefore, answerOf};
 
 // A lookup's totals, or 26 where it met a spoiled page.
 fn answer_of(found: Lookup) -> Answer
@@ -123,8 +124,25 @@ fn lookup_band(table: &[u64], roots: &[u64], used: TreeUse, t: u32, k1: u32, k2:
     without(high, low)
 }
 
-// The passes with a key from k1 up to but not k2 that live at a tick from t1 up to but not t2: those that started before t2, less those that
-// had ended by t1.
+// What a tree has before tick t1 from key k1 up to but not k2. No tick is before 0: with t1 = 0 nothing is looked up and no page opened.
+fn lookup_band_before(table: &[u64], roots: &[u64], used: TreeUse, t1: u32, k1: u32, k2: u32) -> Lookup
+    requires { ⌜ used .pages * pageWords ≤ length (now table) ⌝ }
+    requires { ⌜ used .roots ≤ length (now roots) ⌝ }
+    requires { ⌜ k1 < k2 ⌝ }
+    requires { ⌜ k2 ≤ keyLimit ⌝ }
+    ensures { λ r. ⌜ r ≡ bandBefore (record { table = now (table .entry); roots = now (roots .entry); used = used }) t1 k1 k2 ⌝ }
+{
+    if t1 == 0 {
+        return Lookup::Found {
+            value: Value::zero(),
+            pages: 0,
+        };
+    }
+    lookup_band(table, roots, used, t1 - 1, k1, k2)
+}
+
+// The passes with a key from k1 up to but not k2 that live, from their start tick to their end tick, at a tick from t1 up to but not t2: those that started before t2, less those that
+// ended before t1.
 pub fn question(
     head: Head,
     start_table: &[u64],
@@ -148,6 +166,6 @@ pub fn question(
     let starts_used = head.starts;
     let starts = lookup_band(start_table, start_roots, starts_used, t2 - 1, k1, k2);
     let ends_used = head.ends;
-    let ends = lookup_band(end_table, end_roots, ends_used, t1, k1, k2);
+    let ends = lookup_band_before(end_table, end_roots, ends_used, t1, k1, k2);
     answer_of(without(starts, ends))
 }

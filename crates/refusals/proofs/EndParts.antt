@@ -1,7 +1,7 @@
 -- The refusal of an end, by where the pass of its number was found.
 use Prim.Native.Nat.{ℕ}
 use mathlib.Core.Path.{_≡_, refl, ap, sym, _∙_}
-use mathlib.Core.Bool.{Bool, true, false, false≢true}
+use mathlib.Core.Bool.{false≢true}
 use mathlib.Core.List.{[], _∷_}
 use Rattle.tree.specs.Plan.{plan}
 use Rattle.store.specs.declared.types.OpenPass.{OpenPass}
@@ -12,19 +12,15 @@ use Rattle.store.specs.Trees.{Store, treeIn}
 use Rattle.store.specs.Head.{passOf}
 use Rattle.store.specs.Calls.{end}
 use Rattle.store.specs.Refusals.{firstMet}
-use Rattle.store.specs.Grounds.{Sought, noneOpen, openSince, beforeLast, notOpen, atItsStart, stateGrounds}
+use Rattle.store.specs.Grounds.{beforeLast, notOpen, stateGrounds}
 use Rattle.store.specs.Writing.{pointOf, endEntries, entryGrounds}
-use Rattle.store.specs.Performing.{since, headKnows, pageGrounds}
+use Rattle.store.specs.Performing.{isFound, headKnows, pageGrounds}
 use Rattle.store.proofs.ArgumentFacts.{may-end}
 use Rattle.refusals.specs.Grounds.{planGrounds}
 
-abbrev is-since : Sought → Bool
-is-since noneOpen = false
-is-since (openSince tick) = true
-
 module _ (s : Store) (tick number : ℕ) where
   abbrev stateOf : FoundPass → ℕ
-  stateOf found = firstMet (beforeLast (s .head .last) tick ∷ (notOpen (since found) ∷ (atItsStart tick (since found) ∷ [])))
+  stateOf found = firstMet (beforeLast (s .head .last) tick ∷ (notOpen (isFound found) ∷ []))
 
   pub end-state : {state : ℕ} {found : FoundPass} → state ≡ stateOf found → found ≡ passOf (s .head) number
       → state ≡ firstMet (stateGrounds (headKnows (s .head) (end tick number)) (end tick number))
@@ -34,7 +30,7 @@ module _ (s : Store) (tick number : ℕ) where
   pub not-missing : firstMet (stateGrounds (headKnows (s .head) (end tick number)) (end tick number)) ≡ 0 → passOf (s .head) number ≡ Missing → ⊥
   not-missing e f =
       let may = may-end (headKnows (s .head) (end tick number)) tick number e in
-      false≢true (ap is-since (ap since (sym f) ∙ may .is-open))
+      false≢true (ap isFound (sym f) ∙ may .is-open)
 
   -- The one entry of an end
   pub end-pages : {place : ℕ} {pass : OpenPass} → passOf (s .head) number ≡ At place pass

@@ -21,15 +21,16 @@ use Rattle.store.specs.Trees.{LentTree, lentTo, Store, treeIn}
 use Rattle.store.specs.Head.{openPasses, passOf, findPass, openLimit, passLimit, useFits, passesFit, numbersRise, headFits}
 use Rattle.store.specs.Calls.{Call, opening, start, end, question, lookupIn, isOpening}
 use Rattle.store.specs.Refusals.{Ground, firstMet}
-use Rattle.store.specs.Grounds.{Sought, Known, soughtBy, argumentGrounds, stateGrounds}
+use Rattle.store.specs.Grounds.{Known, soughtBy, argumentGrounds, stateGrounds}
 use Rattle.store.specs.Writing.{tooSmall, lendsTooLittle}
-use Rattle.store.specs.Performing.{since, headKnows, opensOverTooLittle, headUnfit, pageGrounds, refusal}
+use Rattle.store.specs.Performing.{isFound, headKnows, opensOverTooLittle, headUnfit, pageGrounds, refusal}
 use Rattle.store.specs.Passes.{End, stillOpen, endedAt, Pass, sumWhere}
 use Rattle.store.specs.Points.{pointsOf}
-use Rattle.store.specs.Book.{Book, notEnded, passNumbered, openOr, bookKnows}
+use Rattle.store.specs.Book.{Book, isOpen, passNumbered, bookKnows}
 use Rattle.store.proofs.TreeLaws.{each-tree, no-tree}
 use Rattle.store.proofs.RefusalLaws.{first-skips}
-use Rattle.store.proofs.OpenPasses.{openOf, open-count, find-ended, find-open, PassKept, open-fit, open-rise}
+use Rattle.store.proofs.BookPasses.{AllKept}
+use Rattle.store.proofs.OpenPasses.{openOf, open-count, find-ended, find-open, open-fit, open-rise}
 
 -- A tree that took these points, in whatever order the book lists them: all sums over them are the same
 pub record TreeTook (tree : Tree) (last : ℕ) (points : List Point) : Type 0 where
@@ -50,7 +51,7 @@ pub record Agrees (s : Store) (b : Book) : Type 0 where
   pub listed : openPasses (s .head) ≡ openOf 0 (b .passes)
   pub count : s .head .count ≡ length (openOf 0 (b .passes))
   pub most : s .head .count ≤ openLimit
-  pub kept : All (PassKept (b .last)) (b .passes)
+  pub kept : AllKept b
   pub trees : (name : TreeName) → TreeTook (treeIn s name) (b .last) (pointsOf name (b .passes))
 
 -- 20 never: the use of each tree fits what is lent with it
@@ -102,17 +103,17 @@ lends-enough s b a = no-tree (λ (name : TreeName). tooSmall (lentTo (s .lent) n
 
 -- An end finds the pass of a number open in the head exactly if it is open in the book
 same-pass : (s : Store) (b : Book) → Agrees s b → (number : ℕ)
-    → since (passOf (s .head) number) ≡ openOr (passNumbered b number) (passNumbered b number .end)
-same-pass s b a number = go (passNumbered b number .end) refl
+    → isFound (passOf (s .head) number) ≡ isOpen (passNumbered b number)
+same-pass s b a number = go (isOpen (passNumbered b number)) refl
   where
     listed : passOf (s .head) number ≡ findPass (0 + number) 0 (openOf 0 (b .passes))
     listed = ap₂ (λ (n : ℕ) (os : List OpenPass). findPass n 0 os) (omega arith) (a .listed)
 
-    go : (e : End) → passNumbered b number .end ≡ e → since (passOf (s .head) number) ≡ openOr (passNumbered b number) e
-    go stillOpen is = ap since (listed ∙ find-open number 0 0 0 (b .passes) (ap notEnded is) .found)
-    go (endedAt e) is = ap since (listed ∙ find-ended number 0 0 (b .passes) (ap notEnded is))
+    go : (c : Bool) → isOpen (passNumbered b number) ≡ c → isFound (passOf (s .head) number) ≡ c
+    go true is = ap isFound (listed ∙ find-open number 0 0 0 (b .passes) is .found)
+    go false is = ap isFound (listed ∙ find-ended number 0 0 (b .passes) is)
 
-sought-same : (c : Call) (find other : ℕ → Sought) → ((number : ℕ) → find number ≡ other number) → soughtBy c find ≡ soughtBy c other
+sought-same : (c : Call) (find other : ℕ → Bool) → ((number : ℕ) → find number ≡ other number) → soughtBy c find ≡ soughtBy c other
 sought-same opening find other h = refl
 sought-same (start tick key weight) find other h = refl
 sought-same (end tick number) find other h = h number
@@ -124,8 +125,8 @@ same-known s b a c =
     let last = a .last in
     let count = a .count ∙ open-count 0 (b .passes) in
     let started = a .started in
-    let pass = sought-same c _ _ (same-pass s b a) in
-    λ i. record { last = last i; count = count i; started = started i; pass = pass i }
+    let found = sought-same c _ _ (same-pass s b a) in
+    λ i. record { last = last i; count = count i; started = started i; found = found i }
 
 -- The store refuses for the book's grounds, else for what the pages say
 pub same-grounds : (s : Store) (b : Book) → Agrees s b → (c : Call)

@@ -2,7 +2,7 @@
 use Prim.Native.Nat.{ℕ, zero, suc, _≤_, _<_}
 use native.Mathlib.Omega.{arith}
 use mathlib.Core.Path.{_≡_, refl, ap, sym, _∙_}
-use mathlib.Core.Bool.{Bool, true, false, cond, _||_, false≢true}
+use mathlib.Core.Bool.{Bool, true, false, cond, _||_, not, false≢true}
 use mathlib.Core.List.{List, [], _∷_, _++_}
 use lib.Dec.{leb, ltb, eqb}
 use borrow.Author.Tests.{lt-leb, leb-false, le-ltb, ltb-false, ne-eqb, eqb-false}
@@ -13,9 +13,9 @@ use Rattle.store.specs.declared.types.TreeName.{TreeName}
 use Rattle.store.specs.Head.{passLimit, openLimit, weightLimit}
 use Rattle.store.specs.Calls.{Call, opening, start, end, question, lookupIn}
 use Rattle.store.specs.Refusals.{Ground, firstMet}
-use Rattle.store.specs.Grounds.{Sought, noneOpen, openSince, Known, startsAt, isNone, argumentGrounds, stateGrounds}
+use Rattle.store.specs.Grounds.{Known, argumentGrounds, stateGrounds}
 use Rattle.store.proofs.RefusalLaws.{or-false, Numbered, none-met}
-use Rattle.store.proofs.NumberOrder.{Rises, rises-most, arguments-rise, states-rise}
+use Rattle.store.proofs.NumberOrder.{Between, rises-between, arguments-rise, states-rise}
 
 -- A tick and a key that a lookup may have
 pub record InBounds (t k : ℕ) : Type 0 where
@@ -41,12 +41,10 @@ pub record MayStart (known : Known) (tick : ℕ) : Type 0 where
   pub place : known .count < openLimit
   pub number : known .started < passLimit
 
--- or an end: the pass is open, and started at another tick
+-- or an end: the pass is open; it may have started at the same tick
 pub record MayEnd (known : Known) (tick : ℕ) : Type 0 where
   pub later : known .last ≤ tick
-  pub began : ℕ
-  pub is-open : known .pass ≡ openSince began
-  pub other : tick ≡ began → ⊥
+  pub is-open : known .found ≡ true
 
 -- "A condition that holds is always refused; nothing else is." These are not refused
 module _ (tick key weight : ℕ) where
@@ -76,7 +74,7 @@ module _ (tick number : ℕ) where
 
   pub end-may : (known : Known) → MayEnd known tick → firstMet (stateGrounds known (end tick number)) ≡ 0
   unfolding firstMet
-  end-may known h = rw (le-ltb tick (known .last) (h .later), h .is-open, ne-eqb tick (h .began) (h .other)) refl
+  end-may known h = rw (le-ltb tick (known .last) (h .later), h .is-open) refl
 
 pub question-passes : (k1 k2 t1 t2 : ℕ) → Asked k1 k2 t1 t2 → firstMet (argumentGrounds (question k1 k2 t1 t2)) ≡ 0
 unfolding firstMet
@@ -103,40 +101,32 @@ pub record Usual (n : ℕ) : Type 0 where
 abbrev pub AllUsual : List Ground → Type 0
 AllUsual gs = All (λ (g : Ground). Usual (g .number)) gs
 
--- Of the input below 20, and of the state from 21 to 25
-low-usual : (from : ℕ) (gs : List Ground) → 1 ≤ from → Rises from gs 5 → AllUsual gs
-low-usual from [] some h = tt
-low-usual from (g ∷ gs) some h =
-    let most = rises-most (g .number) 5 gs (h .1) in (
-      record {
-        some = omega (arith, h .0);
-        not-20 = λ e. omega arith;
-        not-26 = λ e. omega arith;
-        not-27 = λ e. omega arith;
-        not-28 = λ e. omega arith;
-      },
-      low-usual (g .number) gs (omega (arith, h .0)) (h .1),
-    )
-
-high-usual : (from : ℕ) (gs : List Ground) → 21 ≤ from → Rises from gs 25 → AllUsual gs
-high-usual from [] some h = tt
-high-usual from (g ∷ gs) some h =
-    let most = rises-most (g .number) 25 gs (h .1) in (
-      record {
-        some = omega (arith, h .0);
-        not-20 = λ e. omega (arith, h .0);
-        not-26 = λ e. omega arith;
-        not-27 = λ e. omega arith;
-        not-28 = λ e. omega arith;
-      },
-      high-usual (g .number) gs (omega (arith, h .0)) (h .1),
-    )
-
+-- Of the input up to 5, and of the state from 21 to 25
 pub arguments-usual : (c : Call) → AllUsual (argumentGrounds c)
-arguments-usual c = low-usual 1 (argumentGrounds c) (omega arith) (arguments-rise c)
+arguments-usual c =
+    all-map (Between 1 5) (λ (g : Ground). Usual (g .number))
+    (λ g b.
+    record {
+      some = b .0;
+      not-20 = λ e. omega (arith, b .1);
+      not-26 = λ e. omega (arith, b .1);
+      not-27 = λ e. omega (arith, b .1);
+      not-28 = λ e. omega (arith, b .1);
+    })
+    (argumentGrounds c) (rises-between 1 5 (argumentGrounds c) (arguments-rise c))
 
 pub states-usual : (known : Known) (c : Call) → AllUsual (stateGrounds known c)
-states-usual known c = high-usual 21 (stateGrounds known c) (omega arith) (states-rise known c)
+states-usual known c =
+    all-map (Between 21 25) (λ (g : Ground). Usual (g .number))
+    (λ g b.
+    record {
+      some = omega (arith, b .0);
+      not-20 = λ e. omega (arith, b .0);
+      not-26 = λ e. omega (arith, b .1);
+      not-27 = λ e. omega (arith, b .1);
+      not-28 = λ e. omega (arith, b .1);
+    })
+    (stateGrounds known c) (rises-between 21 25 (stateGrounds known c) (states-rise known c))
 
 pub usual-numbered : (gs : List Ground) → AllUsual gs → Numbered gs
 usual-numbered gs h = all-map (λ (g : Ground). Usual (g .number)) (λ (g : Ground). 1 ≤ g .number) (λ g u. u .some) gs h
@@ -198,9 +188,8 @@ may-start known tick key weight e =
 pub may-end : (known : Known) (tick number : ℕ) → firstMet (stateGrounds known (end tick number)) ≡ 0 → MayEnd known tick
 may-end known tick number e =
     let none = none-met (stateGrounds known (end tick number)) (states-numbered known (end tick number)) e in
-    let found = go (known .pass) (none .1 .0) (none .1 .1 .0) in
-    record { later = ltb-false tick (known .last) (none .0); began = found .0; is-open = found .1; other = found .2 }
+    record { later = ltb-false tick (known .last) (none .0); is-open = go (known .found) (none .1 .0) }
   where
-    go : (pass : Sought) → isNone pass ≡ false → startsAt tick pass ≡ false → (began : ℕ) × (pass ≡ openSince began) × (tick ≡ began → ⊥)
-    go noneOpen e f = absurd (false≢true (sym e))
-    go (openSince began) e f = (began, refl, eqb-false tick began f)
+    go : (found : Bool) → not found ≡ false → found ≡ true
+    go true e = refl
+    go false e = absurd (false≢true (sym e))

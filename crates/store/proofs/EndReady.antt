@@ -9,7 +9,7 @@ use Rattle.words.specs.Lists.{All}
 use Rattle.words.specs.Words.{openEnd}
 use Rattle.tree.specs.RowSteps.{Point}
 use Rattle.tree.specs.Grown.{InTime, Room}
-use Rattle.tree.proofs.Lists.{all-map, all-at}
+use Rattle.tree.proofs.Lists.{all-at}
 use Rattle.store.specs.declared.types.OpenPass.{OpenPass}
 use Rattle.store.specs.declared.types.FoundPass.{FoundPass}
 use Rattle.store.specs.declared.types.FoundPass.the-variants.{Missing, At}
@@ -18,15 +18,15 @@ use Rattle.store.specs.declared.types.TreeName.the-variants.{Starts, End
 use Rattle.store.specs.Trees.{Store, treeIn}
 use Rattle.store.specs.Head.{findPass, passOf}
 use Rattle.store.specs.Calls.{end}
-use Rattle.store.specs.Grounds.{Sought, noneOpen, openSince}
 use Rattle.store.specs.Writing.{pointOf, Entry, endEntries, enterAll, closedUp, endedHead}
 use Rattle.store.specs.Performing.{served}
 use Rattle.store.specs.Passes.{End, stillOpen, endedAt, Pass, sumWhere}
 use Rattle.store.specs.Points.{endPointsOf, pointsOfPass, pointsOf}
-use Rattle.store.specs.Book.{Book, isOpen, notEnded, neverStarted, passNumbered, openOr, bookKnows, endPassAt, bookDoes}
+use Rattle.store.specs.Book.{Book, isOpen, notEnded, neverStarted, passNumbered, bookKnows, endPassAt, bookDoes}
 use Rattle.store.proofs.SumLaws.{sum-where-one}
 use Rattle.store.proofs.PointLaws.{ended, points-ended}
-use Rattle.store.proofs.OpenPasses.{openOf, openPass, FoundAt, find-open, PassKept}
+use Rattle.store.proofs.BookPasses.{PassKept, ended-kept}
+use Rattle.store.proofs.OpenPasses.{openOf, openPass, FoundAt, find-open}
 use Rattle.store.proofs.HeadLists.{closed-length, list-closed}
 use Rattle.store.proofs.ArgumentFacts.{MayEnd}
 use Rattle.store.proofs.Agreement.{TreeTook, Agrees}
@@ -46,37 +46,21 @@ open-inside number [] e = absurd (false≢true (ap notEnded e))
 open-inside zero (p ∷ passes) e = omega arith
 open-inside (suc number) (p ∷ passes) e = omega (arith, open-inside number passes e)
 
-ended-kept : (number tick : ℕ) (passes : List Pass) → getD passes number neverStarted .start < tick → All (PassKept tick) passes
-    → All (PassKept tick) (endPassAt number tick passes)
-unfolding endPassAt
-ended-kept number tick [] s h = tt
-ended-kept zero tick (p ∷ passes) s h =
-    (record { key = h .0 .key; some = h .0 .some; weight = h .0 .weight; start = h .0 .start; lived = s }, h .1)
-ended-kept (suc number) tick (p ∷ passes) s h = (h .0, ended-kept number tick passes s (h .1))
-
--- A pass that is sought and found open
-pub found-open : (p : Pass) (e : End) (began : ℕ) → openOr p e ≡ openSince began → (e ≡ stillOpen) × (began ≡ p .start)
-found-open p stillOpen began is = (refl, sym (ap began-at is))
-  where
-    began-at : Sought → ℕ
-    began-at noneOpen = 0
-    began-at (openSince tick) = tick
-found-open p (endedAt e) began is = absurd (false≢true (ap found is))
-  where
-    found : Sought → Bool
-    found noneOpen = false
-    found (openSince tick) = true
+-- A pass that is open has no end
+no-end : (e : End) → notEnded e ≡ true → e ≡ stillOpen
+no-end stillOpen is = refl
+no-end (endedAt e) is = absurd (false≢true is)
 
 module _ (s : Store) (b : Book) (a : Agrees s b) (tick number : ℕ) (tick-fits : tick < openEnd)
     (may : MayEnd (bookKnows b (end tick number)) tick) where
   abbrev pass : Pass
   pass = passNumbered b number
 
-  is-open : (pass .end ≡ stillOpen) × (may .began ≡ pass .start)
-  is-open = found-open pass (pass .end) (may .began) (may .is-open)
+  is-open : pass .end ≡ stillOpen
+  is-open = no-end (pass .end) (may .is-open)
 
   abbrev at : FoundAt number tick 0 0 (b .passes)
-  at = find-open number tick 0 0 (b .passes) (ap notEnded (is-open .0))
+  at = find-open number tick 0 0 (b .passes) (may .is-open)
 
   abbrev place : ℕ
   place = 0 + at .at
@@ -94,28 +78,16 @@ module _ (s : Store) (b : Book) (a : Agrees s b) (tick number : ℕ) (tick-fits 
   after = bookDoes b (end tick number)
 
   inside-book : number < length (b .passes)
-  inside-book = open-inside number (b .passes) (is-open .0)
+  inside-book = open-inside number (b .passes) is-open
 
   known : PassKept (b .last) pass
   known = all-at (PassKept (b .last)) (b .passes) number neverStarted (a .kept) inside-book
-
-  started-before : pass .start < tick
-  started-before = before (may .other)
-    where
-      before : (tick ≡ may .began → ⊥) → pass .start < tick
-      before n = omega (arith, n, is-open .1, known .start, may .later)
 
   in-time : InTime (b .last) point
   in-time = record { later = may .later; tick = tick-fits; key = known .key }
 
   inside : place < s .head .count
   inside = omega (arith, at .inside, a .count)
-
-  later-kept : All (PassKept tick) (b .passes)
-  later-kept =
-      all-map (PassKept (b .last)) (PassKept tick)
-      (λ p k. record { key = k .key; some = k .some; weight = k .weight; start = omega (arith, k .start, may .later); lived = k .lived })
-      (b .passes) (a .kept)
 
   abbrev without : ℕ → List OpenPass → List OpenPass
   without i os = take i os ++ drop (suc i) os
@@ -140,7 +112,7 @@ module _ (s : Store) (b : Book) (a : Agrees s b) (tick number : ℕ) (tick-fits 
   -- The tree of ends takes the point, the others none
   open-adds : (f : Point → ℕ) (test : Point → Bool) → sumWhere f test (endPointsOf pass (pass .end)) ≡ 0
   unfolding sumWhere
-  open-adds f test = ap (λ (e : End). sumWhere f test (endPointsOf pass e)) (is-open .0)
+  open-adds f test = ap (λ (e : End). sumWhere f test (endPointsOf pass e)) is-open
 
   trees-after : Room (treeIn s Ends) point → (name : TreeName)
       → TreeTook (treeIn (storeAfter found) name) tick (pointsOf name (after .passes))
@@ -164,7 +136,7 @@ module _ (s : Store) (b : Book) (a : Agrees s b) (tick number : ℕ) (tick-fits 
         count =
             omega (arith, a .count, ap length (at .closes), without-length (at .at) (openOf 0 (b .passes)) (at .inside));
         most = omega (arith, a .most);
-        kept = ended-kept number tick (b .passes) started-before later-kept;
+        kept = ended-kept b tick number (may .later) (a .kept);
         trees = trees-after room;
       }
 

@@ -6,17 +6,17 @@ use mathlib.Core.Path.{_≡_, refl}
 use mathlib.Core.Bool.{Bool, true, false, _&&_, and-eq-true-iff}
 use lib.Dec.{leb, ltb}
 use borrow.Author.Tests.{le-leb, lt-ltb, leb-true, ltb-true}
-use Rattle.store.specs.Passes.{End, stillOpen, endedAt, Pass, endsAfter, meets}
-use Rattle.store.proofs.QuestionSums.{StartedBefore}
+use Rattle.store.specs.Passes.{End, stillOpen, endedAt, Pass, notEndedBefore, meets}
+use Rattle.store.proofs.QuestionSums.{StartedBy}
 
--- "A pass that started at s and ended at e lives at ticks s to e - 1; an open pass has no last tick."
-abbrev pub BeforeEnd : ℕ → End → Type 0
-BeforeEnd t stillOpen = Unit {0}
-BeforeEnd t (endedAt e) = t < e
+-- "A pass lives at s to e" (document 02, Paper 2); "an open pass has no last tick."
+abbrev pub UpToEnd : ℕ → End → Type 0
+UpToEnd t stillOpen = Unit {0}
+UpToEnd t (endedAt e) = t ≤ e
 
 pub record LivesAt (p : Pass) (t : ℕ) : Type 0 where
   pub started : p .start ≤ t
-  pub not-ended : BeforeEnd t (p .end)
+  pub not-ended : UpToEnd t (p .end)
 
 -- A tick of the question, t1 up to but not t2, at which the pass lives
 pub record Intersects (p : Pass) (t1 t2 : ℕ) : Type 0 where
@@ -31,21 +31,21 @@ pub record InBand (p : Pass) (k1 k2 : ℕ) : Type 0 where
   pub high : p .key < k2
 
 -- The later of t1 and the start is such a tick, where there is one
-later-lives : (t1 start : ℕ) (e : End) → StartedBefore start e → endsAfter t1 e ≡ true → BeforeEnd (max t1 start) e
+later-lives : (t1 start : ℕ) (e : End) → StartedBy start e → notEndedBefore t1 e ≡ true → UpToEnd (max t1 start) e
 later-lives t1 start stillOpen lived after = tt
-later-lives t1 start (endedAt e) lived after = omega (arith, lived, ltb-true t1 e after)
+later-lives t1 start (endedAt e) lived after = omega (arith, lived, leb-true t1 e after)
 
-ends-later : (t1 tick : ℕ) (e : End) → t1 ≤ tick → BeforeEnd tick e → endsAfter t1 e ≡ true
-ends-later t1 tick stillOpen from before = refl
-ends-later t1 tick (endedAt e) from before = lt-ltb t1 e (omega arith)
+ends-later : (t1 tick : ℕ) (e : End) → t1 ≤ tick → UpToEnd tick e → notEndedBefore t1 e ≡ true
+ends-later t1 tick stillOpen from up-to = refl
+ends-later t1 tick (endedAt e) from up-to = le-leb t1 e (omega arith)
 
 module _ (p : Pass) (k1 k2 t1 t2 : ℕ) where
   -- A question that meets a pass intersects its life
-  pub meets-intersects : t1 < t2 → StartedBefore (p .start) (p .end) → meets k1 k2 t1 t2 p ≡ true → InBand p k1 k2 × Intersects p t1 t2
+  pub meets-intersects : t1 < t2 → StartedBy (p .start) (p .end) → meets k1 k2 t1 t2 p ≡ true → InBand p k1 k2 × Intersects p t1 t2
   meets-intersects some lived e =
-      let low = and-eq-true-iff (leb k1 (p .key)) (ltb (p .key) k2 && (ltb (p .start) t2 && endsAfter t1 (p .end))) .0 e in
-      let high = and-eq-true-iff (ltb (p .key) k2) (ltb (p .start) t2 && endsAfter t1 (p .end)) .0 (low .1) in
-      let ticks = and-eq-true-iff (ltb (p .start) t2) (endsAfter t1 (p .end)) .0 (high .1) in
+      let low = and-eq-true-iff (leb k1 (p .key)) (ltb (p .key) k2 && (ltb (p .start) t2 && notEndedBefore t1 (p .end))) .0 e in
+      let high = and-eq-true-iff (ltb (p .key) k2) (ltb (p .start) t2 && notEndedBefore t1 (p .end)) .0 (low .1) in
+      let ticks = and-eq-true-iff (ltb (p .start) t2) (notEndedBefore t1 (p .end)) .0 (high .1) in
       let starts = ltb-true (p .start) t2 (ticks .0) in (
         record { low = leb-true k1 (p .key) (low .0); high = ltb-true (p .key) k2 (high .0) },
         record {

@@ -1,17 +1,19 @@
 -- Demand 3: a store from its opening on answers as the pass book does.
 pub mod SumLaws
-pub mod Intersections
 pub mod RefusalLaws
 pub mod TreeLaws
 pub mod NumberOrder
 pub mod ArgumentFacts
 pub mod PointLaws
 pub mod QuestionSums
+pub mod Intersections
+pub mod BookPasses
 pub mod OpenPasses
 pub mod HeadLists
 pub mod Agreement
 pub mod LookupTotals
 pub mod Bounds
+pub mod LookupPages
 pub mod TreesTook
 pub mod Entering
 pub mod Ready
@@ -23,3 +25,4 @@ pub mod QuestionValues
 pub mod QuestionReady
 pub mod Outcomes
 pub mod Main
+pub mod ClosedLives

@@ -28,7 +28,7 @@ use Rattle.store.specs.Points.{pointsOf, lookupCount, lookupSum}
 use Rattle.store.specs.Book.{Book}
 use Rattle.store.proofs.SumLaws.{sum-where-most, total-is-sum}
 use Rattle.store.proofs.PointLaws.{Light, points-light, points-few}
-use Rattle.store.proofs.OpenPasses.{PassKept}
+use Rattle.store.proofs.BookPasses.{PassKept}
 use Rattle.store.proofs.ArgumentFacts.{InBounds}
 use Rattle.store.proofs.Agreement.{TreeTook, Agrees}
 

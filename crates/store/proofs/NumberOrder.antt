@@ -3,6 +3,8 @@ use Prim.Native.Nat.{ℕ, _≤_}
 use native.Mathlib.Omega.{arith}
 use mathlib.Core.Bool.{Bool}
 use mathlib.Core.List.{List, [], _∷_, _++_}
+use Rattle.words.specs.Lists.{All}
+use Rattle.tree.proofs.Lists.{all-map}
 use Rattle.store.specs.Trees.{Store, treeIn}
 use Rattle.store.specs.Calls.{Call, opening, start, end, question, lookupIn}
 use Rattle.store.specs.Refusals.{Ground}
@@ -31,9 +33,19 @@ rises-from : (less from to : ℕ) (gs : List Ground) → less ≤ from → Rises
 rises-from less from to [] l h = omega (arith, l, h)
 rises-from less from to (g ∷ gs) l h = (omega (arith, l, h .0), h .1)
 
-pub rises-most : (from to : ℕ) (gs : List Ground) → Rises from gs to → from ≤ to
+rises-most : (from to : ℕ) (gs : List Ground) → Rises from gs to → from ≤ to
 rises-most from to [] h = h
 rises-most from to (g ∷ gs) h = omega (arith, h .0, rises-most (g .number) to gs (h .1))
+
+-- and lie between the two
+abbrev pub Between : (from to : ℕ) → Ground → Type 0
+Between from to g = (from ≤ g .number) × (g .number ≤ to)
+
+pub rises-between : (from to : ℕ) (gs : List Ground) → Rises from gs to → All (Between from to) gs
+rises-between from to [] h = tt
+rises-between from to (g ∷ gs) h =
+    ((h .0, rises-most (g .number) to gs (h .1)),
+    all-map (Between (g .number) to) (Between from to) (λ x b. (omega (arith, h .0, b .0), b .1)) gs (rises-between (g .number) to gs (h .1)))
 
 pub arguments-rise : (c : Call) → Rises 1 (argumentGrounds c) 5
 arguments-rise opening = omega arith
@@ -45,7 +57,7 @@ arguments-rise (lookupIn tree t k) = (omega arith, (omega arith, omega arith))
 pub states-rise : (known : Known) (c : Call) → Rises 21 (stateGrounds known c) 25
 states-rise known opening = omega arith
 states-rise known (start tick key weight) = (omega arith, (omega arith, (omega arith, omega arith)))
-states-rise known (end tick number) = (omega arith, (omega arith, (omega arith, omega arith)))
+states-rise known (end tick number) = (omega arith, (omega arith, omega arith))
 states-rise known (question k1 k2 t1 t2) = omega arith
 states-rise known (lookupIn tree t k) = omega arith
 
@@ -64,7 +76,7 @@ module _ (s : Store) where
       rises-on 26 26 28 (each spoils 26 es) (each short 27 es ++ each crowded 28 es) (rises-each spoils 26 26 (omega arith) es)
       (rises-on 26 27 28 (each short 27 es) (each crowded 28 es) (rises-each short 26 27 (omega arith) es) (rises-each crowded 27 28 (omega arith) es))
 
-  pages-rise : (c : Call) → Rises 26 (pageGrounds s c) 28
+  pub pages-rise : (c : Call) → Rises 26 (pageGrounds s c) 28
   pages-rise c =
       rises-on 26 26 28 (lookupGrounds s (lookupsOf c)) (entryGrounds s (entriesOf (s .head) c))
       (rises-each (λ (l : PointLookup). isSpoiled (foundIn s l)) 26 26 (omega arith) (lookupsOf c)) (entries-rise (entriesOf (s .head) c))

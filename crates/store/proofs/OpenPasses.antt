@@ -16,7 +16,7 @@ use Rattle.store.specs.declared.types.FoundPass.the-variants.{Missing, A
 use Rattle.store.specs.Head.{weightLimit, findPass, passesFit, risesTo, numbersRise}
 use Rattle.store.specs.Passes.{End, stillOpen, endedAt, Pass, sumWhere, countWhere}
 use Rattle.store.specs.Book.{endPassAt, notEnded, isOpen, neverStarted}
-use Rattle.store.proofs.QuestionSums.{StartedBefore}
+use Rattle.store.proofs.BookPasses.{PassKept}
 
 -- A pass of the book as the head has it
 abbrev pub openPass : ℕ → Pass → OpenPass
@@ -148,14 +148,6 @@ find-open (suc d) tick place n (p ∷ ps) o = go (p .end) refl (λ place′. fin
           closes = here (endPassAt d tick ps) ∙ ih .closes
               ∙ sym (ap (λ (l : List OpenPass). take (ih .at) l ++ drop (suc (ih .at)) l) (here ps));
         }
-
--- What is known of each pass of the book
-pub record PassKept (last : ℕ) (p : Pass) : Type 0 where
-  pub key : p .key < keyLimit
-  pub some : 1 ≤ p .weight
-  pub weight : p .weight ≤ weightLimit
-  pub start : p .start ≤ last
-  pub lived : StartedBefore (p .start) (p .end)
 
 -- No ground for 20 in the open passes
 pub open-fit : (started last n : ℕ) (ps : List Pass) → n + length ps ≤ started → All (PassKept last) ps → passesFit started last (openOf n ps) ≡ true

@@ -1,44 +1,61 @@
 -- Questions: the store answers as the book, and stays as it is.
 use Prim.Native.Nat.{ℕ, _*_, _≤_}
 use native.Mathlib.Omega.{arith}
-use mathlib.Core.Path.{_≡_, refl, ap₂}
+use mathlib.Core.Path.{_≡_, refl, ap, ap₂, _∙_}
 use mathlib.Core.Bool.{Bool, true, false, cond}
-use mathlib.Core.List.{List, [], _∷_}
-use lib.ListN.{length}
-use lib.Dec.{eqb}
+use mathlib.Core.List.{List, [], _∷_, _++_}
+use lib.ListN.{length, length-append}
 use Rattle.words.specs.Lists.{All}
 use Rattle.words.specs.Words.{openEnd}
+use Rattle.tree.proofs.Lists.{all-append}
+use Rattle.store.specs.declared.types.TreeName.{TreeName}
+use Rattle.store.specs.declared.types.TreeName.the-variants.{Starts, Ends}
 use Rattle.store.specs.Trees.{Store}
 use Rattle.store.specs.Calls.{question}
-use Rattle.store.specs.Reading.{PointLookup, startsBelow, endsBelow, lookupsOf}
+use Rattle.store.specs.Reading.{PointLookup, pointsBefore, nonePrecede, lookupBefore, lookupsOf}
 use Rattle.store.specs.Performing.{served}
 use Rattle.store.specs.Book.{Book, says}
 use Rattle.store.proofs.ArgumentFacts.{Asked}
 use Rattle.store.proofs.Agreement.{Agrees}
 use Rattle.store.proofs.Ready.{LookupInBounds, Ready, pages-are, pages-few}
-use Rattle.store.proofs.QuestionValues.{starts-in, ends-in, question-count, question-sum}
+use Rattle.store.proofs.QuestionValues.{before-in, question-count, question-sum}
+
+-- Each of the four is one lookup at most
+pub one-most : (tree : TreeName) (t k : ℕ) → length (lookupBefore tree t k) ≤ 1
+one-most tree t k = go (nonePrecede t k)
+  where
+    go : (none : Bool) → length (cond none [] (pointsBefore tree t k ∷ [])) ≤ 1
+    go true = omega arith
+    go false = omega arith
 
 module _ (s : Store) (b : Book) (a : Agrees s b) (k1 k2 t1 t2 : ℕ) (wide : t2 ≤ openEnd) (ask : Asked k1 k2 t1 t2) where
-  abbrev low : List PointLookup
-  low = startsBelow t2 k1 ∷ (endsBelow t1 k1 ∷ [])
-
-  below-band : k1 ≤ k2
-  below-band = omega (arith, ask .band)
+  one-in : (tree : TreeName) (t k : ℕ) → t ≤ t2 → k ≤ k2 → All LookupInBounds (lookupBefore tree t k)
+  one-in tree t k early low = go (nonePrecede t k)
+    where
+      go : (none : Bool) → All LookupInBounds (cond none [] (pointsBefore tree t k ∷ []))
+      go true = tt
+      go false = (before-in s b a k1 k2 t1 t2 wide ask tree t k early low, tt)
 
   in-bounds : All LookupInBounds (lookupsOf (question k1 k2 t1 t2))
   in-bounds =
-      (starts-in s b a k1 k2 t1 t2 wide ask k2 (omega arith), (ends-in s b a k1 k2 t1 t2 wide ask k2 (omega arith), unless (eqb k1 0)))
-    where
-      unless : (c : Bool) → All LookupInBounds (cond c [] low)
-      unless true = tt
-      unless false = (starts-in s b a k1 k2 t1 t2 wide ask k1 below-band, (ends-in s b a k1 k2 t1 t2 wide ask k1 below-band, tt))
+      let earlier : t1 ≤ t2 = omega (arith, ask .ticks) in
+      let lower : k1 ≤ k2 = omega (arith, ask .band) in
+      all-append LookupInBounds (lookupBefore Starts t2 k2) _ (one-in Starts t2 k2 (omega arith) (omega arith))
+      (all-append LookupInBounds (lookupBefore Ends t1 k2) _ (one-in Ends t1 k2 earlier (omega arith))
+      (all-append LookupInBounds (lookupBefore Starts t2 k1) (lookupBefore Ends t1 k1) (one-in Starts t2 k1 (omega arith) lower) (one-in Ends t1 k1 earlier lower)))
 
   four : length (lookupsOf (question k1 k2 t1 t2)) ≤ 4
-  four = go (eqb k1 0)
-    where
-      go : (c : Bool) → length (startsBelow t2 k2 ∷ (endsBelow t1 k2 ∷ cond c [] low)) ≤ 4
-      go true = omega arith
-      go false = omega arith
+  four =
+      omega (
+        arith,
+        length-append (lookupBefore Starts t2 k2) (lookupBefore Ends t1 k2 ++ (lookupBefore Starts t2 k1 ++ lookupBefore Ends t1 k1)),
+        length-append (lookupBefore Ends t1 k2) (lookupBefore Starts t2 k1 ++ lookupBefore Ends t1 k1),
+        length-append (lookupBefore Starts t2 k1) (lookupBefore Ends t1 k1),
+        one-most Starts t2 k2,
+        one-most Ends t1 k2,
+        one-most Starts t2 k1,
+        one-most Ends t1 k1,
+      )
 
   pub question-ready : Ready s b (question k1 k2 t1 t2)
   unfolding served

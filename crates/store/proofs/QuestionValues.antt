@@ -1,9 +1,9 @@
--- The value of a question: "starts(t2 - 1, k2 - 1) - ends(t1, k2 - 1) - starts(t2 - 1, k1 - 1) + ends(t1, k1 - 1)", modulo 2^64, is the book's.
+-- The value of a question: "starts(t2 - 1, k2 - 1) - ends(t1 - 1, k2 - 1) - starts(t2 - 1, k1 - 1) + ends(t1 - 1, k1 - 1)", modulo 2^64, is the book's.
 use Prim.Native.Nat.{ℕ, zero, suc, _+_, _-_, _%_, _^_, _≤_, _<_}
 use native.Mathlib.Omega.{arith}
 use native.Mathlib.Decide.{ℕ-discrete}
 use mathlib.Core.Path.{_≡_, refl, ap, ap₂, sym, _∙_}
-use mathlib.Core.Bool.{Bool, true, false, cond}
+use mathlib.Core.Bool.{Bool, true, false, cond, _||_}
 use mathlib.Core.List.{List, [], _∷_}
 use lib.ListN.{length}
 use lib.Dec.{eqb}
@@ -21,12 +21,12 @@ use Rattle.tree.proofs.Lists.{all-map}
 use Rattle.store.specs.declared.types.TreeName.{TreeName}
 use Rattle.store.specs.declared.types.TreeName.the-variants.{Starts, Ends}
 use Rattle.store.specs.Trees.{Store}
-use Rattle.store.specs.Reading.{valueOf, PointLookup, foundIn, startsBelow, endsBelow, unlessZero, questionValue}
+use Rattle.store.specs.Reading.{valueOf, PointLookup, foundIn, pointsBefore, valueBefore, questionValue}
 use Rattle.store.specs.Passes.{Pass, meets, sumWhere, questionCount, questionSum}
 use Rattle.store.specs.Points.{pointsOf}
 use Rattle.store.specs.Book.{Book}
-use Rattle.store.proofs.QuestionSums.{StartedBefore, passAmount, addedBelow, up-to-below, none-below, four-sums}
-use Rattle.store.proofs.OpenPasses.{PassKept}
+use Rattle.store.proofs.QuestionSums.{StartedBy, passAmount, before, addedBefore, up-to-before, none-before, none-below, four-sums}
+use Rattle.store.proofs.BookPasses.{PassKept}
 use Rattle.store.proofs.ArgumentFacts.{InBounds, Asked}
 use Rattle.store.proofs.Agreement.{Agrees}
 use Rattle.store.proofs.LookupTotals.{weightTotal, count-most, sum-most, tree-light, tree-few, bookValue, found-as-book}
@@ -62,60 +62,12 @@ four-numbers c1 c2 c3 c4 q e a b c d =
     ∙ twice-more q (omega arith)
 
 module _ (s : Store) (b : Book) (a : Agrees s b) (k1 k2 t1 t2 : ℕ) (wide : t2 ≤ openEnd) (ask : Asked k1 k2 t1 t2) where
-  pub starts-in : (k : ℕ) → k ≤ k2 → InBounds (startsBelow t2 k .tick) (startsBelow t2 k .key)
-  starts-in k h = record { tick = omega (arith, ask .ticks); key = omega (arith, ask .high, ask .band) }
+  -- A lookup of the question, with a tick and a key up to its highest ones
+  pub before-in : (tree : TreeName) (t k : ℕ) → t ≤ t2 → k ≤ k2 → InBounds (pointsBefore tree t k .tick) (pointsBefore tree t k .key)
+  before-in tree t k early low = record { tick = omega (arith, ask .ticks); key = omega (arith, ask .high, ask .band) }
 
-  pub ends-in : (k : ℕ) → k ≤ k2 → InBounds (endsBelow t1 k .tick) (endsBelow t1 k .key)
-  ends-in k h = record { tick = omega (arith, ask .ticks); key = omega (arith, ask .high, ask .band) }
-
-  -- What the four lookups find
-  abbrev v1 : Value
-  v1 = bookValue s b a (startsBelow t2 k2)
-
-  abbrev v2 : Value
-  v2 = bookValue s b a (endsBelow t1 k2)
-
-  abbrev v3 : Value
-  v3 = bookValue s b a (startsBelow t2 k1)
-
-  abbrev v4 : Value
-  v4 = bookValue s b a (endsBelow t1 k1)
-
-  below-band : k1 ≤ k2
-  below-band = omega (arith, ask .band)
-
-  value-is : questionValue s k1 k2 t1 t2 ≡ plus (minus (minus v1 v2) (unlessZero k1 v3)) (unlessZero k1 v4)
-  value-is =
-      ap₂ (λ (x y : Value). plus x y)
-      (ap₂ (λ (x y : Value). minus x y)
-      (ap₂ (λ (x y : Lookup). minus (valueOf x) (valueOf y))
-      (found-as-book s b a (startsBelow t2 k2) (starts-in k2 (omega arith)))
-      (found-as-book s b a (endsBelow t1 k2) (ends-in k2 (omega arith))))
-      (ap (λ (x : Lookup). unlessZero k1 (valueOf x)) (found-as-book s b a (startsBelow t2 k1) (starts-in k1 below-band))))
-      (ap (λ (x : Lookup). unlessZero k1 (valueOf x)) (found-as-book s b a (endsBelow t1 k1) (ends-in k1 below-band)))
-
-  -- A number of a value, below the low key
-  low-number : (measure : Value → ℕ) → measure value.zero ≡ 0 → (v : Value) (t : ℕ) (points : List Point)
-      → measure v ≡ sumWhere (λ (p : Point). measure (p .value)) (dominated t (k1 - 1)) points
-      → measure (unlessZero k1 v) ≡ addedBelow measure t k1 points
-  low-number measure z v t points e = go (ℕ-discrete k1 0)
-    where
-      go : Dec (k1 ≡ 0) → measure (cond (eqb k1 0) value.zero v) ≡ addedBelow measure t k1 points
-      go (yes f) = rw (eq-eqb k1 0 f) (z ∙ sym (ap (λ (k : ℕ). addedBelow measure t k points) f ∙ none-below measure t points))
-      go (no f) = rw (ne-eqb k1 0 f) (e ∙ up-to-below measure t k1 (some f) points)
-        where
-          some : (k1 ≡ 0 → ⊥) → 1 ≤ k1
-          some n = omega (arith, n)
-
-  low-small : (measure : Value → ℕ) → measure value.zero ≡ 0 → (v : Value) (most : ℕ) → measure v ≤ most → measure (unlessZero k1 v) ≤ most
-  low-small measure z v most h = go (eqb k1 0)
-    where
-      go : (c : Bool) → measure (cond c value.zero v) ≤ most
-      go true = omega (arith, z)
-      go false = h
-
-  lived : All (λ (p : Pass). StartedBefore (p .start) (p .end)) (b .passes)
-  lived = all-map (PassKept (b .last)) (λ (p : Pass). StartedBefore (p .start) (p .end)) (λ p k. k .lived) (b .passes) (a .kept)
+  lived : All (λ (p : Pass). StartedBy (p .start) (p .end)) (b .passes)
+  lived = all-map (PassKept (b .last)) (λ (p : Pass). StartedBy (p .start) (p .end)) (λ p k. k .lived) (b .passes) (a .kept)
 
   abbrev points : TreeName → List Point
   points name = pointsOf name (b .passes)
@@ -123,38 +75,69 @@ module _ (s : Store) (b : Book) (a : Agrees s b) (k1 k2 t1 t2 : ℕ) (wide : t2 
   -- One number of the four values, whose sums over a tree's points are small
   module _ (measure : Value → ℕ) (z : measure value.zero ≡ 0)
       (is : (l : PointLookup) → measure (bookValue s b a l) ≡ sumWhere (λ (p : Point). measure (p .value)) (dominated (l .tick) (l .key)) (points (l .tree)))
-      (small : (l : PointLookup) → measure (bookValue s b a l) ≤ weightTotal) where
-    balance : measure v1 + measure (unlessZero k1 v4)
-        ≡ sumWhere (passAmount measure) (meets k1 k2 t1 t2) (b .passes) + (measure v2 + measure (unlessZero k1 v3))
+      (small : (tree : TreeName) (test : Point → Bool) → sumWhere (λ (p : Point). measure (p .value)) test (points tree) ≤ weightTotal) where
+    abbrev found : TreeName → ℕ → ℕ → ℕ
+    found tree t k = measure (valueBefore s tree t k)
+
+    -- What a lookup finds is what the points before t and below k bring, also where none is made
+    found-is : (tree : TreeName) (t k : ℕ) → t ≤ t2 → k ≤ k2 → found tree t k ≡ addedBefore measure t k (points tree)
+    found-is tree t k early low = go (ℕ-discrete t 0) (ℕ-discrete k 0)
+      where
+        go : Dec (t ≡ 0) → Dec (k ≡ 0)
+            → measure (cond (eqb t 0 || eqb k 0) value.zero (valueOf (foundIn s (pointsBefore tree t k)))) ≡ addedBefore measure t k (points tree)
+        go (yes e) below =
+            rw (eq-eqb t 0 e) (z ∙ sym (ap (λ (n : ℕ). addedBefore measure n k (points tree)) e ∙ none-before measure k (points tree)))
+        go (no e) (yes f) =
+            rw (ne-eqb t 0 e, eq-eqb k 0 f)
+            (z ∙ sym (ap (λ (n : ℕ). addedBefore measure t n (points tree)) f ∙ none-below measure t (points tree)))
+        go (no e) (no f) =
+            rw (ne-eqb t 0 e, ne-eqb k 0 f)
+            (ap (λ (x : Lookup). measure (valueOf x)) (found-as-book s b a (pointsBefore tree t k) (before-in tree t k early low))
+            ∙ is (pointsBefore tree t k)
+            ∙ up-to-before measure t k (some t e) (some k f) (points tree))
+          where
+            some : (n : ℕ) → (n ≡ 0 → ⊥) → 1 ≤ n
+            some n g = omega (arith, g)
+
+    found-small : (tree : TreeName) (t k : ℕ) → t ≤ t2 → k ≤ k2 → found tree t k ≤ weightTotal
+    found-small tree t k early low = omega (arith, found-is tree t k early low, small tree (before measure t k))
+
+    earlier : t1 ≤ t2
+    earlier = omega (arith, ask .ticks)
+
+    lower : k1 ≤ k2
+    lower = omega (arith, ask .band)
+
+    balance : found Starts t2 k2 + found Ends t1 k1
+        ≡ sumWhere (passAmount measure) (meets k1 k2 t1 t2) (b .passes) + (found Ends t1 k2 + found Starts t2 k1)
     balance =
-        let some-band : 1 ≤ k2 = omega (arith, ask .band) in
         omega (
           arith,
-          is (startsBelow t2 k2) ∙ up-to-below measure (t2 - 1) k2 some-band (points Starts),
-          is (endsBelow t1 k2) ∙ up-to-below measure t1 k2 some-band (points Ends),
-          low-number measure z v3 (t2 - 1) (points Starts) (is (startsBelow t2 k1)),
-          low-number measure z v4 t1 (points Ends) (is (endsBelow t1 k1)),
+          found-is Starts t2 k2 (omega arith) (omega arith),
+          found-is Ends t1 k2 earlier (omega arith),
+          found-is Starts t2 k1 (omega arith) lower,
+          found-is Ends t1 k1 earlier lower,
           four-sums measure k1 k2 t1 t2 (ask .band) (ask .ticks) (b .passes) lived,
         )
 
-    pub difference : (((measure v1 + (2 ^ 64 - measure v2 % 2 ^ 64)) % 2 ^ 64 + (2 ^ 64 - measure (unlessZero k1 v3) % 2 ^ 64)) % 2 ^ 64
-        + measure (unlessZero k1 v4)) % 2 ^ 64
+    pub difference : (((found Starts t2 k2 + (2 ^ 64 - found Ends t1 k2 % 2 ^ 64)) % 2 ^ 64 + (2 ^ 64 - found Starts t2 k1 % 2 ^ 64)) % 2 ^ 64
+        + found Ends t1 k1) % 2 ^ 64
         ≡ sumWhere (passAmount measure) (meets k1 k2 t1 t2) (b .passes)
     difference =
-        four-numbers (measure v1) (measure v2) (measure (unlessZero k1 v3)) (measure (unlessZero k1 v4)) _ balance
-        (small (startsBelow t2 k2)) (small (endsBelow t1 k2))
-        (low-small measure z v3 weightTotal (small (startsBelow t2 k1))) (low-small measure z v4 weightTotal (small (endsBelow t1 k1)))
+        four-numbers (found Starts t2 k2) (found Ends t1 k2) (found Starts t2 k1) (found Ends t1 k1) _ balance
+        (found-small Starts t2 k2 (omega arith) (omega arith)) (found-small Ends t1 k2 earlier (omega arith))
+        (found-small Starts t2 k1 (omega arith) lower) (found-small Ends t1 k1 earlier lower)
 
-  count-small : (l : PointLookup) → bookValue s b a l .count ≤ weightTotal
-  count-small l = omega (arith, count-most (points (l .tree)) (tree-light s b a (l .tree)) (tree-few s b a (l .tree)) (dominated (l .tick) (l .key)))
+  count-small : (tree : TreeName) (test : Point → Bool) → sumWhere (λ (p : Point). p .value .count) test (points tree) ≤ weightTotal
+  count-small tree test = omega (arith, count-most (points tree) (tree-light s b a tree) (tree-few s b a tree) test)
 
-  sum-small : (l : PointLookup) → bookValue s b a l .sum ≤ weightTotal
-  sum-small l = sum-most (points (l .tree)) (tree-light s b a (l .tree)) (tree-few s b a (l .tree)) (dominated (l .tick) (l .key))
+  sum-small : (tree : TreeName) (test : Point → Bool) → sumWhere (λ (p : Point). p .value .sum) test (points tree) ≤ weightTotal
+  sum-small tree test = sum-most (points tree) (tree-light s b a tree) (tree-few s b a tree) test
 
   pub question-count : questionValue s k1 k2 t1 t2 .count ≡ questionCount k1 k2 t1 t2 (b .passes)
   unfolding plus minus
-  question-count = ap countOf value-is ∙ difference countOf refl (λ l. refl) count-small
+  question-count = difference countOf refl (λ l. refl) count-small
 
   pub question-sum : questionValue s k1 k2 t1 t2 .sum ≡ questionSum k1 k2 t1 t2 (b .passes)
   unfolding plus minus
-  question-sum = ap sumOf value-is ∙ difference sumOf refl (λ l. refl) sum-small
+  question-sum = difference sumOf refl (λ l. refl) sum-small

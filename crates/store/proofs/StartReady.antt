@@ -8,7 +8,6 @@ use lib.ListN.{length, take, set, length-append, length-set}
 use Rattle.words.specs.Lists.{All}
 use Rattle.tree.specs.RowSteps.{Point}
 use Rattle.tree.specs.Grown.{InTime, Room}
-use Rattle.tree.proofs.Lists.{all-map, all-append}
 use Rattle.store.specs.declared.types.OpenPass.{OpenPass}
 use Rattle.store.specs.declared.types.TreeName.{TreeName}
 use Rattle.store.specs.declared.types.TreeName.the-variants.{Starts, Ends}
@@ -22,7 +21,8 @@ use Rattle.store.specs.Points.{pointsOf}
 use Rattle.store.specs.Book.{Book, says, bookKnows, bookDoes}
 use Rattle.store.proofs.SumLaws.{sum-where-one}
 use Rattle.store.proofs.PointLaws.{points-more}
-use Rattle.store.proofs.OpenPasses.{openOf, openPass, open-count, open-more, PassKept}
+use Rattle.store.proofs.BookPasses.{started-kept}
+use Rattle.store.proofs.OpenPasses.{openOf, openPass, open-count, open-more}
 use Rattle.store.proofs.HeadLists.{list-more}
 use Rattle.store.proofs.ArgumentFacts.{StartArguments, MayStart}
 use Rattle.store.proofs.Agreement.{TreeTook, Agrees}
@@ -45,12 +45,6 @@ module _ (s : Store) (b : Book) (a : Agrees s b) (tick key weight : ℕ) (argume
 
   room-left : s .head .count < openLimit
   room-left = omega (arith, a .count, open-count 0 (b .passes), may .place)
-
-  old-kept : All (PassKept tick) (b .passes)
-  old-kept =
-      all-map (PassKept (b .last)) (PassKept tick)
-      (λ p k. record { key = k .key; some = k .some; weight = k .weight; start = omega (arith, k .start, may .later); lived = k .lived })
-      (b .passes) (a .kept)
 
   abbrev grown : List OpenPass
   grown = set (s .head .passes) (s .head .count) (record { number = s .head .started; key = key; weight = weight; start = tick })
@@ -93,11 +87,7 @@ module _ (s : Store) (b : Book) (a : Agrees s b) (tick key weight : ℕ) (argume
               length-append (openOf 0 (b .passes)) (openPass (0 + length (b .passes)) pass ∷ []),
             );
         most = omega (arith, room-left);
-        kept =
-            all-append (PassKept tick) (b .passes) (pass ∷ []) old-kept (
-              record { key = arguments .bounds .key; some = arguments .some; weight = arguments .weight-fits; start = omega arith; lived = tt },
-              tt,
-            );
+        kept = started-kept b tick key weight arguments (may .later) (a .kept);
         trees = trees-after room;
       }
 

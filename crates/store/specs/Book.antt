@@ -6,7 +6,7 @@ use lib.ListN.{length, getD, take}
 use lib.Dec.{eqb}
 use Rattle.store.specs.declared.types.Answer.{Answer}
 use Rattle.store.specs.Refusals.{firstMet}
-use Rattle.store.specs.Grounds.{Sought, noneOpen, openSince, Known, soughtBy, argumentGrounds, stateGrounds}
+use Rattle.store.specs.Grounds.{Known, soughtBy, argumentGrounds, stateGrounds}
 use Rattle.store.specs.Calls.{Call, opening, start, end, question, lookupIn}
 use Rattle.store.specs.Answers.{refusalOf, valuesOf}
 use Rattle.store.specs.Passes.{End, stillOpen, endedAt, Pass, countWhere, questionCount, questionSum}
@@ -59,17 +59,13 @@ abbrev pub passNumbered : Book → ℕ → Pass
 passNumbered b number = getD (b .passes) number neverStarted
 
 -- What the book knows
-abbrev pub openOr : Pass → End → Sought
-openOr p stillOpen = openSince (p .start)
-openOr p (endedAt e) = noneOpen
-
 abbrev pub bookKnows : Book → Call → Known
 bookKnows b c =
     record {
       last = b .last;
       count = countWhere isOpen (b .passes);
       started = length (b .passes);
-      pass = soughtBy c (λ (number : ℕ). openOr (passNumbered b number) (passNumbered b number .end));
+      found = soughtBy c (λ (number : ℕ). isOpen (passNumbered b number));
     }
 
 -- "Any other call gets the first refusal of these papers, in their order, 20 and 26 to 28 left out, that its arguments and the book meet."

@@ -1,7 +1,7 @@
 -- The grounds that a call's arguments give, and those that a store's head and a pass book know alike, each under its sentence.
 use Prim.Native.Nat.{ℕ}
 use mathlib.Core.List.{List, [], _∷_}
-use mathlib.Core.Bool.{Bool, true, false, _||_}
+use mathlib.Core.Bool.{Bool, false, _||_, not}
 use lib.Dec.{leb, ltb, eqb}
 use Rattle.words.specs.Words.{keyLimit, openEnd}
 use Rattle.store.specs.Head.{passLimit, openLimit, weightLimit}
@@ -39,45 +39,28 @@ argumentGrounds (end tick number) = noTick tick ∷ []
 argumentGrounds (question k1 k2 t1 t2) = bandTooHigh k1 k2 ∷ (noBand k1 k2 ∷ (noTime t1 t2 ∷ []))
 argumentGrounds (lookupIn tree t k) = keyTooHigh k ∷ (noTick t ∷ [])
 
--- The open pass of a number: none, or the tick of its start
-pub data Sought : Type 0 where
-  noneOpen : Sought
-  openSince : (tick : ℕ) → Sought
-
--- What a head and a book know: the last tick, how many passes are open and were started, and the pass that the call seeks
+-- What a head and a book know: the last tick, how many passes are open and were started, and whether the pass that the call seeks is open
 pub record Known : Type 0 where
   pub last : ℕ
   pub count : ℕ
   pub started : ℕ
-  pub pass : Sought
+  pub found : Bool
 
 -- Only an end seeks a pass
-abbrev pub soughtBy : Call → (ℕ → Sought) → Sought
-soughtBy opening find = noneOpen
-soughtBy (start tick key weight) find = noneOpen
+abbrev pub soughtBy : Call → (ℕ → Bool) → Bool
+soughtBy opening find = false
+soughtBy (start tick key weight) find = false
 soughtBy (end tick number) find = find number
-soughtBy (question k1 k2 t1 t2) find = noneOpen
-soughtBy (lookupIn tree t k) find = noneOpen
+soughtBy (question k1 k2 t1 t2) find = false
+soughtBy (lookupIn tree t k) find = false
 
 -- "21 tick of a start or an end before the last tick."
 abbrev pub beforeLast : (last tick : ℕ) → Ground
 beforeLast last tick = ltb tick last gives 21
 
--- "22 no open pass of that number."
-abbrev pub isNone : Sought → Bool
-isNone noneOpen = true
-isNone (openSince tick) = false
-
-abbrev pub notOpen : Sought → Ground
-notOpen pass = isNone pass gives 22
-
--- "23 end at the pass's own start tick."
-abbrev pub startsAt : ℕ → Sought → Bool
-startsAt tick noneOpen = false
-startsAt tick (openSince began) = eqb tick began
-
-abbrev pub atItsStart : ℕ → Sought → Ground
-atItsStart tick pass = startsAt tick pass gives 23
+-- "22 no open pass of that number." "Refusal 23 goes; its number isn't used again." (Paper 2)
+abbrev pub notOpen : Bool → Ground
+notOpen found = not found gives 22
 
 -- "24 a start with 64 open."
 abbrev pub allOpen : ℕ → Ground
@@ -91,6 +74,6 @@ allStarted started = leb passLimit started gives 25
 abbrev pub stateGrounds : Known → Call → List Ground
 stateGrounds known opening = []
 stateGrounds known (start tick key weight) = beforeLast (known .last) tick ∷ (allOpen (known .count) ∷ (allStarted (known .started) ∷ []))
-stateGrounds known (end tick number) = beforeLast (known .last) tick ∷ (notOpen (known .pass) ∷ (atItsStart tick (known .pass) ∷ []))
+stateGrounds known (end tick number) = beforeLast (known .last) tick ∷ (notOpen (known .found) ∷ [])
 stateGrounds known (question k1 k2 t1 t2) = []
 stateGrounds known (lookupIn tree t k) = []

@@ -1,7 +1,7 @@
 -- Performing a call, and a list of calls one after the other.
 use Prim.Native.Nat.{ℕ}
 use mathlib.Core.List.{List, [], _∷_, _++_}
-use mathlib.Core.Bool.{Bool, _&&_, not}
+use mathlib.Core.Bool.{Bool, true, false, _&&_, not}
 use Rattle.words.specs.declared.value.Value.{Value}
 use Rattle.store.specs.declared.types.Answer.{Answer}
 use Rattle.store.specs.declared.types.Answer.the-variants.{Opened, Started, Ended, Totals}
@@ -12,18 +12,18 @@ use Rattle.store.specs.Trees.{Store}
 use Rattle.store.specs.Head.{passOf, headFits}
 use Rattle.store.specs.Calls.{Call, opening, start, end, question, lookupIn, isOpening}
 use Rattle.store.specs.Refusals.{Ground, _gives_, firstMet}
-use Rattle.store.specs.Grounds.{Sought, noneOpen, openSince, Known, soughtBy, argumentGrounds, stateGrounds}
+use Rattle.store.specs.Grounds.{Known, soughtBy, argumentGrounds, stateGrounds}
 use Rattle.store.specs.Answers.{Answered, unlessRefused}
 use Rattle.store.specs.Writing.{lendsTooLittle, openedStore, entriesOf, entryGrounds, enterAll, startedHead, endedHead}
 use Rattle.store.specs.Reading.{PointLookup, foundIn, valueOf, lookupsOf, lookupGrounds, pagesIn, questionValue}
 
 -- What a head knows
-abbrev pub since : FoundPass → Sought
-since Missing = noneOpen
-since (At place p) = openSince (p .start)
+abbrev pub isFound : FoundPass → Bool
+isFound Missing = false
+isFound (At place p) = true
 
 abbrev pub headKnows : Head → Call → Known
-headKnows h c = record { last = h .last; count = h .count; started = h .started; pass = soughtBy c (λ (number : ℕ). since (passOf h number)) }
+headKnows h c = record { last = h .last; count = h .count; started = h .started; found = soughtBy c (λ (number : ℕ). isFound (passOf h number)) }
 
 -- "8 on opening, a page table under 260 words or an empty root list."
 abbrev pub opensOverTooLittle : Store → Call → Ground

@@ -1,7 +1,7 @@
 -- What a call that only reads gives: the lookup of each tree, and the question, which is made of lookups.
 use Prim.Native.Nat.{ℕ, _+_, _-_}
-use mathlib.Core.List.{List, [], _∷_, map}
-use mathlib.Core.Bool.{Bool, true, false, cond}
+use mathlib.Core.List.{List, [], _∷_, _++_, map}
+use mathlib.Core.Bool.{Bool, true, false, cond, _||_}
 use lib.Dec.{eqb}
 use Rattle.words.specs.declared.value.Value.{Value}
 use Rattle.words.specs.Value.{zero, plus, minus}
@@ -36,19 +36,24 @@ pub record PointLookup : Type 0 where
 abbrev pub foundIn : Store → PointLookup → Lookup
 foundIn s l = lookup (treeIn s (l .tree)) (l .tick) (l .key)
 
--- A question's lookups for one end of its band: "starts(t2 - 1, k2 - 1)", "ends(t1, k2 - 1)", and the same with k1
-abbrev pub startsBelow : (t2 k : ℕ) → PointLookup
-startsBelow t2 k = record { tree = Starts; tick = t2 - 1; key = k - 1 }
+-- The lookups of a question are of one kind: the points of a tree before tick t and below key k. "starts(t2 - 1, k2 - 1)", "ends are looked up at t1 - 1" (document 02,
+-- Paper 2), and the same with k1
+abbrev pub pointsBefore : TreeName → (t k : ℕ) → PointLookup
+pointsBefore tree t k = record { tree = tree; tick = t - 1; key = k - 1 }
 
-abbrev pub endsBelow : (t1 k : ℕ) → PointLookup
-endsBelow t1 k = record { tree = Ends; tick = t1; key = k - 1 }
+-- "With k1 = 0 the last two are zero and open no page." "t1 = 0 looks up none" (Paper 2): no key is below 0, and no tick before it
+abbrev pub nonePrecede : (t k : ℕ) → Bool
+nonePrecede t k = eqb t 0 || eqb k 0
 
--- The lookups that a call makes. "With k1 = 0 the last two are zero and open no page."
+abbrev pub lookupBefore : TreeName → (t k : ℕ) → List PointLookup
+lookupBefore tree t k = cond (nonePrecede t k) [] (pointsBefore tree t k ∷ [])
+
+-- The lookups that a call makes
 abbrev pub lookupsOf : Call → List PointLookup
 lookupsOf opening = []
 lookupsOf (start tick key weight) = []
 lookupsOf (end tick number) = []
-lookupsOf (question k1 k2 t1 t2) = startsBelow t2 k2 ∷ (endsBelow t1 k2 ∷ cond (eqb k1 0) [] (startsBelow t2 k1 ∷ (endsBelow t1 k1 ∷ [])))
+lookupsOf (question k1 k2 t1 t2) = lookupBefore Starts t2 k2 ++ (lookupBefore Ends t1 k2 ++ (lookupBefore Starts t2 k1 ++ lookupBefore Ends t1 k1))
 lookupsOf (lookupIn tree t k) = record { tree = tree; tick = t; key = k } ∷ []
 
 abbrev pub lookupGrounds : Store → List PointLookup → List Ground
@@ -59,14 +64,12 @@ abbrev pub pagesIn : Store → List PointLookup → ℕ
 pagesIn s [] = 0
 pagesIn s (l ∷ ls) = pagesOf (foundIn s l) + pagesIn s ls
 
-abbrev pub unlessZero : ℕ → Value → Value
-unlessZero k1 v = cond (eqb k1 0) zero v
+abbrev pub valueBefore : Store → TreeName → (t k : ℕ) → Value
+valueBefore s tree t k = cond (nonePrecede t k) zero (valueOf (foundIn s (pointsBefore tree t k)))
 
--- "starts(t2 - 1, k2 - 1) - ends(t1, k2 - 1) - starts(t2 - 1, k1 - 1) + ends(t1, k1 - 1)"
+-- "starts(t2 - 1, k2 - 1) - ends(t1 - 1, k2 - 1) - starts(t2 - 1, k1 - 1) + ends(t1 - 1, k1 - 1)", by Paper 2
 abbrev pub questionValue : Store → (k1 k2 t1 t2 : ℕ) → Value
 questionValue s k1 k2 t1 t2 =
     plus
-    (minus
-    (minus (valueOf (foundIn s (startsBelow t2 k2))) (valueOf (foundIn s (endsBelow t1 k2))))
-    (unlessZero k1 (valueOf (foundIn s (startsBelow t2 k1)))))
-    (unlessZero k1 (valueOf (foundIn s (endsBelow t1 k1))))
+    (minus (minus (valueBefore s Starts t2 k2) (valueBefore s Ends t1 k2)) (valueBefore s Starts t2 k1))
+    (valueBefore s Ends t1 k1)

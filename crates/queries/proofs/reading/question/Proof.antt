@@ -8,7 +8,7 @@ use Rattle.store.proofs.ArgumentFacts.{asked}
 use Rattle.refusals.proofs.HeadFacts.{use-words}
 use Rattle.refusals.proofs.RefusalParts.{arguments-pass, head-passes}
 use Rattle.queries.specs.Bands.{without, answerOf}
-use Rattle.queries.proofs.BandLaws.{band-few}
+use Rattle.queries.proofs.BandLaws.{band-few, band-before-few}
 use Rattle.queries.proofs.QuestionAnswers.{question-refused, question-answered}
 use borrow.Author.Needs.{needs}
 use Rattle.queries.proofs.reading.question.Statement.{statement}
@@ -44,8 +44,8 @@ lookup-band-requires c κs =
     let band = asked (a .k1) (a .k2) (a .t1) (a .t2) (arguments-pass s (question (a .k1) (a .k2) (a .t1) (a .t2)) refl (h .before .question-input .ensures) (h .head-refusal .ensures) (c .before .if1 .left)) in
     (use-words fit, (fit .roots-listed, (band .band, band .high)))
 
-lookup-band-requires-2 : tie.Need-lookup-band-requires-2
-lookup-band-requires-2 c κs =
+lookup-band-before-requires : tie.Need-lookup-band-before-requires
+lookup-band-before-requires c κs =
     let h = c .before .before .before .before in
     let a = h .before .before .before .before .before .before .args in
     let s : Store = storeOf (a .head) (a .start-table .now) (a .start-roots .now) (a .end-table .now) (a .end-roots .now) in
@@ -57,7 +57,7 @@ without-requires : tie.Need-without-requires
 without-requires c κs =
     let a = c .before .before .before .before .before .before .before .before .before .before .before .args in
     let s : Store = storeOf (a .head) (a .start-table .now) (a .start-roots .now) (a .end-table .now) (a .end-roots .now) in
-    (band-few (treeIn s Starts) (a .t2 - 1) (a .k1) (a .k2) (c .before .before .lookup-band .ensures), band-few (treeIn s Ends) (a .t1) (a .k1) (a .k2) (c .lookup-band2 .ensures))
+    (band-few (treeIn s Starts) (a .t2 - 1) (a .k1) (a .k2) (c .before .before .lookup-band .ensures), band-before-few (treeIn s Ends) (a .t1) (a .k1) (a .k2) (c .lookup-band-before .ensures))
 
 answer-of-requires : tie.Need-answer-of-requires
 answer-of-requires c κs = search needs
@@ -68,7 +68,7 @@ returns-2 c =
     let a = h .before .before .before .before .before .before .args in
     let s : Store = storeOf (a .head) (a .start-table .now) (a .start-roots .now) (a .end-table .now) (a .end-roots .now) in
     c .answer-of .ensures
-    ∙ ap answerOf (c .before .without .ensures ∙ ap₂ without (c .before .before .before .before .lookup-band .ensures) (c .before .before .lookup-band2 .ensures))
+    ∙ ap answerOf (c .before .without .ensures ∙ ap₂ without (c .before .before .before .before .lookup-band .ensures) (c .before .before .lookup-band-before .ensures))
     ∙ question-answered s (a .k1) (a .k2) (a .t1) (a .t2) (h .before .question-input .ensures) (h .head-refusal .ensures) (c .before .before .before .before .before .before .if1 .left)
 
 pub question-spec : {M : Type 1} → statement M
@@ -80,7 +80,7 @@ question-spec =
     returns
     sub-lookup-band
     lookup-band-requires
-    lookup-band-requires-2
+    lookup-band-before-requires
     without-requires
     answer-of-requires
     returns-2)
