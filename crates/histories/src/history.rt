@@ -2,6 +2,7 @@
 use crate::outcome::Outcome;
 use crate::outcome::made;
 use observed::Counts;
+use observed::Lives;
 use observed::head_agrees;
 use observed::height;
 use observed::refusal_of;
@@ -17,11 +18,12 @@ use store::Answer;
 use store::Head;
 ghost use Prim.Native.Nat.{_≤_, _<_};
 
-// Where a history has come to: the head, the book, what was compared, and the next call.
+// Where a history has come to: the head, the book, what was compared and reached, and the next call.
 pub struct Run {
     pub head: Head,
     pub book: PassBook,
     pub counts: Counts,
+    pub lives: Lives,
     pub call: Call,
 }
 
@@ -107,10 +109,12 @@ fn put_to_book(
     let said = with_pages(answer, hints.pages);
     let head = outcome.head;
     let agrees = head_agrees(head, passes, book);
+    let lives = run.lives.after(call, answer, run.book, book, passes);
     Run {
         head,
         book,
         counts: judged(run.counts, outcome, said, agrees),
+        lives,
         call: next_call(random, shape, anew, passes, book),
     }
 }
@@ -156,6 +160,7 @@ pub fn history(
             started: 0,
         },
         counts: Counts::none(),
+        lives: Lives::none(),
         call: Call::Open,
     };
     let mut left = turns;
@@ -175,5 +180,5 @@ pub fn history(
     }
     let starts = height(start_table, start_roots, run.head.starts.roots);
     let ends = height(end_table, end_roots, run.head.ends.roots);
-    run.counts.ended(starts, ends)
+    run.counts.ended(starts, ends, run.lives)
 }

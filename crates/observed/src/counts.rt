@@ -1,4 +1,5 @@
 // What was compared and what differed.
+use crate::lives::Lives;
 use store::Answer;
 ghost use mathlib.Core.Path.{_≡_};
 ghost use mathlib.Core.Bool.{true};
@@ -11,6 +12,9 @@ pub struct Counts {
     pub lacked_pages: u64,
     pub lacked_roots: u64,
     pub refused: u64,
+    // Passes that ended at their own start tick, and the most ends that one tick had
+    pub clicks: u64,
+    pub most_ends: u64,
     // How many pages high the highest tree was at the end
     pub highest: u64,
 }
@@ -110,6 +114,8 @@ impl Counts {
             lacked_pages: 0,
             lacked_roots: 0,
             refused: 0,
+            clicks: 0,
+            most_ends: 0,
             highest: 0,
         }
     }
@@ -122,6 +128,8 @@ impl Counts {
             lacked_pages: std::num::wrapping_add_u64(self.lacked_pages, other.lacked_pages),
             lacked_roots: std::num::wrapping_add_u64(self.lacked_roots, other.lacked_roots),
             refused: std::num::wrapping_add_u64(self.refused, other.refused),
+            clicks: std::num::wrapping_add_u64(self.clicks, other.clicks),
+            most_ends: higher(self.most_ends, other.most_ends),
             highest: higher(self.highest, other.highest),
         }
     }
@@ -135,6 +143,8 @@ impl Counts {
             lacked_pages: 0,
             lacked_roots: 0,
             refused: 0,
+            clicks: 0,
+            most_ends: 0,
             highest: 0,
         };
         self.plus(one)
@@ -149,13 +159,15 @@ impl Counts {
             lacked_pages: one_if(refusal == 27),
             lacked_roots: one_if(refusal == 28),
             refused: one_if(refusal != 0),
+            clicks: 0,
+            most_ends: 0,
             highest: 0,
         };
         self.plus(one)
     }
 
-    // At the end, with the heights of both trees.
-    pub fn ended(self, start_height: u64, end_height: u64) -> Counts {
+    // At the end, with the heights of both trees and what came about of closed lives.
+    pub fn ended(self, start_height: u64, end_height: u64, lives: Lives) -> Counts {
         let last = Counts {
             calls: 0,
             compared: 0,
@@ -163,6 +175,8 @@ impl Counts {
             lacked_pages: 0,
             lacked_roots: 0,
             refused: 0,
+            clicks: lives.clicks,
+            most_ends: lives.most_ends,
             highest: higher(start_height, end_height),
         };
         self.plus(last)

@@ -93,6 +93,14 @@ fn band_length(table: &[u64], roots: &[u64], used: u32, t: u32, k1: u32, k2: u32
     std::num::wrapping_add_u32(high, low)
 }
 
+// The paths of the ends that were heard before t1. No tick is before 0: "t1 = 0 looks up none".
+fn ended_length(table: &[u64], roots: &[u64], used: u32, t1: u32, k1: u32, k2: u32) -> u32 {
+    if t1 == 0 {
+        return 0;
+    }
+    band_length(table, roots, used, t1 - 1, k1, k2)
+}
+
 // The pages that a question opens, "a page on two paths counted twice".
 fn question_pages(
     head: Head,
@@ -107,7 +115,7 @@ fn question_pages(
 ) -> u32 {
     let t = std::num::wrapping_sub_u32(t2, 1);
     let starts = band_length(start_table, start_roots, head.starts.roots, t, k1, k2);
-    let ends = band_length(end_table, end_roots, head.ends.roots, t1, k1, k2);
+    let ends = ended_length(end_table, end_roots, head.ends.roots, t1, k1, k2);
     std::num::wrapping_add_u32(starts, ends)
 }
 

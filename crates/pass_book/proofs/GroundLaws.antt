@@ -11,16 +11,15 @@ use Rattle.store.specs.Calls.{start, end}
 use Rattle.store.specs.Refusals.{firstMet}
 use Rattle.store.specs.Grounds.{argumentGrounds, stateGrounds}
 use Rattle.store.specs.Passes.{countWhere}
-use Rattle.store.specs.Book.{isOpen, neverStarted, passNumbered, bookKnows, bookRefusal}
+use Rattle.store.specs.Book.{isOpen, neverStarted, bookKnows, bookRefusal}
 use Rattle.store.proofs.RefusalLaws.{first-both}
 use Rattle.store.proofs.ArgumentFacts.{arguments-numbered, end-tick, may-start, may-end}
-use Rattle.store.proofs.EndReady.{open-inside, found-open}
+use Rattle.store.proofs.EndReady.{open-inside}
 use Rattle.pass_book.specs.declared.types.PassBook.{PassBook}
 use Rattle.pass_book.specs.declared.types.Call.{Call}
 use Rattle.pass_book.specs.declared.types.Call.the-variants as made
 use Rattle.pass_book.specs.PassList.{passOf, passAt, passesIn, bookIn}
 use Rattle.pass_book.specs.BookCalls.{callOf}
-use Rattle.pass_book.specs.Grounds.{passGrounds}
 use Rattle.pass_book.proofs.PassLaws.{passes-length, pass-numbered}
 
 -- A start that its input and the last tick do not refuse
@@ -48,10 +47,16 @@ module _ (ws : List ℕ) (b : PassBook) (tick number : ℕ) (early : tick ≡ op
   end-unknown beyond =
       rw (ne-eqb tick openEnd early, le-ltb tick (b .last) later, List·getD-eq-default (passesIn ws (b .started)) neverStarted {n = number} (omega (arith, passes-length ws (b .started)))) refl
 
-  pub end-by-pass : (r : ℕ) → number < b .started → r ≡ firstMet (passGrounds (passOf (passAt ws number)) tick) → r ≡ bookRefusal (bookIn ws b) (end tick number)
+  -- The pass of a number that was started
+  pub end-ended : (e : ℕ) → number < b .started → e ≡ passAt ws number .end → (e ≡ openEnd → ⊥) → 22 ≡ bookRefusal (bookIn ws b) (end tick number)
   unfolding bookRefusal firstMet
-  end-by-pass r known e =
-      rw (ne-eqb tick openEnd early, le-ltb tick (b .last) later, pass-numbered ws (b .started) number neverStarted known) e
+  end-ended e known is ended =
+      rw (ne-eqb tick openEnd early, le-ltb tick (b .last) later, pass-numbered ws (b .started) number neverStarted known, ← is, ne-eqb e openEnd ended) refl
+
+  pub end-accepted : (e : ℕ) → number < b .started → e ≡ passAt ws number .end → e ≡ openEnd → 0 ≡ bookRefusal (bookIn ws b) (end tick number)
+  unfolding bookRefusal firstMet
+  end-accepted e known is is-open =
+      rw (ne-eqb tick openEnd early, le-ltb tick (b .last) later, pass-numbered ws (b .started) number neverStarted known, ← is, is-open) refl
 
 -- What is known of a call that the book does not refuse
 module _ (ws : List ℕ) (b : PassBook) (call : Call) (none : bookRefusal (bookIn ws b) (callOf call) ≡ 0) where
@@ -76,9 +81,8 @@ module _ (ws : List ℕ) (b : PassBook) (call : Call) (none : bookRefusal (bookI
     pub end-known : number < b .started
     end-known =
         let may = may-end (bookKnows (bookIn ws b) (end tick number)) tick number (both .1) in
-        let pass = passNumbered (bookIn ws b) number in
         omega (
           arith,
-          open-inside number (passesIn ws (b .started)) (found-open pass (pass .end) (may .began) (may .is-open) .0),
+          open-inside number (passesIn ws (b .started)) (may .is-open),
           passes-length ws (b .started),
         )

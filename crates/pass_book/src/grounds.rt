@@ -3,7 +3,6 @@ use crate::list::open_count;
 use crate::list::pass_at;
 use crate::types::Asked;
 use crate::types::Call;
-use crate::types::ListedPass;
 use crate::types::PassBook;
 use store::Head;
 use store::OpenPass;
@@ -15,9 +14,8 @@ ghost use mathlib.Core.List.{[], _∷_};
 ghost use Rattle.store.specs.Calls.{start, end, question};
 ghost use Rattle.store.specs.Grounds.{keyTooHigh, noTick, argumentGrounds};
 ghost use Rattle.store.specs.Book.{Book, bookRefusal};
-ghost use Rattle.pass_book.specs.PassList.{passOf, bookIn};
+ghost use Rattle.pass_book.specs.PassList.{bookIn};
 ghost use Rattle.pass_book.specs.BookCalls.{callOf, askedCall};
-ghost use Rattle.pass_book.specs.Grounds.{passGrounds};
 
 fn start_refusal(passes: &[u32], book: PassBook, tick: u32, key: u32, weight: u32) -> u8
     requires { ⌜ book .started * 4 ≤ length (now passes) ⌝ }
@@ -48,19 +46,6 @@ fn start_refusal(passes: &[u32], book: PassBook, tick: u32, key: u32, weight: u3
     0
 }
 
-// The grounds of an end that its pass decides.
-fn pass_refusal(pass: ListedPass, tick: u32) -> u8
-    ensures { λ r. ⌜ r ≡ firstMet (passGrounds (passOf pass) tick) ⌝ }
-{
-    if pass.end == words::OPEN {
-        if tick == pass.start {
-            return 23;
-        }
-        return 0;
-    }
-    22
-}
-
 fn end_refusal(passes: &[u32], book: PassBook, tick: u32, number: u32) -> u8
     requires { ⌜ book .started * 4 ≤ length (now passes) ⌝ }
     ensures { λ r. ⌜ r ≡ bookRefusal (bookIn (now (passes .entry)) book) (end tick number) ⌝ }
@@ -74,7 +59,10 @@ fn end_refusal(passes: &[u32], book: PassBook, tick: u32, number: u32) -> u8
     if book.started <= number {
         return 22;
     }
-    pass_refusal(pass_at(passes, number), tick)
+    if pass_at(passes, number).end != words::OPEN {
+        return 22;
+    }
+    0
 }
 
 fn question_refusal(k1: u32, k2: u32, t1: u32, t2: u32) -> u8

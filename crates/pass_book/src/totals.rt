@@ -11,7 +11,7 @@ ghost use Rattle.store.specs.Passes.{meets};
 ghost use Rattle.pass_book.specs.PassList.{passOf, passesIn};
 ghost use Rattle.pass_book.specs.Counted.{isBelow, endsBelow, pointBelow, counts, worth, totalOf};
 
-// "the passes with k1 ≤ key < k2, s < t2, and either open or e > t1"
+// "the passes with k1 ≤ key < k2" that meet the question: "s < t2 and e ≥ t1", or open
 fn meets_band(pass: ListedPass, k1: u32, k2: u32, t1: u32, t2: u32) -> bool
     ensures { λ r. ⌜ r ≡ meets k1 k2 t1 t2 (passOf pass) ⌝ }
 {
@@ -27,7 +27,7 @@ fn meets_band(pass: ListedPass, k1: u32, k2: u32, t1: u32, t2: u32) -> bool
     if pass.end == words::OPEN {
         return true;
     }
-    t1 < pass.end
+    t1 <= pass.end
 }
 
 // "points with tick ≤ t and key ≤ k"

@@ -125,7 +125,14 @@ fn lookup_band(table: &[u64], roots: &[u64], used: TreeUse, t: u32, k1: u32, k2:
 }
 
 // What a tree has before tick t1 from key k1 up to but not k2. No tick is before 0: with t1 = 0 nothing is looked up and no page opened.
-fn lookup_band_before(table: &[u64], roots: &[u64], used: TreeUse, t1: u32, k1: u32, k2: u32) -> Lookup
+fn lookup_band_before(
+    table: &[u64],
+    roots: &[u64],
+    used: TreeUse,
+    t1: u32,
+    k1: u32,
+    k2: u32,
+) -> Lookup
     requires { ⌜ used .pages * pageWords ≤ length (now table) ⌝ }
     requires { ⌜ used .roots ≤ length (now roots) ⌝ }
     requires { ⌜ k1 < k2 ⌝ }

@@ -12,6 +12,7 @@ use pass_book::Asked;
 use pass_book::Call;
 use pass_book::PassBook;
 use pass_book::open_count;
+use pass_book::pass_at;
 use store::TreeName;
 ghost use mathlib.Core.Path.{_≡_};
 ghost use Prim.Native.Nat.{_≤_, _<_, min, max};
@@ -28,8 +29,8 @@ fn start_call(random: &mut u64, shape: Shape, book: PassBook) -> Call {
     }
 }
 
-// An open pass ends, most often one of the oldest: in a swarm only those started at an earlier tick.
-fn end_call(random: &mut u64, shape: Shape, passes: &[u32; NUMBERS], book: PassBook) -> Call
+// An open pass ends, most often one of the oldest.
+fn old_end(random: &mut u64, shape: Shape, passes: &[u32; NUMBERS], book: PassBook) -> Call
     requires { ⌜ book .started ≤ 2000 ⌝ }
 {
     let pace = shape.pace;
@@ -41,6 +42,26 @@ fn end_call(random: &mut u64, shape: Shape, passes: &[u32; NUMBERS], book: PassB
         tick: at,
         number: open_number(passes, book.started, before % (1 + open % 65)),
     }
+}
+
+// The newest open pass ends at the last tick. Most likely it started there, and is a click.
+fn click_end(passes: &[u32; NUMBERS], book: PassBook) -> Call
+    requires { ⌜ book .started ≤ 2000 ⌝ }
+{
+    let open = open_count(passes, book.started);
+    Call::End {
+        tick: book.last,
+        number: open_number(passes, book.started, std::num::wrapping_sub_u32(open, 1)),
+    }
+}
+
+fn end_call(random: &mut u64, shape: Shape, passes: &[u32; NUMBERS], book: PassBook) -> Call
+    requires { ⌜ book .started ≤ 2000 ⌝ }
+{
+    if one_in(random, 4) {
+        return click_end(passes, book);
+    }
+    old_end(random, shape, passes, book)
 }
 
 // A key to ask for.
@@ -91,16 +112,32 @@ fn higher(a: u32, b: u32) -> u32
     a
 }
 
-fn question_call(random: &mut u64, shape: Shape, book: PassBook) -> Call {
+// The first tick of a question whose ticks were drawn as `tick`, or the end of a pass, which is then counted, or the tick after it, from which on it
+// is not.
+fn first_tick(random: &mut u64, passes: &[u32; NUMBERS], book: PassBook, tick: u32) -> u32
+    requires { ⌜ book .started ≤ 2000 ⌝ }
+{
+    let number = draw(random, 1 + book.started % 2000);
+    match draw(random, 4) {
+        0 => pass_at(passes, number).end,
+        1 => std::num::wrapping_add_u32(pass_at(passes, number).end, 1),
+        _ => tick,
+    }
+}
+
+fn question_call(random: &mut u64, shape: Shape, passes: &[u32; NUMBERS], book: PassBook) -> Call
+    requires { ⌜ book .started ≤ 2000 ⌝ }
+{
     let one_key = asked_key(random, shape, book);
     let other_key = asked_key(random, shape, book);
     let one_tick = asked_tick(random, book.last);
     let other_tick = asked_tick(random, book.last);
+    let first = first_tick(random, passes, book, lower(one_tick, other_tick));
     Call::Ask(Asked::Question {
         k1: lower(one_key, other_key),
         k2: std::num::wrapping_add_u32(higher(one_key, other_key), 1),
-        t1: lower(one_tick, other_tick),
-        t2: std::num::wrapping_add_u32(higher(one_tick, other_tick), 1),
+        t1: first,
+        t2: std::num::wrapping_add_u32(higher(higher(one_tick, other_tick), first), 1),
     })
 }
 
@@ -140,6 +177,6 @@ pub fn next_call(
         4..=45 => start_call(random, shape, book),
         46..=84 => end_call(random, shape, passes, book),
         85..=92 => lookup_call(random, shape, book),
-        _ => question_call(random, shape, book),
+        _ => question_call(random, shape, passes, book),
     }
 }

@@ -41,8 +41,8 @@ ended-length number tick [] = refl
 ended-length zero tick (p ∷ passes) = refl
 ended-length (suc number) tick (p ∷ passes) = ap suc (ended-length number tick passes)
 
-pub open-inside : (number : ℕ) (passes : List Pass) → getD passes number neverStarted .end ≡ stillOpen → number < length passes
-open-inside number [] e = absurd (false≢true (ap notEnded e))
+pub open-inside : (number : ℕ) (passes : List Pass) → isOpen (getD passes number neverStarted) ≡ true → number < length passes
+open-inside number [] e = absurd (false≢true e)
 open-inside zero (p ∷ passes) e = omega arith
 open-inside (suc number) (p ∷ passes) e = omega (arith, open-inside number passes e)
 
@@ -78,7 +78,7 @@ module _ (s : Store) (b : Book) (a : Agrees s b) (tick number : ℕ) (tick-fits 
   after = bookDoes b (end tick number)
 
   inside-book : number < length (b .passes)
-  inside-book = open-inside number (b .passes) is-open
+  inside-book = open-inside number (b .passes) (may .is-open)
 
   known : PassKept (b .last) pass
   known = all-at (PassKept (b .last)) (b .passes) number neverStarted (a .kept) inside-book

@@ -43,9 +43,10 @@ Between from to g = (from ≤ g .number) × (g .number ≤ to)
 
 pub rises-between : (from to : ℕ) (gs : List Ground) → Rises from gs to → All (Between from to) gs
 rises-between from to [] h = tt
-rises-between from to (g ∷ gs) h =
-    ((h .0, rises-most (g .number) to gs (h .1)),
-    all-map (Between (g .number) to) (Between from to) (λ x b. (omega (arith, h .0, b .0), b .1)) gs (rises-between (g .number) to gs (h .1)))
+rises-between from to (g ∷ gs) h = (
+  (h .0, rises-most (g .number) to gs (h .1)),
+  all-map (Between (g .number) to) (Between from to) (λ x b. (omega (arith, h .0, b .0), b .1)) gs (rises-between (g .number) to gs (h .1)),
+)
 
 pub arguments-rise : (c : Call) → Rises 1 (argumentGrounds c) 5
 arguments-rise opening = omega arith

@@ -20,6 +20,9 @@ pub fn say_counts(counts: Counts) {
     say_number(b" differed; refused ", counts.refused);
     say_number(b", with 27: ", counts.lacked_pages);
     say_number(b", with 28: ", counts.lacked_roots);
+    say_number(b"; ", counts.clicks);
+    say_number(b" clicks, up to ", counts.most_ends);
+    say(b" ends in one tick");
     say(b"\n");
 }
 

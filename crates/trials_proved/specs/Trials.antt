@@ -1,4 +1,5 @@
--- Document 01, "Table of trials (P: proved)": P1 to P8, of the definitions. `proofs/Table` proves it.
+-- Document 01, "Table of trials (P: proved)": P1 to P8, of the definitions. "Trials P1, P6 and P7 are reworked" (document 02, Paper 2): the end tick is part of a pass.
+-- `proofs/Table` proves it.
 use Prim.Native.Nat.{ℕ, _<_}
 use mathlib.Core.Path.{_≡_}
 use mathlib.Core.List.{List, [], _∷_, _++_}
@@ -27,13 +28,14 @@ p1Input =
     ++ (0x03 ∷ 0x00 ∷ 0x00 ∷ 0x30 ∷ 0x75 ∷ 0x19 ∷ 0x00 ∷ 0x00 ∷ 0x00 ∷ 0x1A ∷ 0x00 ∷ 0x00 ∷ 0x00 ∷ [])
     ++ (0x02 ∷ 0x1E ∷ 0x00 ∷ 0x00 ∷ 0x00 ∷ 0x00 ∷ 0x00 ∷ 0x00 ∷ 0x00 ∷ [])
 
--- "00 00000000; 00 01000000; 00; 00, sixteen 00, 04; 00 02 seven 00, 96 seven 00, 02; 16"
+-- "00 00000000; 00 01000000; 00;", then to the question of ticks 30 to 40 the pass of ticks 10 to 30, which "is now counted in 30 to 40" (Paper 2): 00 01 seven 00,
+-- 64 seven 00, 04; "00 02 seven 00, 96 seven 00, 02; 16"
 abbrev pub p1Output : List ℕ
 p1Output =
     (0x00 ∷ 0x00 ∷ 0x00 ∷ 0x00 ∷ 0x00 ∷ [])
     ++ (0x00 ∷ 0x01 ∷ 0x00 ∷ 0x00 ∷ 0x00 ∷ [])
     ++ (0x00 ∷ [])
-    ++ (0x00 ∷ replicate 16 0x00 ++ (0x04 ∷ []))
+    ++ (0x00 ∷ 0x01 ∷ replicate 7 0x00 ++ (0x64 ∷ replicate 7 0x00) ++ (0x04 ∷ []))
     ++ (0x00 ∷ 0x02 ∷ replicate 7 0x00 ++ (0x96 ∷ replicate 7 0x00) ++ (0x02 ∷ []))
     ++ (0x16 ∷ [])
 
@@ -67,11 +69,12 @@ pub record Table : Type 0 where
   -- P5. "A tick equal to the last accepted; one less gives 21." In a start and in an end
   pub p5 : answers (start 10 4500 100 ∷ start 20 2200 50 ∷ start 20 2200 50 ∷ start 19 2200 50 ∷ end 19 0 ∷ end 20 0 ∷ [])
       ≡ Started 0 ∷ Started 1 ∷ Started 2 ∷ Refused 21 ∷ Refused 21 ∷ Ended ∷ []
-  -- P6. "A pass of ticks 10 to 30 is counted in 29 to 30, not in 30 to 40."
-  pub p6 : answers (start 10 4500 100 ∷ end 30 0 ∷ question 4500 4501 29 30 ∷ question 4500 4501 30 40 ∷ [])
-      ≡ Started 0 ∷ Ended ∷ Totals 1 100 4 ∷ Totals 0 0 4 ∷ []
-  -- P7. "End at the start tick gives 23, one later is accepted."
-  pub p7 : answers (start 10 4500 100 ∷ end 10 0 ∷ end 11 0 ∷ []) ≡ Started 0 ∷ Refused 23 ∷ Ended ∷ []
+  -- P6. "A pass of ticks 10 to 30 is counted in 29 to 30", and "is now counted in 30 to 40" (Paper 2); not in 31 to 40, nor in 0 to 10, which opens no page of the ends
+  pub p6 : answers (start 10 4500 100 ∷ end 30 0 ∷ question 4500 4501 29 30 ∷ question 4500 4501 30 40 ∷ question 4500 4501 31 40 ∷ question 4500 4501 0 10 ∷ [])
+      ≡ Started 0 ∷ Ended ∷ Totals 1 100 4 ∷ Totals 1 100 4 ∷ Totals 0 0 4 ∷ Totals 0 0 2 ∷ []
+  -- P7. "single clicks that start and end on one tick are passes too" (Paper 2): an end at the start tick is accepted, and the pass is counted at that tick alone
+  pub p7 : answers (start 10 4500 100 ∷ end 10 0 ∷ question 4500 4501 9 10 ∷ question 4500 4501 10 11 ∷ question 4500 4501 11 12 ∷ [])
+      ≡ Started 0 ∷ Ended ∷ Totals 0 0 4 ∷ Totals 1 100 4 ∷ Totals 0 0 4 ∷ []
   -- P8. "Two starts at tick 0, key 0: still one row, count 2." Word 1 of page 0 of the starts, its one row, and what a lookup says
   pub p8 : (word (after (start 0 0 100 ∷ start 0 0 50 ∷ []) .lent .starts .table) 1 ≡ 1)
       × (rowAt (after (start 0 0 100 ∷ start 0 0 50 ∷ []) .lent .starts .table) (rowStart 0)

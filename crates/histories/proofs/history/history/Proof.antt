@@ -22,6 +22,9 @@ opened-head-requires c κs = search needs
 none-requires : tie.Need-none-requires Inv-loop μ-loop
 none-requires c κs = search needs
 
+none-requires-2 : tie.Need-none-requires-2 Inv-loop μ-loop
+none-requires-2 c κs = search needs
+
 loop-holds : tie.Need-loop-holds Inv-loop μ-loop
 loop-holds c = search needs
 
@@ -69,6 +72,7 @@ history-spec =
     μ-loop
     opened-head-requires
     none-requires
+    none-requires-2
     loop-holds
     turn-requires
     sub-left

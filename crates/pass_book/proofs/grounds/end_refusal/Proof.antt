@@ -1,8 +1,6 @@
-use mathlib.Core.Path.{ap, _∙_}
+use mathlib.Core.Path.{ap}
 use Rattle.pass_book.specs.declared.types.ListedPass.{ListedPass}
-use Rattle.pass_book.specs.PassList.{passOf}
-use Rattle.pass_book.specs.Grounds.{passGrounds}
-use Rattle.pass_book.proofs.GroundLaws.{end-unknown, end-by-pass}
+use Rattle.pass_book.proofs.GroundLaws.{end-unknown, end-ended, end-accepted}
 use Rattle.tree.proofs.ReplacedRows.{tests}
 use Rattle.store.specs.Refusals.{firstMet}
 use Rattle.store.specs.Book.{bookRefusal}
@@ -28,19 +26,23 @@ returns-3 c =
 pass-at-requires : tie.Need-pass-at-requires
 pass-at-requires c κs = search needs
 
-pass-refusal-requires : tie.Need-pass-refusal-requires
-pass-refusal-requires c κs = search needs
-
 returns-4 : tie.Need-returns-4
-unfolding bookRefusal firstMet
 returns-4 c =
-    let known = c .before .before in
+    let read = c .before .before in
+    let known = read .before in
     let second = known .before .before in
     let first = second .before .before in
-    let by-pass = c .pass-refusal .ensures ∙ ap (λ (p : ListedPass). firstMet (passGrounds (passOf p) (first .before .before .args .tick))) (c .before .pass-at .ensures) in
-    end-by-pass _ _ _ _ (first .if1 .left) (second .if2 .left) _ (known .if3 .left) by-pass
+    end-ended _ _ _ _ (first .if1 .left) (second .if2 .left) _ (known .if3 .left) (ap (λ (p : ListedPass). p .end) (read .pass-at .ensures)) (c .if4 .taken)
+
+returns-5 : tie.Need-returns-5
+returns-5 c =
+    let read = c .before .before in
+    let known = read .before in
+    let second = known .before .before in
+    let first = second .before .before in
+    end-accepted _ _ _ _ (first .if1 .left) (second .if2 .left) _ (known .if3 .left) (ap (λ (p : ListedPass). p .end) (read .pass-at .ensures)) (c .if4 .left)
 
 pub end-refusal-spec : {M : Type 1} → statement M
 end-refusal-spec =
     tie.close
-    (tie.spec returns returns-2 returns-3 pass-at-requires pass-refusal-requires returns-4)
+    (tie.spec returns returns-2 returns-3 pass-at-requires returns-4 returns-5)
