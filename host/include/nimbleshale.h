@@ -8,8 +8,8 @@
  *   key     peak frequency in units of 10 Hz, 0 to 29,999
  *   weight  detection weight in hundredths, 1 to 10,000
  *   tick    10 ms, 0 to 4,294,967,294
- *   pass    one bat going by: a key, a weight, a life. A pass that started at s and ended at e lives at ticks s to e - 1; an open pass has
- *           no last tick. Passes are numbered 0, 1, 2 and on as starts are accepted.
+ *   pass    one bat going by: a key, a weight, a life. A pass that started at s and ended at e lives at ticks s to e, both included; a single
+ *           click starts and ends on one tick. An open pass has no last tick. Passes are numbered 0, 1, 2 and on as starts are accepted.
  *
  * What holds of every call:
  *   - It returns 0, or the number of the first refusal whose condition holds: first the refusals because of the input, then those because
@@ -95,14 +95,13 @@
 #define NIMBLESHALE_REFUSED_MEMORY 8       /* on opening, a page table under 260 words or an empty root list */
 #define NIMBLESHALE_REFUSED_BURST 31       /* a burst of over 256 events, one that ends inside an event, or a result list too short for it */
 
-/* Refusals because of the state. */
+/* Refusals because of the state. 23 is retired: it was an end at the pass's own start tick, which is accepted now. The number is not used again. */
 #define NIMBLESHALE_REFUSED_HEAD 20        /* head that doesn't fit: over 64 open, an open key or weight beyond its range, open numbers that
                                               don't rise or reach the number started, an open start after the last tick, over 1,000,000
                                               started, no pages or roots used, over 1,000,000 pages used, more pages than the table holds,
                                               more roots than pages used or than list words */
 #define NIMBLESHALE_REFUSED_EARLIER 21     /* tick of a start or an end before the last tick */
 #define NIMBLESHALE_REFUSED_NOT_OPEN 22    /* no open pass of that number */
-#define NIMBLESHALE_REFUSED_OWN_START 23   /* end at the pass's own start tick */
 #define NIMBLESHALE_REFUSED_ALL_OPEN 24    /* a start with 64 open */
 #define NIMBLESHALE_REFUSED_ALL_STARTED 25 /* a start with 1,000,000 started */
 #define NIMBLESHALE_REFUSED_SPOILED 26     /* spoiled page met: no root for the tick, page number not below pages used, wrong level, row count
@@ -162,9 +161,9 @@ uint8_t nimbleshale_start(uint32_t *last, uint32_t *started, uint32_t *count_ope
                           uint32_t tick, uint32_t key, uint32_t weight, uint32_t *number);
 
 /*
- * The open pass of a number ends at a tick; its last tick is the one before.
+ * The open pass of a number ends at a tick, which is its last: it lives at that tick too. The tick may be that of its start: a click.
  *
- * Refusals: 4, 20, 21, 22, 23, 26, 27, 28.
+ * Refusals: 4, 20, 21, 22, 26, 27, 28.
  * Accepted: the tick becomes the last tick and count_open falls by one; the later open passes move down by one place, and the place set free
  * is zeroed. The tree of ends takes the point: words of end_table and end_roots may change, and end_pages_used and end_roots_used may grow.
  * The tree of starts is as it was.
@@ -181,8 +180,9 @@ uint8_t nimbleshale_end(uint32_t *last, uint32_t *started, uint32_t *count_open,
  * A question: keys k1 up to but not k2 (k2 at most 30,000), ticks t1 up to but not t2 (t2 at most 4,294,967,295).
  *
  * Refusals: 1, 2, 5, 20, 26.
- * Accepted: *count becomes the number of passes with k1 <= key < k2 that started before t2 and are open or ended after t1, *sum the sum of
- * their weights, *pages the pages opened, at most 16. Nothing else changes, accepted or not.
+ * Accepted: *count becomes the number of passes with k1 <= key < k2 that started before t2 and are open or ended at t1 or later: those that live
+ * at some tick of the question. *sum becomes the sum of their weights, *pages the pages opened, at most 16. Nothing else changes, accepted or not.
+ * With t1 = 0 no page of the tree of ends is opened, be it spoiled or not: no pass ended before tick 0.
  * Stack: 5,088 bytes.
  */
 NIMBLESHALE_MUST_USE
@@ -462,7 +462,6 @@ static inline const char *nimbleshale_refusal_text(uint8_t refusal)
     case NIMBLESHALE_REFUSED_HEAD: return "head that doesn't fit";
     case NIMBLESHALE_REFUSED_EARLIER: return "tick before the last tick";
     case NIMBLESHALE_REFUSED_NOT_OPEN: return "no open pass of that number";
-    case NIMBLESHALE_REFUSED_OWN_START: return "end at the pass's own start tick";
     case NIMBLESHALE_REFUSED_ALL_OPEN: return "64 passes open";
     case NIMBLESHALE_REFUSED_ALL_STARTED: return "1,000,000 passes started";
     case NIMBLESHALE_REFUSED_SPOILED: return "spoiled page met";

@@ -68,7 +68,7 @@ pub fn start(head: &mut Head, lent: Lent, tick: u32, key: u32, weight: u32, numb
     0
 }
 
-/// The open pass of a number ends.
+/// The open pass of a number ends. The tick is its last one, and may be its first: a click.
 pub fn end(head: &mut Head, lent: Lent, tick: u32, number: u32) -> u8 {
     if tick == OPEN {
         return 4;
@@ -80,10 +80,7 @@ pub fn end(head: &mut Head, lent: Lent, tick: u32, number: u32) -> u8 {
         return 21;
     }
     let Some(place) = find(lent.passes, head.count_open, number) else { return 22 };
-    let (key, weight, began) = pass_at(lent.passes, place);
-    if tick == began {
-        return 23;
-    }
+    let (key, weight) = pass_at(lent.passes, place);
     let refused = enter_point(lent.end_table, lent.end_roots, &mut head.end_pages_used, &mut head.end_roots_used, tick, key, weight);
     if refused != 0 {
         return refused;
@@ -108,7 +105,8 @@ fn enter_point(table: &mut [u64], list: &mut [u64], pages: &mut u32, roots: &mut
     0
 }
 
-/// Count and weight sum of the passes with k1 ≤ key < k2 that live at some tick of t1 to t2 - 1, and the pages opened.
+/// Count and weight sum of the passes with k1 ≤ key < k2 that live at some tick of t1 to t2 - 1, and the pages opened. A pass lives at its end
+/// tick too, so those that ended before t1 are left out; before tick 0 there is none, and no page is opened for them.
 pub fn question(head: &Head, lent: Seen, k1: u32, k2: u32, t1: u32, t2: u32, totals: &mut Totals) -> u8 {
     if k1 >= KEYS || k2 > KEYS {
         return 1;
@@ -123,7 +121,8 @@ pub fn question(head: &Head, lent: Seen, k1: u32, k2: u32, t1: u32, t2: u32, tot
         return 20;
     }
     let Some(started) = between(starts_of(head, lent), t2 - 1, k1, k2) else { return 26 };
-    let Some(ended) = between(ends_of(head, lent), t1, k1, k2) else { return 26 };
+    let ended = t1.checked_sub(1).map_or(Some(Found::default()), |before| between(ends_of(head, lent), before, k1, k2));
+    let Some(ended) = ended else { return 26 };
     let value = started.value.minus(ended.value);
     *totals = Totals { count: value.count, sum: value.sum, pages: started.pages + ended.pages };
     0

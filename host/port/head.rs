@@ -100,10 +100,10 @@ pub fn find(passes: &[u32], open: u32, number: u32) -> Option<usize> {
     passes[..PLACE_NUMBERS * open as usize].chunks_exact(PLACE_NUMBERS).position(|pass| pass[0] == number)
 }
 
-/// The key, the weight and the start of the pass at a place.
-pub fn pass_at(passes: &[u32], place: usize) -> (u32, u32, u32) {
+/// The key and the weight of the pass at a place.
+pub fn pass_at(passes: &[u32], place: usize) -> (u32, u32) {
     let at = PLACE_NUMBERS * place;
-    (passes[at + 1], passes[at + 2], passes[at + 3])
+    (passes[at + 1], passes[at + 2])
 }
 
 /// Puts a pass behind the open ones.

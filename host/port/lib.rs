@@ -1,5 +1,6 @@
-//! A plain port of document 01, "A pass index for the sealed detector": the same calls, refusals and words as the proved library, written
-//! as an engineer would write it without proofs. It serves as a second opinion in the tests and as the measure in the benchmark.
+//! A plain port of document 01, "A pass index for the sealed detector", as Papers 1 and 2 of document 02 change it: the same calls, refusals and
+//! words as the proved library, written as an engineer would write it without proofs. It serves as a second opinion in the tests and as the measure
+//! in the benchmark.
 //!
 //! Six calls are in `calls`; the two that take starts and ends as bytes are in `stream`, which runs a packet of commands, and in `events`, which enters
 //! a burst. `export.rs` offers all eight to C under the library's names. None of them allocates; all memory is lent.

@@ -1,5 +1,5 @@
-//! The pass book of document 01: a plain list of passes, added up on demand. It is the one book on the host, for the random histories and for
-//! what the benchmark checks.
+//! The pass book of document 01: a plain list of passes, added up on demand. A pass lives at its start tick to its end tick, both included (document
+//! 02, Paper 2). It is the one book on the host, for the random histories and for what the benchmark checks.
 
 use crate::library::{Answer, Call};
 
@@ -34,7 +34,7 @@ impl Book {
             ]),
             Call::End { tick, number } => {
                 let pass = self.passes.get(number as usize).filter(|pass| pass.end.is_none());
-                of(&[(tick == u32::MAX, 4), (tick < self.last, 21), (pass.is_none(), 22), (pass.is_some_and(|pass| pass.start == tick), 23)])
+                of(&[(tick == u32::MAX, 4), (tick < self.last, 21), (pass.is_none(), 22)])
             }
             Call::Question { k1, k2, t1, t2 } => of(&[(k1 > 29_999 || k2 > 30_000, 1), (k1 >= k2, 2), (t1 >= t2, 5)]),
             Call::LookupStarts { t, k } | Call::LookupEnds { t, k } => of(&[(k > 29_999, 1), (t == u32::MAX, 4)]),
@@ -65,7 +65,7 @@ impl Book {
                 self.last = tick;
             }
             Call::Question { k1, k2, t1, t2 } => {
-                add(&self.passes, &|pass| k1 <= pass.key && pass.key < k2 && pass.start < t2 && pass.end.is_none_or(|end| end > t1))
+                add(&self.passes, &|pass| k1 <= pass.key && pass.key < k2 && pass.start < t2 && pass.end.is_none_or(|end| end >= t1))
             }
             Call::LookupStarts { t, k } => add(&self.passes, &|pass| pass.start <= t && pass.key <= k),
             Call::LookupEnds { t, k } => add(&self.passes, &|pass| pass.end.is_some_and(|end| end <= t) && pass.key <= k),

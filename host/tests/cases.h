@@ -1,6 +1,6 @@
 /* Cases of the refusals: a case is a set of conditions, each of which spoils a store on which the call is accepted. For 20 there are many ways to
- * spoil the head; all combinations are tried with each of them. tests/refusals.c makes each call by itself, tests/bursts.c the starts and ends as
- * events of bursts. */
+ * spoil the head; all combinations are tried with each of them. Two conditions are no ground for a refusal, and are tried in all combinations like
+ * the others. tests/refusals.c makes each call by itself, tests/bursts.c the starts and ends as events of bursts. */
 #ifndef CASES_H
 #define CASES_H
 
@@ -17,12 +17,16 @@ struct tried {
 
 enum call { OPEN, START, END, QUESTION, LOOKUP_STARTS, LOOKUP_ENDS, CALLS };
 
+/* Conditions that refuse nothing. CLICK: an end at the pass's own start tick. FROM_ZERO: a question from tick 0 on, with a spoiled tree of ends, of
+ * which it opens no page. */
+enum { CLICK = 254, FROM_ZERO = 255 };
+
 /* The refusals of each call in document 01's order, 0 behind them. */
 static const uint8_t orders[CALLS][11] = {
     {8, 0},
     {1, 3, 4, 20, 21, 24, 25, 26, 27, 28, 0},
-    {4, 20, 21, 22, 23, 26, 27, 28, 0},
-    {1, 2, 5, 20, 26, 0},
+    {4, 20, 21, 22, CLICK, 26, 27, 28, 0},
+    {1, 2, 5, 20, FROM_ZERO, 26, 0},
     {1, 4, 20, 26, 0},
     {1, 4, 20, 26, 0},
 };
@@ -87,6 +91,16 @@ static inline void spoil_head(struct tried *tried, enum way way, size_t pages)
     }
 }
 
+/* Spoils the page of the tree that a call meets. A question meets both trees, from tick 0 on only that of starts. */
+static inline void spoil_page(struct nimbleshale_store *store, enum call call, unsigned conditions, enum way way)
+{
+    const int of_ends = call == END || call == LOOKUP_ENDS || (call == QUESTION && way % 2 && !holds(conditions, call, FROM_ZERO));
+    if (holds(conditions, call, 26))
+        (of_ends ? store->end_table : store->start_table)[1] = 65;
+    if (holds(conditions, call, FROM_ZERO))
+        store->end_table[1] = 65;
+}
+
 /* The store of a case, with the conditions that are not of the arguments. */
 static inline void begin(struct tried *tried, enum call call, unsigned conditions, enum way way)
 {
@@ -101,8 +115,7 @@ static inline void begin(struct tried *tried, enum call call, unsigned condition
         return;
     write_leaf(store->start_table);
     write_leaf(store->end_table);
-    if (holds(conditions, call, 26))
-        (call == END || call == LOOKUP_ENDS ? store->end_table : store->start_table)[1] = 65;
+    spoil_page(store, call, conditions, way);
     store->last = holds(conditions, call, 21) ? 101 : 90;
     store->started = holds(conditions, call, 25) ? 1000000 : 70;
     store->count_open = holds(conditions, call, 24) ? 64 : 3;
@@ -114,7 +127,7 @@ static inline void begin(struct tried *tried, enum call call, unsigned condition
         pass[2] = 10000;
         pass[3] = 80;
     }
-    if (holds(conditions, call, 23))
+    if (holds(conditions, call, CLICK))
         tried->passes[7] = store->last == 90 ? 90 : 100;
     if (holds(conditions, call, 20))
         spoil_head(tried, way, pages);
@@ -135,7 +148,7 @@ static inline struct arguments arguments_of(enum call call, unsigned conditions,
     of.tick = holds(conditions, call, 4) ? 4294967295u : 100;
     of.number = 2;
     /* An end at the pass's own start tick is at tick 90, which is the last tick, or at 100, before it. */
-    if (holds(conditions, call, 23) && !holds(conditions, call, 21) && !holds(conditions, call, 4))
+    if (holds(conditions, call, CLICK) && !holds(conditions, call, 21) && !holds(conditions, call, 4))
         of.tick = 90;
     if (holds(conditions, call, 22))
         of.number = not_open[way % 3];
@@ -146,7 +159,7 @@ static inline struct arguments arguments_of(enum call call, unsigned conditions,
 static inline uint8_t first_refusal(enum call call, unsigned conditions)
 {
     for (int at = 0; orders[call][at] != 0; at++)
-        if (conditions >> at & 1)
+        if (conditions >> at & 1 && orders[call][at] < CLICK)
             return orders[call][at];
     return 0;
 }

@@ -54,7 +54,6 @@ static const struct {
     STATED(REFUSED_HEAD, 20),
     STATED(REFUSED_EARLIER, 21),
     STATED(REFUSED_NOT_OPEN, 22),
-    STATED(REFUSED_OWN_START, 23),
     STATED(REFUSED_ALL_OPEN, 24),
     STATED(REFUSED_ALL_STARTED, 25),
     STATED(REFUSED_SPOILED, 26),
@@ -68,6 +67,18 @@ static void see_constants(void)
 {
     for (size_t at = 0; at < CONSTANTS; at++)
         expect(constants[at].name, constants[at].found, constants[at].wanted);
+}
+
+/* The number of a refusal that is gone. "its number isn't used again" */
+#define RETIRED 23
+
+/* No refusal has a retired number, under whatever name, and the number has no text. */
+static void see_retired(void)
+{
+    expect("a text of a retired number", strcmp(nimbleshale_refusal_text(RETIRED), "unknown refusal") != 0, 0);
+    for (size_t at = 0; at < CONSTANTS; at++)
+        if (strncmp(constants[at].name, "REFUSED_", 8) == 0)
+            expect("a refusal of a retired number", constants[at].found == RETIRED, 0);
 }
 
 /* Every name that the header has is stated, and nothing else is. */
@@ -96,7 +107,6 @@ static const char *const texts[256] = {
     [20] = "head that doesn't fit",
     [21] = "tick before the last tick",
     [22] = "no open pass of that number",
-    [23] = "end at the pass's own start tick",
     [24] = "64 passes open",
     [25] = "1,000,000 passes started",
     [26] = "spoiled page met",
@@ -198,6 +208,7 @@ static void see_events(void)
 int main(int count, char **names)
 {
     see_constants();
+    see_retired();
     see_names(count - 1, names + 1);
     see_texts();
     see_sizes();

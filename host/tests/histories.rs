@@ -7,19 +7,24 @@
 //! Among the calls are bursts, some of them to be refused. The book gets their events one by one, and so does a second store, by single calls: what
 //! the events get, and what the burst leaves, must be the same.
 //!
+//! A pass lives at its end tick too. So there are clicks among the passes, ticks with more starts and ends than passes may be open, and questions
+//! that one tick decides (lives.rs). The test fails where something of this, or of bursts, did not come about.
+//!
 //! histories [ROUNDS]
 
 mod book;
 mod bursts;
 mod commands;
 mod library;
+mod lives;
 mod shapes;
 mod trees;
 
 use book::Book;
 use bursts::{call_of, event_of, of_unknown_kind, of_wider_number, unset_results, EVENT_BYTES, MOST_EVENTS};
 use library::{burst_by_library, by_library, Answer, Call, Random, Store, PAGE_WORDS};
-use shapes::{Keys, Pace, Shape};
+use lives::{Crowd, Lives};
+use shapes::{Keys, Mix, Pace, Shape};
 use std::collections::BTreeMap;
 use trees::{lacks_room, pages_opened, Tree};
 
@@ -88,6 +93,7 @@ struct Counts {
     differed: u64,
     refusals: BTreeMap<u8, u64>,
     reached: Reached,
+    lives: Lives,
     highest: u32,
 }
 
@@ -113,12 +119,14 @@ struct History {
     /// A store like it, on which all is done by single calls
     single: Store,
     whole: bool,
+    crowd: Crowd,
 }
 
 impl History {
     /// So many calls, of which the first is an opening; each event of a burst is one of them.
     fn run(seed: u64, shape: Shape, store: Store, calls: u32, whole: bool, counts: &mut Counts) {
-        let mut history = History { seed, random: Random(!seed), shape, book: Book::default(), single: store.clone(), store, whole };
+        let (book, crowd, single) = (Book::default(), Crowd::default(), store.clone());
+        let mut history = History { seed, random: Random(!seed), shape, book, store, single, whole, crowd };
         history.call(Call::Open, counts);
         let mut made = 1;
         while made < calls {
@@ -144,7 +152,7 @@ impl History {
         let before = self.whole.then(|| self.store.clone());
         let found = by_library(&mut self.store, call);
         *counts.refusals.entry(found.refusal).or_default() += 1;
-        let mut wanted = self.by_book(call, found.refusal);
+        let mut wanted = self.by_book(call, found.refusal, counts);
         if wanted.refusal == 0 {
             wanted.totals.pages = pages_opened(&self.store, call);
         }
@@ -160,10 +168,13 @@ impl History {
     }
 
     /// What the book answers. It is told a 27 or a 28.
-    fn by_book(&mut self, call: Call, told: u8) -> Answer {
+    fn by_book(&mut self, call: Call, told: u8, counts: &mut Counts) -> Answer {
         match (self.book.refusal(call), told) {
             (0, refusal @ (27 | 28)) => Answer::unset(refusal),
-            (0, _) => self.book.turn(call),
+            (0, _) => {
+                counts.lives.count(call, &self.book, &self.store, &mut self.crowd);
+                self.book.turn(call)
+            }
             (refusal, _) => Answer::unset(refusal),
         }
     }
@@ -214,9 +225,9 @@ impl History {
     }
 
     /// What an event gets by the book, which is told whether the burst said 27 or 28 to it.
-    fn result_by_book(&mut self, event: &[u8], told: u64) -> [u64; 2] {
+    fn result_by_book(&mut self, event: &[u8], told: u64, counts: &mut Counts) -> [u64; 2] {
         let Some(call) = call_of(event) else { return [6, 0] };
-        let answer = self.by_book(call, told.min(255) as u8);
+        let answer = self.by_book(call, told.min(255) as u8, counts);
         let starts = answer.refusal == 0 && matches!(call, Call::Start { .. });
         [answer.refusal as u64, if starts { answer.number as u64 } else { 0 }]
     }
@@ -231,8 +242,9 @@ impl History {
         let mut results = unset_results(2 * size as usize + self.random.below(4) as usize);
         let refusal = burst_by_library(&mut self.store, &events, &mut results);
         let (found, behind) = results.split_at(2 * size as usize);
+        let clicks = counts.lives.clicks();
         for (at, (event, result)) in events.chunks(EVENT_BYTES).zip(found.chunks(2)).enumerate() {
-            let by_book = self.result_by_book(event, result[0]);
+            let by_book = self.result_by_book(event, result[0], counts);
             let same = result == by_book && result == alone[at];
             counts.judge(same, self.seed, || format!("event {at} of {size}, {event:?}: {result:?}, not {by_book:?}, alone {:?}", alone[at]));
         }
@@ -240,6 +252,7 @@ impl History {
         let kept = refusal == 0 && behind == &unset[2 * size as usize..] && self.is_as_single() && self.head_is_of_book();
         counts.judge(kept, self.seed, || format!("a burst of {size}: refusal {refusal}, and what it leaves"));
         counts.reached.count(&alone);
+        counts.lives.in_bursts += counts.lives.clicks() - clicks;
     }
 
     /// A burst that meets one ground of 31. Its events would be accepted as often as any.
@@ -309,27 +322,32 @@ fn any_history(seed: u64, counts: &mut Counts) {
 }
 
 /// A long history over tables that never run full, so that trees grow three pages high and more.
-fn long_history(seed: u64, keys: Keys, pace: Pace, calls: u32, counts: &mut Counts) {
+fn long_history(seed: u64, keys: Keys, pace: Pace, mix: Mix, calls: u32, counts: &mut Counts) {
     let pages = 8 + 4 * (calls as usize + MOST_EVENTS) / 9;
-    History::run(seed, Shape::new(keys, pace, 50, 49), Store::lent(pages, pages), calls, false, counts);
+    History::run(seed, Shape::new(keys, pace, mix), Store::lent(pages, pages), calls, false, counts);
 }
 
 fn main() {
     let rounds: u64 = std::env::args().nth(1).map_or(1, |rounds| rounds.parse().expect("ROUNDS is a number"));
     let mut counts = Counts::default();
-    let histories = 1_600 * rounds;
+    let histories = 1_700 * rounds;
     for seed in 0..histories {
         any_history(seed, &mut counts);
     }
     for round in 0..rounds {
-        long_history(1_000_000 + round, Keys::Uniform, Pace::Slow, 60_000, &mut counts);
-        long_history(2_000_000 + round, Keys::Strides, Pace::Swarms, 40_000, &mut counts);
-        long_history(3_000_000 + round, Keys::Bands, Pace::Slow, 40_000, &mut counts);
-        long_history(4_000_000 + round, Keys::Rising, Pace::Jumps, 58_000, &mut counts);
+        let mix = Mix { starts: 50, ends: 49, clicks: 10, together: 64 };
+        long_history(1_000_000 + round, Keys::Uniform, Pace::Slow, mix, 60_000, &mut counts);
+        long_history(2_000_000 + round, Keys::Strides, Pace::Swarms, mix, 40_000, &mut counts);
+        long_history(3_000_000 + round, Keys::Bands, Pace::Slow, mix, 40_000, &mut counts);
+        // A tree grows four pages high where keys rise. So they do in the tree of ends if each pass ends before the next one starts.
+        let in_turn = Mix { clicks: 50, together: 1, ..mix };
+        long_history(4_000_000 + round, Keys::Rising, Pace::Jumps, in_turn, 58_000, &mut counts);
     }
-    let reached = counts.reached.named();
-    let in_bursts: Vec<String> = reached.iter().map(|(times, name)| format!("{times} {name}")).collect();
-    println!("histories: {}", in_bursts.join(", "));
+    let (in_bursts, of_lives) = (counts.reached.named(), counts.lives.named());
+    for reached in [&in_bursts[..], &of_lives[..]] {
+        let named: Vec<String> = reached.iter().map(|(times, name)| format!("{times} {name}")).collect();
+        println!("histories: {}", named.join(", "));
+    }
     let seen: Vec<String> = counts.refusals.iter().filter(|seen| *seen.0 != 0).map(|(refusal, times)| format!("{refusal} × {times}")).collect();
     println!(
         "histories: {} histories, trees up to {} pages high, refusals {}: {} compared, {} differed",
@@ -339,6 +357,6 @@ fn main() {
         counts.compared,
         counts.differed
     );
-    let all_reached = reached.iter().all(|&(times, _)| times > 0);
+    let all_reached = in_bursts.iter().chain(&of_lives).all(|&(times, _)| times > 0);
     std::process::exit(i32::from(counts.differed != 0 || !all_reached));
 }

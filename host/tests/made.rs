@@ -28,7 +28,8 @@ pub fn random_trees(random: &mut Random) -> Store {
     store.head.started = random.between(3, 1_000_000);
     store.head.count_open = random.below(4);
     for place in 0..store.head.count_open {
-        let pass = [place, random.below(30_000), random.between(1, 10_000), random.between(0, t)];
+        let start = if random.one_in(3) { t } else { random.between(0, t) };
+        let pass = [place, random.below(30_000), random.between(1, 10_000), start];
         store.passes[4 * place as usize..][..4].copy_from_slice(&pass);
     }
     (store.head.start_pages_used, store.head.start_roots_used) = random_tree(random, &mut store.start_table, &mut store.start_roots, t);

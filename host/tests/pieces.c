@@ -17,10 +17,10 @@
 /* The streams of host/vectors, and P1: with fewer the test is not the one that it should be. */
 #define STREAMS 41
 
-/* Document 01's trial P1: its whole input and its whole output. */
+/* Document 01's trial P1 as Paper 2 of document 02 reworks it: its whole input and its whole output. */
 static char trial[] = "P1 010a00000094116400" "011400000098083200" "021e00000000000000" "03a00f88131e00000028000000"
                       "030000307519000000" "1a000000" "021e00000000000000 "
-                      "0000000000" "0001000000" "00" "000000000000000000000000000000000004" "000200000000000000960000000000000002" "16";
+                      "0000000000" "0001000000" "00" "000100000000000000640000000000000004" "000200000000000000960000000000000002" "16";
 
 static unsigned long compared, differed;
 

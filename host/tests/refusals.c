@@ -33,8 +33,10 @@ static uint8_t make_call(struct tried *t, enum call call, unsigned conditions, e
             else
                 k2 = 30001, k1 = holds(conditions, QUESTION, 2) ? 30002 : k1;
         }
+        if (holds(conditions, QUESTION, FROM_ZERO))
+            t1 = 0;
         if (holds(conditions, QUESTION, 5))
-            t2 = way % 2 ? 50 : 0;
+            t2 = way % 2 ? t1 : 0;
         return nimbleshale_question(SHOWN, k1, k2, t1, t2, &r->count, &r->sum, &r->pages);
     case LOOKUP_STARTS: return nimbleshale_lookup_starts(SHOWN, a.tick, a.key, &r->count, &r->sum, &r->pages);
     case LOOKUP_ENDS: return nimbleshale_lookup_ends(SHOWN, a.tick, a.key, &r->count, &r->sum, &r->pages);

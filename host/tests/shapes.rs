@@ -45,23 +45,36 @@ const KEYS: [Keys; 9] = [
 ];
 const PACES: [Pace; 5] = [Pace::Still, Pace::Slow, Pace::Swarms, Pace::Jumps, Pace::Late];
 
+/// What the calls are.
+#[derive(Clone, Copy)]
+pub struct Mix {
+    /// Of a hundred calls, how many are starts, and how many ends
+    pub starts: u32,
+    pub ends: u32,
+    /// Of a hundred ends, how many are of the newest pass at the last tick
+    pub clicks: u32,
+    /// How many passes are open together. Where it is one, the points of both trees come in the same order
+    pub together: usize,
+}
+
 pub struct Shape {
     keys: Keys,
     pace: Pace,
-    /// Of a hundred calls, how many are starts, and how many ends
-    starts: u32,
-    ends: u32,
+    mix: Mix,
     turn: u32,
+    /// The tick of an end that was drawn: there, and one tick later, it is decided whether the pass is counted
+    ended: u32,
 }
 
 impl Shape {
-    pub fn new(keys: Keys, pace: Pace, starts: u32, ends: u32) -> Shape {
-        Shape { keys, pace, starts, ends, turn: 0 }
+    pub fn new(keys: Keys, pace: Pace, mix: Mix) -> Shape {
+        Shape { keys, pace, mix, turn: 0, ended: 0 }
     }
 
     pub fn any(random: &mut Random) -> Shape {
         let (starts, ends) = *random.pick(&[(50, 40), (40, 40), (80, 10), (45, 45), (30, 30)]);
-        Shape::new(*random.pick(&KEYS), *random.pick(&PACES), starts, ends)
+        let (clicks, together) = (*random.pick(&[0, 5, 30, 90]), *random.pick(&[1, 64, 64, 64, 64, 64]));
+        Shape::new(*random.pick(&KEYS), *random.pick(&PACES), Mix { starts, ends, clicks, together })
     }
 
     fn key(&mut self, random: &mut Random) -> u32 {
@@ -96,17 +109,14 @@ impl Shape {
         if random.one_in(60) {
             return self.odd_call(random, last, started);
         }
-        let turn = random.below(100);
-        // With no room for a start, or nothing to end, the other one is likelier to be accepted.
-        if turn < self.starts && open.len() < 64 || turn < self.starts + self.ends && open.is_empty() {
+        let (turn, Mix { starts, ends, together, .. }) = (random.below(100), self.mix);
+        // With no room for a start, or nothing to end, the other one is likelier to be accepted. Now and then one start is too many.
+        let room = open.len() < together || open.len() == 64 && random.one_in(16);
+        if turn < starts && room || turn < starts + ends && open.is_empty() {
             return Call::Start { tick: self.tick(random, last), key: self.key(random), weight: random.between(1, 10_000) };
         }
-        if turn < self.starts + self.ends {
-            // In a swarm only the passes of an earlier tick can end, and those are the oldest.
-            let oldest = matches!(self.pace, Pace::Still | Pace::Swarms) && !random.one_in(8);
-            let number = if oldest { open[0] } else { *random.pick(open) };
-            let soonest = if matches!(self.pace, Pace::Still | Pace::Swarms) || random.one_in(8) { last } else { last.saturating_add(1) };
-            return Call::End { tick: self.tick(random, last).max(soonest).min(u32::MAX - 1), number };
+        if turn < starts + ends {
+            return self.end(random, last, open);
         }
         let near = last.saturating_add(50);
         match random.below(4) {
@@ -114,10 +124,20 @@ impl Shape {
             1 => Call::LookupEnds { t: self.asked_tick(random, near).min(u32::MAX - 1), k: self.asked_key(random) },
             _ => {
                 let (k, l) = (self.asked_key(random), self.asked_key(random));
-                let (t, u) = (self.asked_tick(random, near), self.asked_tick(random, near));
-                Call::Question { k1: k.min(l), k2: k.max(l) + 1, t1: t.min(u), t2: t.max(u).saturating_add(1) }
+                let (t1, t2) = self.asked_ticks(random, near);
+                Call::Question { k1: k.min(l), k2: k.max(l) + 1, t1, t2 }
             }
         }
+    }
+
+    /// The end of an open pass. The newest one has most likely started at the last tick, and its end there makes it a click.
+    fn end(&mut self, random: &mut Random, last: u32, open: &[u32]) -> Call {
+        let click = random.below(100) < self.mix.clicks;
+        let (tick, number) = if click { (last, open[open.len() - 1]) } else { (self.tick(random, last), *random.pick(open)) };
+        if random.one_in(4) {
+            self.ended = tick;
+        }
+        Call::End { tick, number }
     }
 
     fn asked_key(&mut self, random: &mut Random) -> u32 {
@@ -133,8 +153,21 @@ impl Shape {
             0 => 0,
             1 => u32::MAX - random.below(3),
             2 | 3 => near.saturating_sub(random.below(120)),
+            4 => self.ended.saturating_sub(random.below(2)),
             _ => random.between(0, near),
         }
+    }
+
+    /// Two ticks to ask about, the first below the second. Some questions begin at tick 0, and some at the end of a pass or right after it.
+    fn asked_ticks(&mut self, random: &mut Random, near: u32) -> (u32, u32) {
+        let (t, u) = (self.asked_tick(random, near), self.asked_tick(random, near));
+        let t1 = match random.below(8) {
+            0 => 0,
+            1 => self.ended,
+            2 => self.ended.saturating_add(1),
+            _ => t.min(u),
+        };
+        (t1, t.max(u).max(t1).saturating_add(1))
     }
 
     /// A call with an argument or more out of range, too early, or of no open pass.

@@ -1,6 +1,7 @@
 //! Spoiled memory: random heads, tables and root lists, each call made by the library and by the port on the same store. The answer and every
 //! number and word must be the same; a refused call, a question and a lookup must leave everything as it was; and every call must end. Packets of
-//! commands, too, are run by both; and so are bursts, whose events are also entered one by one.
+//! commands, too, are run by both; and so are bursts, whose events are also entered one by one. There must be clicks, and questions from tick 0 on
+//! that are answered although the tree of ends is spoiled.
 //!
 //! spoiled [ROUNDS]
 
@@ -159,9 +160,12 @@ fn near_tick(random: &mut Random, store: &Store) -> u32 {
 struct Counts {
     compared: u64,
     differed: u64,
-    /// Accepted calls that write, and how many of them made pages
+    /// Accepted calls that write, how many of them made pages, and how many ended a pass at its own start tick
     written: u64,
     split: u64,
+    clicks: u64,
+    /// Questions from tick 0 on that were answered, and get 26 from tick 1 on
+    beside_spoiled: u64,
     refusals: BTreeMap<u8, u64>,
     in_bursts: Reached,
 }
@@ -178,6 +182,18 @@ impl Counts {
     }
 }
 
+/// Whether a call ends a pass at its own start tick.
+fn is_click(store: &Store, call: Call) -> bool {
+    let Call::End { tick, number } = call else { return false };
+    store.passes.chunks(4).take(store.head.count_open as usize).any(|pass| pass[0] == number && pass[3] == tick)
+}
+
+/// Whether a question from tick 0 on is answered only because it opens no page of the tree of ends: the same one from tick 1 on gets 26.
+fn is_beside_spoiled(store: &mut Store, call: Call) -> bool {
+    let Call::Question { k1, k2, t1: 0, t2 } = call else { return false };
+    t2 > 1 && by_port(store, Call::Question { k1, k2, t1: 1, t2 }).refusal == 26
+}
+
 /// A call by the library and by the port, each on a copy of the store, which becomes what the port leaves.
 fn try_call(seed: u64, call: Call, before: &mut Store, [library, port]: [&mut Store; 2], counts: &mut Counts) {
     let found = by_library(library, call);
@@ -188,8 +204,10 @@ fn try_call(seed: u64, call: Call, before: &mut Store, [library, port]: [&mut St
     let set = wanted.refusal == 0 || found == Answer::unset(found.refusal);
     let same = found == wanted && kept && set;
     counts.judge(same, || format!("store {seed}, {call:?}: {found:?}, not {wanted:?}; memory as it should be: {kept}"));
+    counts.beside_spoiled += u64::from(wanted.refusal == 0 && is_beside_spoiled(port, call));
     if writes {
         counts.written += 1;
+        counts.clicks += u64::from(is_click(before, call));
         let (after, earlier) = (&port.head, &before.head);
         counts.split += u64::from(after.start_pages_used > earlier.start_pages_used || after.end_pages_used > earlier.end_pages_used);
         before.clone_from(port);
@@ -240,14 +258,16 @@ fn main() {
     for seed in 0..stores {
         try_store(seed, &mut counts);
     }
-    let Counts { compared, differed, written, split, refusals, in_bursts } = counts;
+    let Counts { compared, differed, written, split, clicks, beside_spoiled, refusals, in_bursts } = counts;
     println!(
         "spoiled: {} bursts, {} refused with 31, {} with an event accepted after one that the state refused; events by what they got: {}",
         BURSTS * stores, in_bursts.refused, in_bursts.accepted_later, listed(in_bursts.results.into_iter())
     );
     println!(
-        "spoiled: {stores} stores, {written} accepted writes, {split} of them with splits, refusals {}, {} packets: {compared} compared, {differed} differed",
+        "spoiled: {stores} stores, {written} accepted writes, {split} of them with splits and {clicks} of them clicks, {beside_spoiled} questions from \
+         tick 0 answered beside a spoiled tree of ends, refusals {}, {} packets: {compared} compared, {differed} differed",
         listed(refusals.into_iter().filter(|seen| seen.0 != 0)), PACKETS * stores
     );
-    std::process::exit(i32::from(differed != 0 || in_bursts.accepted_later == 0));
+    let all_reached = in_bursts.accepted_later > 0 && clicks > 0 && beside_spoiled > 0;
+    std::process::exit(i32::from(differed != 0 || !all_reached));
 }

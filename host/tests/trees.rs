@@ -62,8 +62,8 @@ pub fn pages_opened(store: &Store, call: Call) -> u32 {
     let (starts, ends) = (Tree::starts(store), Tree::ends(store));
     match call {
         Call::Question { k1, k2, t1, t2 } => {
-            let high = starts.path(t2 - 1, k2 - 1) + ends.path(t1, k2 - 1);
-            high + if k1 == 0 { 0 } else { starts.path(t2 - 1, k1 - 1) + ends.path(t1, k1 - 1) }
+            let up_to = |k: u32| starts.path(t2 - 1, k) + if t1 == 0 { 0 } else { ends.path(t1 - 1, k) };
+            up_to(k2 - 1) + if k1 == 0 { 0 } else { up_to(k1 - 1) }
         }
         Call::LookupStarts { t, k } => starts.path(t, k),
         Call::LookupEnds { t, k } => ends.path(t, k),
