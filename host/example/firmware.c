@@ -87,12 +87,8 @@ static int mend(uint8_t refusal, uint32_t *tick)
         /* The clock was set back. Ticks must not fall, so the event is taken to be at the last tick. */
         *tick = store.last;
         return 1;
-    case NIMBLESHALE_REFUSED_OWN_START:
-        /* A single click. A pass lives for a tick at least. */
-        ++*tick;
-        return 1;
     case NIMBLESHALE_REFUSED_ALL_OPEN:
-        /* The oldest pass has lost its end, so it ends now. One that started at this very tick cannot. */
+        /* The oldest pass has lost its end, so it ends now, be it at the tick at which it started. */
         refusal = nimbleshale_store_end(&store, *tick, oldest);
         if (refusal != NIMBLESHALE_ACCEPTED) {
             say("end of the oldest pass", refusal);
@@ -481,12 +477,17 @@ static void events(void)
     on_start(130, 2200, 60, &number);
     on_end(160, first);
     on_question(4000, 5000, 100, 200);
+    /* A pass is heard at its end tick too, and not at the next one. */
     on_question(0, NIMBLESHALE_KEYS, 160, 170);
+    on_question(0, NIMBLESHALE_KEYS, 161, 170);
     on_question(5000, 4000, 100, 200);
 
-    printf("\nThe clock is set back, and a single click\n");
+    printf("\nThe clock is set back: what was heard becomes a click at the last tick\n");
     on_start(150, 4600, 70, &number);
     on_end(140, number);
+    on_question(4600, 4601, 159, 160);
+    on_question(4600, 4601, 160, 161);
+    on_question(4600, 4601, 161, 162);
 
     printf("\nEvents that cannot be\n");
     on_start(200, 30000, 70, &number);
@@ -508,8 +509,8 @@ static void power_cycle(void)
         return;
     on_question(0, NIMBLESHALE_KEYS, 100, 200);
     on_end(220, 1);
-    on_question(2000, 2500, 219, 220);
     on_question(2000, 2500, 220, 221);
+    on_question(2000, 2500, 221, 222);
 }
 
 /* A start at tick 230, key 4500, weight 90; a question for keys 4000 to 5000 and ticks 100 to 300; and an end at tick 240 that comes in two parts. */
