@@ -23,7 +23,7 @@ use list::List;
 use port::{Fed, Head};
 use std::hint::black_box;
 use std::time::Instant;
-use workload::{questions_past, questions_today, season, Question, SHAPES};
+use workload::{questions_from_zero, questions_past, questions_today, season, Question, SHAPES};
 
 const SIZES: [u32; 4] = [5_000, 50_000, 200_000, 1_000_000];
 const QUESTIONS: usize = 2_000;
@@ -110,16 +110,21 @@ impl Time {
     }
 }
 
+/// Kinds of questions: on today's ticks, on past ticks, and from tick 0 on, which look up no ends.
+const KINDS: usize = 3;
+const OPERATIONS: [&str; 2 + KINDS] = ["start", "end", "question today", "question past", "from tick 0"];
+
+/// Questions of each kind.
+type Asked<'a> = [&'a [Question]; KINDS];
+
 /// What one contender took and answered.
 struct Figures {
-    /// The best time of each start, each end, each question on today's ticks and each on past ticks
-    best: [Vec<u32>; 4],
+    /// The best time of each start, each end, and each question of each kind
+    best: [Vec<u32>; 2 + KINDS],
     answers: Vec<(u64, u64)>,
-    /// Pages opened by all questions on today's ticks and on past ticks
-    pages: [u64; 2],
+    /// Pages opened by all questions of each kind
+    pages: [u64; KINDS],
 }
-
-const OPERATIONS: [&str; 4] = ["start", "end", "question today", "question past"];
 
 #[inline]
 fn take_time(best: &mut u32, work: impl FnOnce()) {
@@ -140,17 +145,17 @@ fn clock_time() -> f64 {
 
 impl Figures {
     fn new(starts: usize, ends: usize, questions: usize) -> Figures {
-        let best = [starts, ends, questions, questions].map(|count| vec![u32::MAX; count]);
-        Figures { best, answers: Vec::new(), pages: [0; 2] }
+        let best = [starts, ends, questions, questions, questions].map(|count| vec![u32::MAX; count]);
+        Figures { best, answers: Vec::new(), pages: [0; KINDS] }
     }
 
-    fn times(&self, clock: f64) -> [Time; 4] {
-        [0, 1, 2, 3].map(|at| Time::of(&self.best[at], clock))
+    fn times(&self, clock: f64) -> [Time; 2 + KINDS] {
+        self.best.each_ref().map(|best| Time::of(best, clock))
     }
 
     /// Makes all calls once.
-    fn run(&mut self, contender: &mut impl Contender, calls: &[Call], questions: [&[Question]; 2]) {
-        let [starts, ends, today, past] = &mut self.best;
+    fn run(&mut self, contender: &mut impl Contender, calls: &[Call], questions: Asked) {
+        let [starts, ends, asked @ ..] = &mut self.best;
         let (mut starts, mut ends) = (starts.iter_mut(), ends.iter_mut());
         contender.open();
         for &call in calls {
@@ -163,8 +168,8 @@ impl Figures {
             }
         }
         self.answers.clear();
-        self.pages = [0; 2];
-        for (at, times) in [today, past].into_iter().enumerate() {
+        self.pages = [0; KINDS];
+        for (at, times) in asked.iter_mut().enumerate() {
             for (&question, time) in questions[at].iter().zip(times) {
                 let mut answer = (0, 0, 0);
                 take_time(time, || answer = black_box(contender.question(black_box(question))));
@@ -190,7 +195,7 @@ fn roomy_store(passes: u32) -> Store {
 }
 
 /// What the pass book answers to the questions after the calls.
-fn by_book(calls: &[Call], questions: [&[Question]; 2]) -> Vec<(u64, u64)> {
+fn by_book(calls: &[Call], questions: Asked) -> Vec<(u64, u64)> {
     let mut book = Book::default();
     let mut turn = |call| {
         assert!(book.refusal(call) == 0, "the book refuses a call of the benchmark: {call:?}");
@@ -204,24 +209,26 @@ fn by_book(calls: &[Call], questions: [&[Question]; 2]) -> Vec<(u64, u64)> {
 }
 
 /// One shape at one size. Returns the library's times.
-fn compare(shape: workload::Shape, name: &str, passes: u32, runs: u32, clock: f64) -> [Time; 4] {
+fn compare(shape: workload::Shape, name: &str, passes: u32, runs: u32, clock: f64) -> [Time; 2 + KINDS] {
     let calls = season(shape, passes);
     let last = calls.iter().map(|call| if let Call::Start { tick, .. } | Call::End { tick, .. } = *call { tick } else { 0 }).max().unwrap();
-    let (today, past) = (questions_today(shape, last, QUESTIONS), questions_past(shape, last, QUESTIONS));
+    let drawn = [questions_today, questions_past, questions_from_zero].map(|of_kind| of_kind(shape, last, QUESTIONS));
     let ends = calls.iter().filter(|call| matches!(call, Call::End { .. })).count();
     // A question to the list takes long, so it gets fewer of them.
     let few = (QUESTIONS as u64 * 20_000 / passes as u64).clamp(50, QUESTIONS as u64) as usize;
     let (mut library, mut port, mut list) = (Library(roomy_store(passes)), Port(roomy_store(passes)), List::default());
     let [mut by_library, mut by_port, mut by_list] = [QUESTIONS, QUESTIONS, few].map(|asked| Figures::new(passes as usize, ends, asked));
+    let (all, some) = (drawn.each_ref().map(|questions| &questions[..]), drawn.each_ref().map(|questions| &questions[..few]));
     for _ in 0..runs {
-        by_library.run(&mut library, &calls, [&today, &past]);
-        by_port.run(&mut port, &calls, [&today, &past]);
-        by_list.run(&mut list, &calls, [&today[..few], &past[..few]]);
+        by_library.run(&mut library, &calls, all);
+        by_port.run(&mut port, &calls, all);
+        by_list.run(&mut list, &calls, some);
     }
-    let wanted = by_book(&calls, [&today[..few], &past[..few]]);
+    let wanted = by_book(&calls, some);
     assert!(by_list.answers == wanted, "the list's answers are not the book's");
     assert!(by_library.answers == by_port.answers, "the library's answers are not the port's");
-    assert!([&by_library.answers[..few], &by_library.answers[QUESTIONS..][..few]].concat() == wanted, "the library's answers are not the book's");
+    let by_kind: Vec<(u64, u64)> = by_library.answers.chunks(QUESTIONS).flat_map(|answers| &answers[..few]).copied().collect();
+    assert!(by_kind == wanted, "the library's answers are not the book's");
     report(name, passes, &library.0.head, [&by_library, &by_port, &by_list], clock);
     by_library.times(clock)
 }
@@ -322,7 +329,7 @@ fn main() {
     let clock = clock_time();
     println!("Reading the clock takes {clock:.0} ns, which is subtracted. Of each call the best of {runs} runs counts.");
     for (shape, name) in SHAPES {
-        let times: Vec<[Time; 4]> = sizes.iter().map(|&size| compare(shape, name, size, runs, clock)).collect();
+        let times: Vec<[Time; 2 + KINDS]> = sizes.iter().map(|&size| compare(shape, name, size, runs, clock)).collect();
         if sizes.len() < 2 {
             continue;
         }

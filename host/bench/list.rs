@@ -1,4 +1,4 @@
-//! The plain list: every pass in arrays, added up on demand as fast as a processor can. It is a contender of the benchmark and nothing else:
+//! The plain list: every pass in arrays, added up on demand as fast as a processor can. A pass lives at its end tick too. It is a contender of the benchmark and nothing else:
 //! what is right is said by the pass book (tests/book.rs), with which the benchmark compares it too.
 
 /// Passes as arrays, in order of their starts. Ends are kept as signed numbers in the same order, since the processor compares those faster;
@@ -44,10 +44,10 @@ impl List {
     pub fn question(&self, k1: u32, k2: u32, t1: u32, t2: u32) -> (u64, u64) {
         let upto = self.starts.partition_point(|&start| start < t2);
         let blocks = self.keys[..upto].chunks(BLOCK).zip(self.ends[..upto].chunks(BLOCK)).zip(self.weights[..upto].chunks(BLOCK));
-        let (low, width, after) = (k1 as u16, (k2 - k1) as u16, ordered(t1));
+        let (low, width, from) = (k1 as u16, (k2 - k1) as u16, ordered(t1));
         let mut totals = (0, 0);
         for ((keys, ends), weights) in blocks {
-            let (count, sum) = add_block(keys, ends, weights, low, width, after);
+            let (count, sum) = add_block(keys, ends, weights, low, width, from);
             totals = (totals.0 + count as u64, totals.1 + sum as u64);
         }
         totals
@@ -55,10 +55,10 @@ impl List {
 }
 
 /// Without branches, so that the compiler takes several passes at once.
-fn add_block(keys: &[u16], ends: &[i32], weights: &[u16], low: u16, width: u16, after: i32) -> (u32, u32) {
+fn add_block(keys: &[u16], ends: &[i32], weights: &[u16], low: u16, width: u16, from: i32) -> (u32, u32) {
     let (mut count, mut sum) = (0, 0);
     for ((&key, &end), &weight) in keys.iter().zip(ends).zip(weights) {
-        let meets = u32::from((key.wrapping_sub(low) < width) & (end > after));
+        let meets = u32::from((key.wrapping_sub(low) < width) & (end >= from));
         count += meets;
         sum += meets.wrapping_neg() & weight as u32;
     }

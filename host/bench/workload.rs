@@ -33,7 +33,7 @@ impl Shape {
 }
 
 /// A season of so many passes as starts and ends in order of time. Most come in bursts, some 2,000 a day, so that a million of them take the
-/// 497 days that ticks last; each goes on for some seconds.
+/// 497 days that ticks last; each goes on for some seconds, down to a click of one tick.
 pub fn season(shape: Shape, passes: u32) -> Vec<Call> {
     let mut random = Random(passes as u64);
     let mut calls = Vec::with_capacity(2 * passes as usize);
@@ -48,7 +48,7 @@ pub fn season(shape: Shape, passes: u32) -> Vec<Call> {
             calls.push(Call::End { tick: end, number: ending });
         }
         calls.push(Call::Start { tick, key: shape.key(&mut random), weight: random.between(1, 10_000) });
-        let end = tick + random.between(1, 600);
+        let end = tick + random.between(0, 600);
         let at = open.partition_point(|&(other, _)| other > end);
         open.insert(at, (end, number));
     }
@@ -75,6 +75,15 @@ pub fn questions_past(shape: Shape, last: u32, count: usize) -> Vec<Question> {
         let t1 = random.between(0, last);
         let t2 = t1 + random.between(1, DAY.min(u32::MAX - t1));
         with_keys(shape, &mut random, t1, t2)
+    }).collect()
+}
+
+/// Questions about all ticks from 0 up to one of the last day before a tick. They look up no ends.
+pub fn questions_from_zero(shape: Shape, last: u32, count: usize) -> Vec<Question> {
+    let mut random = Random(3);
+    (0..count).map(|_| {
+        let t2 = random.between(last.saturating_sub(DAY), last) + 1;
+        with_keys(shape, &mut random, 0, t2)
     }).collect()
 }
 

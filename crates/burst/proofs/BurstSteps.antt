@@ -17,8 +17,8 @@ use Rattle.command.specs.Stream.{eventKind, answered}
 use Rattle.replies.specs.declared.types.Reply.{Reply}
 use Rattle.replies.specs.Replies.{RepliedAs}
 use Rattle.replies.proofs.RepliesAs.{replied}
-use Rattle.interpret.specs.declared.events.Event.{Event}
-use Rattle.interpret.specs.Events.{answerOf}
+use Rattle.events.specs.declared.reading.Event.{Event}
+use Rattle.events.specs.Events.{answerOf}
 use Rattle.demand.specs.Bursts.{mostEvents, eventBytes, eventWords, eventCount, burstRefusal, eventsFrom, eventsOf, firstEvent, answerTo, answersTo, storeBehind, resultWords, unlessRefusedWhole, enterBurst}
 use Rattle.demand.proofs.BurstReadings.{Fits, fits-or-31}
 use Rattle.demand.proofs.EventBytes.{event-answer}

@@ -6,7 +6,7 @@ use Rattle.words.specs.Overwrite.{overwrite}
 use Rattle.store.specs.declared.types.Head.{Head}
 use Rattle.store.specs.Trees.{Lent, Store}
 use Rattle.demand.specs.Bursts.{Asked, answersTo, storeBehind, resultWords, Entered}
-use Rattle.burst.specs.declared.events.BurstReply.{BurstReply}
+use Rattle.burst.specs.declared.entering.BurstReply.{BurstReply}
 
 -- Events one after the other, with their words at the front of the result list
 pub record EventsEntered (s : Store) (es : List Asked) (r : Head) (before results : List ℕ) (lent : Lent) : Type 0 where

@@ -1,5 +1,5 @@
 // A burst of starts and ends from the ear's buffer, entered one by one, on lent slices.
-mod events;
+mod entering;
 
-pub use events::BurstReply;
-pub use events::enter_burst;
+pub use entering::BurstReply;
+pub use entering::enter_burst;

@@ -9,7 +9,7 @@ use Rattle.store.specs.declared.types.Head.{Head}
 use Rattle.store.specs.Trees.{Lent, Store}
 use Rattle.store.specs.Head.{openLimit}
 use Rattle.demand.specs.Bursts.{Asked, eventsOf, resultWords, burstRefusal, Entered, unlessRefusedWhole, enterBurst}
-use Rattle.burst.specs.declared.events.BurstReply.{BurstReply}
+use Rattle.burst.specs.declared.entering.BurstReply.{BurstReply}
 use Rattle.burst.specs.BurstReplies.{BurstAs}
 use Rattle.c_numbers.specs.Heads.{Fields, passNumbers, headOf, fieldsOf, numbersOf}
 use Rattle.firmware.specs.Exported.{Handed, storeIn, handedBack}

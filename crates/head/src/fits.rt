@@ -1,12 +1,12 @@
 // Refusal 20: a head that doesn't fit. Any head may be handed in, so the number of open passes is tested before a place is read.
+use room::use_fits;
 use store::Head;
 use store::OpenPass;
-use tree::TreeUse;
 ghost use mathlib.Core.Path.{_≡_};
 ghost use mathlib.Core.Bool.{_&&_};
 ghost use Prim.Native.Nat.{_≤_};
 ghost use Rattle.store.specs.Trees.{Store, storeOf};
-ghost use Rattle.store.specs.Head.{openLimit, openPasses, passFits, passesFit, numbersRise, useFitsIn, headFits};
+ghost use Rattle.store.specs.Head.{openLimit, openPasses, passFits, passesFit, numbersRise, headFits};
 
 // Whether an open pass has a key and a weight in range, a number below the number started and a start no later than the last tick.
 fn pass_fits(started: u32, last: u32, pass: OpenPass) -> bool
@@ -49,28 +49,6 @@ fn passes_fit(head: Head) -> bool
         }
     }
     true
-}
-
-// Whether a tree's use fits its table of so many words and its list of so many roots.
-fn use_fits(used: TreeUse, words: usize, list: usize) -> bool
-    ensures { λ r. ⌜ r ≡ useFitsIn used words list ⌝ }
-{
-    if used.pages < 1 {
-        return false;
-    }
-    if used.roots < 1 {
-        return false;
-    }
-    if TreeUse::PAGE_LIMIT < used.pages {
-        return false;
-    }
-    if words / tree::PAGE_WORDS < used.pages as usize {
-        return false;
-    }
-    if used.pages < used.roots {
-        return false;
-    }
-    used.roots as usize <= list
 }
 
 // Whether the head fits what is lent with it. Of what is lent only the lengths count.

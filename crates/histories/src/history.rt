@@ -1,6 +1,6 @@
 // A history: calls made on a store and put to the book, and their answers compared.
-use crate::outcome::Outcome;
-use crate::outcome::made;
+use made_calls::Outcome;
+use made_calls::made;
 use observed::Counts;
 use observed::Lives;
 use observed::head_agrees;

@@ -6,17 +6,17 @@ use lib.ListN.{length}
 use Rattle.store.specs.declared.types.Answer.{Answer}
 use Rattle.store.specs.Trees.{Lent, Store}
 use Rattle.store.specs.Answers.{unlessRefused}
-use Rattle.store.specs.Calls.{Call, start, end, question}
+use Rattle.store.specs.Calls.{Call, question}
 use Rattle.store.specs.Performing.{refusal, served, perform}
 use Rattle.replies.specs.declared.types.Reply.{Reply}
 use Rattle.replies.specs.Replies.{RepliedAs}
 use Rattle.replies.specs.RefusedReplies.{refusedReply}
 use Rattle.replies.proofs.RepliesAs.{replied, refused-reply}
 use Rattle.codec.specs.Bytes.{operand}
-use Rattle.command.specs.Stream.{Kind, command, startCommand, endCommand, questionCommand, answered}
+use Rattle.command.specs.Stream.{Kind, command, questionCommand, answered}
 use Rattle.command.proofs.KindLaws.{cut-short, whole}
-use Rattle.interpret.specs.declared.events.Event.{Event}
-use Rattle.interpret.specs.Events.{answerOf}
+use Rattle.events.specs.declared.reading.Event.{Event}
+use Rattle.events.specs.Events.{answerOf}
 
 -- A question leaves the store as it was
 question-keeps : (s : Store) (k1 k2 t1 t2 : ℕ) → perform s (question k1 k2 t1 t2) .store ≡ s
@@ -40,15 +40,6 @@ module _ (s : Store) (bytes : List ℕ) where
   pub event-replies : (kind : Kind) {e e′ : Event} → ((s : Store) → answerOf s e ≡ answered s bytes kind) → e ≡ e′ → {r : Reply} {lent : Lent}
       → RepliedAs (answerOf s e′) r lent → RepliedAs (answered s bytes kind) r lent
   event-replies kind read is x = replied (sym (read s) ∙ ap (answerOf s) is) x
-
-  -- An event with its operands, and one that lacks some
-  pub start-read : 8 ≤ length bytes → {tick key weight : ℕ} → tick ≡ operand bytes 0 4 → key ≡ operand bytes 4 2 → weight ≡ operand bytes 6 2
-      → perform s (start tick key weight) ≡ answered s bytes (command 8 startCommand)
-  start-read h t k w = (λ i. perform s (start (t i) (k i) (w i))) ∙ sym (whole s bytes 8 startCommand h)
-
-  pub end-read : 8 ≤ length bytes → {tick number : ℕ} → tick ≡ operand bytes 0 4 → number ≡ operand bytes 4 4
-      → perform s (end tick number) ≡ answered s bytes (command 8 endCommand)
-  end-read h t n = (λ i. perform s (end (t i) (n i))) ∙ sym (whole s bytes 8 endCommand h)
 
   -- The reply to the question that the bytes spell is the reply to the command
   pub question-replies : 12 ≤ length bytes → {k1 k2 t1 t2 : ℕ} → k1 ≡ operand bytes 0 2 → k2 ≡ operand bytes 2 2 → t1 ≡ operand bytes 4 4

@@ -1,8 +1,8 @@
 // One command: its operands taken from bytes, and a call of the store.
-use crate::events::Event;
-use crate::events::read_event;
 use codec::number2;
 use codec::number4;
+use events::Event;
+use events::read_event;
 use replies::Reply;
 use store::Head;
 ghost use Rattle.store.specs.Trees.{Lent, lentOf, Store, storeOf};

@@ -19,7 +19,7 @@ use Rattle.store.specs.Performing.{totals, served, perform}
 use Rattle.refusals.specs.Grounds.{earlier, headGrounds}
 use Rattle.refusals.proofs.RefusalParts.{by-head, by-pages}
 use Rattle.refusals.proofs.Outcomes.{is-refused, is-done}
-use Rattle.queries.specs.Bands.{answerOf}
+use Rattle.queries.specs.Answers.{answerOf}
 
 module _ (s : Store) (tree : TreeName) (t k : ℕ) {input head : ℕ} (of-input : input ≡ firstMet (argumentGrounds (lookupIn tree t k)))
     (of-head : head ≡ earlier input (firstMet (headGrounds s))) where

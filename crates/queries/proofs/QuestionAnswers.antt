@@ -24,8 +24,9 @@ use Rattle.refusals.specs.Grounds.{earlier, headGrounds}
 use Rattle.store.proofs.ArgumentFacts.{Asked, asked}
 use Rattle.refusals.proofs.RefusalParts.{by-head, arguments-pass, by-pages}
 use Rattle.refusals.proofs.Outcomes.{is-refused, is-done}
-use Rattle.queries.specs.Bands.{without, inBand, nothing, bandBefore, answerOf}
-use Rattle.queries.proofs.BandLaws.{refusalOf4, valueOf4, pagesOf4, bandsOf, BandCase, band-case, band-of-two}
+use Rattle.bands.specs.Bands.{without, inBand, nothing, bandBefore}
+use Rattle.queries.specs.Answers.{answerOf}
+use Rattle.bands.proofs.BandLaws.{refusalOf4, valueOf4, pagesOf4, bandsOf, BandCase, band-case, band-of-two}
 
 module _ (s : Store) (k1 k2 t1 t2 : ℕ) {input head : ℕ} (of-input : input ≡ firstMet (argumentGrounds (question k1 k2 t1 t2)))
     (of-head : head ≡ earlier input (firstMet (headGrounds s))) where

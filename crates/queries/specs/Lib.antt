@@ -1,2 +1,2 @@
--- A question as the code asks it.
-pub mod Bands
+-- What the calls that only read answer.
+pub mod Answers

@@ -16,7 +16,7 @@ use Rattle.store.specs.Grounds.{beforeLast, notOpen, stateGrounds}
 use Rattle.store.specs.Writing.{pointOf, endEntries, entryGrounds}
 use Rattle.store.specs.Performing.{isFound, headKnows, pageGrounds}
 use Rattle.store.proofs.ArgumentFacts.{may-end}
-use Rattle.refusals.specs.Grounds.{planGrounds}
+use Rattle.room.specs.PlanGrounds.{planGrounds}
 
 module _ (s : Store) (tick number : ℕ) where
   abbrev stateOf : FoundPass → ℕ

@@ -6,34 +6,17 @@ use grounds::start_input;
 use grounds::start_state;
 use head::head_fits;
 use open_passes::find_pass;
+use room::entry_refusal;
+use room::too_small;
 use store::FoundPass;
 use store::Head;
-use tree::Plan;
-use tree::RootChange;
-use tree::TreeUse;
 ghost use mathlib.Core.Path.{_≡_};
-ghost use mathlib.Core.List.{[], _∷_};
-ghost use lib.Dec.{leb};
-ghost use Prim.Native.Nat.{_≤_};
-ghost use Rattle.tree.specs.Taking.{Takes};
-ghost use Rattle.tree.specs.Tree.{wholePages, pagesLeft};
 ghost use Rattle.store.specs.Trees.{Lent, lentOf, Store, storeOf};
 ghost use Rattle.store.specs.declared.types.Head.{Head};
 ghost use Rattle.store.specs.Calls.{opening, start, end};
-ghost use Rattle.store.specs.Refusals.{_gives_, firstMet};
-ghost use Rattle.store.specs.Writing.{tooSmall};
+ghost use Rattle.store.specs.Refusals.{firstMet};
 ghost use Rattle.store.specs.Performing.{refusal};
-ghost use Rattle.refusals.specs.Grounds.{earlier, headGrounds, planGrounds};
-
-// Whether a table has no room for a page, or a list none for a root.
-fn too_small(table: &[u64], roots: &[u64]) -> bool
-    ensures { λ r. ⌜ r ≡ tooSmall (record { table = now (table .entry); roots = now (roots .entry) }) ⌝ }
-{
-    if table.len() < tree::PAGE_WORDS {
-        return true;
-    }
-    roots.len() < 1
-}
+ghost use Rattle.refusals.specs.Grounds.{earlier, headGrounds};
 
 // The refusal of an opening, which sees no head. Each tree is tested before one is written.
 pub fn opening_refusal(
@@ -75,49 +58,6 @@ pub fn head_refusal(
         return 0;
     }
     20
-}
-
-// The pages that are left to a tree: the whole pages of its table, at most 1,000,000 of them, less those in use.
-fn pages_left(table: &[u64], used: TreeUse) -> usize
-    requires { ⌜ used .pages ≤ wholePages (now table) ⌝ }
-    requires { ⌜ Takes used ⌝ }
-    ensures { λ r. ⌜ r ≡ pagesLeft (record { table = now (table .entry); roots = []; used = used }) ⌝ }
-{
-    let most = TreeUse::PAGE_LIMIT as usize;
-    let whole = table.len() / tree::PAGE_WORDS;
-    if whole < most {
-        return whole - used.pages as usize;
-    }
-    most - used.pages as usize
-}
-
-// 28, for an entry that adds a root to a list of so many places.
-fn list_refusal(places: usize, used: u32) -> u8
-    ensures { λ r. ⌜ r ≡ firstMet (leb places used gives 28 ∷ []) ⌝ }
-{
-    if places <= used as usize {
-        return 28;
-    }
-    0
-}
-
-// 26, 27 and 28: what the plan of an entry says of the pages met, of the pages left and of the root list.
-fn entry_refusal(table: &[u64], roots: &[u64], used: TreeUse, plan: Plan) -> u8
-    requires { ⌜ used .pages ≤ wholePages (now table) ⌝ }
-    requires { ⌜ Takes used ⌝ }
-    ensures { λ r. ⌜ r ≡ firstMet (planGrounds (record { table = now (table .entry); roots = now (roots .entry); used = used }) plan) ⌝ }
-{
-    let Plan::Ready { made, root } = plan else {
-        return 26;
-    };
-    if pages_left(table, used) < made as usize {
-        return 27;
-    }
-    match root {
-        RootChange::Kept => 0,
-        RootChange::Added => list_refusal(roots.len(), used.roots),
-        RootChange::Replaced => 0,
-    }
 }
 
 // The refusal of a start.

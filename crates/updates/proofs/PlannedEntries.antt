@@ -15,7 +15,7 @@ use Rattle.store.specs.Refusals.{firstMet}
 use Rattle.store.specs.Writing.{planSpoiled}
 use Rattle.store.proofs.RefusalLaws.{none-met}
 use Rattle.store.proofs.Entering.{room-for}
-use Rattle.refusals.specs.Grounds.{planGrounds}
+use Rattle.room.specs.PlanGrounds.{planGrounds}
 
 module _ (tree : Tree) (p : Point) (fit : UseFits tree) where
   with-room : Room tree p → Planned tree p

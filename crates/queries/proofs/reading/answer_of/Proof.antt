@@ -1,5 +1,5 @@
 use mathlib.Core.Path.{ap, sym}
-use Rattle.queries.specs.Bands.{answerOf}
+use Rattle.queries.specs.Answers.{answerOf}
 use borrow.Author.Needs.{needs}
 use Rattle.queries.proofs.reading.answer_of.Statement.{statement}
 use Rattle.queries.proofs.reading.answer_of.Tie as tie

@@ -6,7 +6,7 @@ use Rattle.store.specs.Calls.{lookupIn}
 use Rattle.store.proofs.ArgumentFacts.{lookup-bounds}
 use Rattle.refusals.proofs.HeadFacts.{use-words}
 use Rattle.refusals.proofs.RefusalParts.{arguments-pass, head-passes}
-use Rattle.queries.specs.Bands.{answerOf}
+use Rattle.queries.specs.Answers.{answerOf}
 use Rattle.queries.proofs.LookupAnswers.{lookup-refused, lookup-answered}
 use borrow.Author.Needs.{needs}
 use Rattle.queries.proofs.reading.lookup_starts.Statement.{statement}

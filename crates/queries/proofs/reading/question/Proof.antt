@@ -7,8 +7,9 @@ use Rattle.store.specs.Calls.{question}
 use Rattle.store.proofs.ArgumentFacts.{asked}
 use Rattle.refusals.proofs.HeadFacts.{use-words}
 use Rattle.refusals.proofs.RefusalParts.{arguments-pass, head-passes}
-use Rattle.queries.specs.Bands.{without, answerOf}
-use Rattle.queries.proofs.BandLaws.{band-few, band-before-few}
+use Rattle.bands.specs.Bands.{without}
+use Rattle.queries.specs.Answers.{answerOf}
+use Rattle.bands.proofs.BandLaws.{band-few, band-before-few}
 use Rattle.queries.proofs.QuestionAnswers.{question-refused, question-answered}
 use borrow.Author.Needs.{needs}
 use Rattle.queries.proofs.reading.question.Statement.{statement}

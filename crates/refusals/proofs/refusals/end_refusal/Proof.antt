@@ -6,7 +6,7 @@ use Rattle.store.specs.Trees.{Store, treeIn, storeOf}
 use Rattle.store.specs.Calls.{end}
 use Rattle.store.specs.Refusals.{firstMet}
 use Rattle.store.proofs.ArgumentFacts.{end-tick}
-use Rattle.refusals.specs.Grounds.{planGrounds}
+use Rattle.room.specs.PlanGrounds.{planGrounds}
 use Rattle.refusals.proofs.HeadFacts.{use-words}
 use Rattle.refusals.proofs.FoundPasses.{found-facts}
 use Rattle.refusals.proofs.RefusalParts.{by-head, arguments-pass, head-passes, by-state, by-pages}

@@ -6,7 +6,7 @@ use Rattle.store.specs.Trees.{Store, treeIn, storeOf}
 use Rattle.store.specs.Calls.{start}
 use Rattle.store.specs.Refusals.{firstMet}
 use Rattle.store.proofs.ArgumentFacts.{start-arguments}
-use Rattle.refusals.specs.Grounds.{planGrounds}
+use Rattle.room.specs.PlanGrounds.{planGrounds}
 use Rattle.refusals.proofs.HeadFacts.{use-words}
 use Rattle.refusals.proofs.RefusalParts.{by-head, arguments-pass, head-passes, by-state, by-pages}
 use borrow.Author.Needs.{needs}

@@ -1,0 +1,3 @@
+-- Laws of bands.
+pub mod Differences
+pub mod BandLaws

@@ -1,0 +1,2 @@
+-- Bands of keys, as the code finds them.
+pub mod Bands

@@ -1,0 +1,132 @@
+use Prim.Native.Nat.{ℕ, _+_, _-_, _*_}
+use native.Mathlib.Omega.{arith}
+use mathlib.Core.Path.{_≡_, ap₂, sym}
+use mathlib.Core.List.{List}
+use lib.ListN.{take, drop}
+use lib.Seq.{drop-drop}
+use Rattle.store.specs.Trees.{storeOf}
+use Rattle.replies.proofs.RepliesAs.{refused-reply}
+use Rattle.burst.proofs.BurstSteps.{event-replies}
+use borrow.Author.Needs.{needs}
+use Rattle.burst.proofs.entering.enter_event.Statement.{statement}
+use Rattle.burst.proofs.entering.enter_event.Tie as tie
+
+mul-first : tie.Need-mul-first
+mul-first c = search needs
+
+add-operands : tie.Need-add-operands
+add-operands c = search needs
+
+add-next : tie.Need-add-next
+add-next c = search needs
+
+shared-slice-read-read-event : tie.Need-shared-slice-read-read-event
+shared-slice-read-read-event c = search needs
+
+sub-read-event : tie.Need-sub-read-event
+sub-read-event c = search needs
+
+part-read-event-start : tie.Need-part-read-event-start
+part-read-event-start c = search needs
+
+part-read-event-end : tie.Need-part-read-event-end
+part-read-event-end c = search needs
+
+read-event-requires : tie.Need-read-event-requires
+read-event-requires c κs = search needs
+
+enum-known-event : tie.Need-enum-known-event
+enum-known-event c = search needs
+
+start-requires : tie.Need-start-requires
+start-requires c κs = search needs
+
+enum-known-event-2 : tie.Need-enum-known-event-2
+enum-known-event-2 c = search needs
+
+end-requires : tie.Need-end-requires
+end-requires c κs = search needs
+
+enum-known-event-3 : tie.Need-enum-known-event-3
+enum-known-event-3 c = search needs
+
+refused-requires : tie.Need-refused-requires
+refused-requires c κs = search needs
+
+same-length : tie.Need-same-length
+same-length c = search needs
+
+same-length-2 : tie.Need-same-length-2
+same-length-2 c = search needs
+
+same-length-3 : tie.Need-same-length-3
+same-length-3 c = search needs
+
+same-length-4 : tie.Need-same-length-4
+same-length-4 c = search needs
+
+returns : tie.Need-returns
+returns c =
+    let a = c .before .before .before .before .before .before .before .before .before .before .before .before .before .before .before .before .before .before .before .before .args in
+    let first : ℕ = 9 * a .place in
+    let eight : first + 9 - (first + 1) ≡ 8 = omega arith in
+    let is = ap₂ (λ (n : ℕ) (l : List ℕ). take n l) eight (sym (drop-drop 1 first (a .bytes .now))) in
+    event-replies (storeOf (a .head) (a .start-table .now) (a .start-roots .now) (a .end-table .now) (a .end-roots .now)) (a .bytes .now) (a .place) (c .before .before .before .before .before .before .before .before .before .before .before .before .before .before .before .before .before .before .before .before .pre) (take (first + 9 - (first + 1)) (drop (first + 1) (a .bytes .now))) is (c .before .before .before .before .before .before .before .before .before .before .before .before .read-event .ensures) (c .before .before .before .before .before .before .before .before .before .before .event .given .1) (c .before .before .before .before .start .ensures)
+
+same-length-5 : tie.Need-same-length-5
+same-length-5 c = search needs
+
+same-length-6 : tie.Need-same-length-6
+same-length-6 c = search needs
+
+same-length-7 : tie.Need-same-length-7
+same-length-7 c = search needs
+
+same-length-8 : tie.Need-same-length-8
+same-length-8 c = search needs
+
+returns-2 : tie.Need-returns-2
+returns-2 c =
+    let a = c .before .before .before .before .before .before .before .before .before .before .before .before .before .before .before .before .before .before .before .before .args in
+    let first : ℕ = 9 * a .place in
+    let eight : first + 9 - (first + 1) ≡ 8 = omega arith in
+    let is = ap₂ (λ (n : ℕ) (l : List ℕ). take n l) eight (sym (drop-drop 1 first (a .bytes .now))) in
+    event-replies (storeOf (a .head) (a .start-table .now) (a .start-roots .now) (a .end-table .now) (a .end-roots .now)) (a .bytes .now) (a .place) (c .before .before .before .before .before .before .before .before .before .before .before .before .before .before .before .before .before .before .before .before .pre) (take (first + 9 - (first + 1)) (drop (first + 1) (a .bytes .now))) is (c .before .before .before .before .before .before .before .before .before .before .before .before .read-event .ensures) (c .before .before .before .before .before .before .before .before .before .before .event2 .given .1) (c .before .before .before .before .end .ensures)
+
+returns-3 : tie.Need-returns-3
+returns-3 c =
+    let a = c .before .before .before .before .before .before .before .before .before .before .before .before .args in
+    let first : ℕ = 9 * a .place in
+    let eight : first + 9 - (first + 1) ≡ 8 = omega arith in
+    let is = ap₂ (λ (n : ℕ) (l : List ℕ). take n l) eight (sym (drop-drop 1 first (a .bytes .now))) in
+    event-replies (storeOf (a .head) (a .start-table .now) (a .start-roots .now) (a .end-table .now) (a .end-roots .now)) (a .bytes .now) (a .place) (c .before .before .before .before .before .before .before .before .before .before .before .before .pre) (take (first + 9 - (first + 1)) (drop (first + 1) (a .bytes .now))) is (c .before .before .before .before .read-event .ensures) (c .before .before .event3 .given .1) (refused-reply (storeOf (a .head) (a .start-table .now) (a .start-roots .now) (a .end-table .now) (a .end-roots .now)) _ (c .refused .ensures))
+
+pub enter-event-spec : {M : Type 1} → statement M
+enter-event-spec =
+    tie.close
+    (tie.spec
+    mul-first
+    add-operands
+    add-next
+    shared-slice-read-read-event
+    sub-read-event
+    part-read-event-start
+    part-read-event-end
+    read-event-requires
+    enum-known-event
+    start-requires
+    enum-known-event-2
+    end-requires
+    enum-known-event-3
+    refused-requires
+    same-length
+    same-length-2
+    same-length-3
+    same-length-4
+    returns
+    same-length-5
+    same-length-6
+    same-length-7
+    same-length-8
+    returns-2
+    returns-3)

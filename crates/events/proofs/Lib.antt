@@ -1,0 +1,2 @@
+-- Laws of events in bytes.
+pub mod ReadLaws

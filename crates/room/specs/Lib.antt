@@ -1,0 +1,2 @@
+-- The grounds of an entry, cut where the code cuts them.
+pub mod PlanGrounds
