@@ -98,7 +98,7 @@ fn one_if(holds: bool) -> u64 {
     0
 }
 
-fn higher(one: u64, other: u64) -> u64 {
+pub fn higher(one: u64, other: u64) -> u64 {
     if one < other {
         return other;
     }

@@ -1,4 +1,5 @@
 // What histories reach of closed lives: clicks, and ticks at which many passes end.
+use crate::counts::higher;
 use pass_book::Call;
 use pass_book::PassBook;
 use pass_book::pass_at;
@@ -26,13 +27,6 @@ fn one_if_click(call: Call, passes: &[u32; NUMBERS]) -> u64 {
         return 1;
     }
     0
-}
-
-fn higher(one: u64, other: u64) -> u64 {
-    if one < other {
-        return other;
-    }
-    one
 }
 
 impl Lives {
