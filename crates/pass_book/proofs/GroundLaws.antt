@@ -1,8 +1,8 @@
 -- The grounds of starts and ends, by the numbers that the code compares, and what is known where none is met.
 use Prim.Native.Nat.{ℕ, _≤_, _<_}
 use native.Mathlib.Omega.{arith}
-use mathlib.Core.Path.{_≡_, refl, sym}
-use mathlib.Core.List.{List, _++_}
+use mathlib.Core.Path.{_≡_, refl}
+use mathlib.Core.List.{List}
 use lib.ListN.{List·getD-eq-default}
 use borrow.Author.Tests.{le-ltb, le-leb, lt-leb, ne-eqb}
 use Rattle.words.specs.Words.{keyLimit, openEnd}
@@ -18,7 +18,7 @@ use Rattle.store.proofs.EndReady.{open-inside}
 use Rattle.pass_book.specs.declared.types.PassBook.{PassBook}
 use Rattle.pass_book.specs.declared.types.Call.{Call}
 use Rattle.pass_book.specs.declared.types.Call.the-variants as made
-use Rattle.pass_book.specs.PassList.{passOf, passAt, passesIn, bookIn}
+use Rattle.pass_book.specs.PassList.{passAt, passesIn, bookIn}
 use Rattle.pass_book.specs.BookCalls.{callOf}
 use Rattle.pass_book.proofs.PassLaws.{passes-length, pass-numbered}
 

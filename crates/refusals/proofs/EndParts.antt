@@ -1,6 +1,6 @@
 -- The refusal of an end, by where the pass of its number was found.
 use Prim.Native.Nat.{ℕ}
-use mathlib.Core.Path.{_≡_, refl, ap, sym, _∙_}
+use mathlib.Core.Path.{_≡_, ap, sym, _∙_}
 use mathlib.Core.Bool.{false≢true}
 use mathlib.Core.List.{[], _∷_}
 use Rattle.tree.specs.Plan.{plan}

@@ -3,12 +3,10 @@
 use Prim.Native.Nat.{ℕ, _+_, _≤_, _<_}
 use native.Mathlib.Omega.{arith}
 use mathlib.Core.Path.{_≡_, refl, ap, ap₂, sym, subst, _∙_}
-use mathlib.Core.Bool.{Bool, true, false, _&&_, _||_, not}
+use mathlib.Core.Bool.{Bool, true, false, _&&_, not}
 use mathlib.Core.List.{List, [], _∷_, _++_, append-assoc}
 use lib.ListN.{length}
-use lib.Dec.{leb, ltb}
 use borrow.Author.Tests.{le-leb, le-ltb}
-use Rattle.words.specs.Lists.{All}
 use Rattle.words.specs.Words.{openEnd}
 use Rattle.tree.specs.Row.{pageWords}
 use Rattle.tree.specs.Tree.{Tree}
@@ -17,14 +15,14 @@ use Rattle.tree.specs.Grown.{grow, lastTick, Admitted}
 use Rattle.tree.proofs.Main.{UseFits, use-fits, lengths-stay}
 use Rattle.store.specs.declared.types.OpenPass.{OpenPass}
 use Rattle.store.specs.declared.types.TreeName.{TreeName}
-use Rattle.store.specs.Trees.{LentTree, lentTo, Store, treeIn}
+use Rattle.store.specs.Trees.{lentTo, Store, treeIn}
 use Rattle.store.specs.Head.{openPasses, passOf, findPass, openLimit, passLimit, useFits, passesFit, numbersRise, headFits}
 use Rattle.store.specs.Calls.{Call, opening, start, end, question, lookupIn, isOpening}
-use Rattle.store.specs.Refusals.{Ground, firstMet}
+use Rattle.store.specs.Refusals.{firstMet}
 use Rattle.store.specs.Grounds.{Known, soughtBy, argumentGrounds, stateGrounds}
 use Rattle.store.specs.Writing.{tooSmall, lendsTooLittle}
 use Rattle.store.specs.Performing.{isFound, headKnows, opensOverTooLittle, headUnfit, pageGrounds, refusal}
-use Rattle.store.specs.Passes.{End, stillOpen, endedAt, Pass, sumWhere}
+use Rattle.store.specs.Passes.{sumWhere}
 use Rattle.store.specs.Points.{pointsOf}
 use Rattle.store.specs.Book.{Book, isOpen, passNumbered, bookKnows}
 use Rattle.store.proofs.TreeLaws.{each-tree, no-tree}

@@ -1,17 +1,17 @@
 -- The grounds of a call's arguments, and of what a head or a book knows, in words, both ways.
-use Prim.Native.Nat.{ℕ, zero, suc, _≤_, _<_}
+use Prim.Native.Nat.{ℕ, _≤_, _<_}
 use native.Mathlib.Omega.{arith}
-use mathlib.Core.Path.{_≡_, refl, ap, sym, _∙_}
-use mathlib.Core.Bool.{Bool, true, false, cond, _||_, not, false≢true}
-use mathlib.Core.List.{List, [], _∷_, _++_}
+use mathlib.Core.Path.{_≡_, refl, sym}
+use mathlib.Core.Bool.{Bool, true, false, not, false≢true}
+use mathlib.Core.List.{List}
 use lib.Dec.{leb, ltb, eqb}
 use borrow.Author.Tests.{lt-leb, leb-false, le-ltb, ltb-false, ne-eqb, eqb-false}
 use Rattle.words.specs.Lists.{All}
 use Rattle.words.specs.Words.{keyLimit, openEnd}
-use Rattle.tree.proofs.Lists.{all-map, all-append}
+use Rattle.tree.proofs.Lists.{all-map}
 use Rattle.store.specs.declared.types.TreeName.{TreeName}
 use Rattle.store.specs.Head.{passLimit, openLimit, weightLimit}
-use Rattle.store.specs.Calls.{Call, opening, start, end, question, lookupIn}
+use Rattle.store.specs.Calls.{Call, start, end, question, lookupIn}
 use Rattle.store.specs.Refusals.{Ground, firstMet}
 use Rattle.store.specs.Grounds.{Known, argumentGrounds, stateGrounds}
 use Rattle.store.proofs.RefusalLaws.{or-false, Numbered, none-met}

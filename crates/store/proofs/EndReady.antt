@@ -1,8 +1,8 @@
 -- Ends: the store does as the book does, and agrees with it afterwards.
-use Prim.Native.Nat.{ℕ, zero, suc, _+_, _-_, _≤_, _<_}
+use Prim.Native.Nat.{ℕ, zero, suc, _+_, _-_, _<_}
 use native.Mathlib.Omega.{arith}
 use mathlib.Core.Path.{_≡_, refl, ap, ap₂, sym, subst, _∙_}
-use mathlib.Core.Bool.{Bool, true, false, cond, false≢true}
+use mathlib.Core.Bool.{Bool, true, false, false≢true}
 use mathlib.Core.List.{List, [], _∷_, _++_}
 use lib.ListN.{length, getD, take, drop, length-append, length-take, length-drop}
 use Rattle.words.specs.Lists.{All}
@@ -12,7 +12,7 @@ use Rattle.tree.specs.Grown.{InTime, Room}
 use Rattle.tree.proofs.Lists.{all-at}
 use Rattle.store.specs.declared.types.OpenPass.{OpenPass}
 use Rattle.store.specs.declared.types.FoundPass.{FoundPass}
-use Rattle.store.specs.declared.types.FoundPass.the-variants.{Missing, At}
+use Rattle.store.specs.declared.types.FoundPass.the-variants.{At}
 use Rattle.store.specs.declared.types.TreeName.{TreeName}
 use Rattle.store.specs.declared.types.TreeName.the-variants.{Starts, Ends}
 use Rattle.store.specs.Trees.{Store, treeIn}
@@ -21,7 +21,7 @@ use Rattle.store.specs.Calls.{end}
 use Rattle.store.specs.Writing.{pointOf, Entry, endEntries, enterAll, closedUp, endedHead}
 use Rattle.store.specs.Performing.{served}
 use Rattle.store.specs.Passes.{End, stillOpen, endedAt, Pass, sumWhere}
-use Rattle.store.specs.Points.{endPointsOf, pointsOfPass, pointsOf}
+use Rattle.store.specs.Points.{endPointsOf, pointsOf}
 use Rattle.store.specs.Book.{Book, isOpen, notEnded, neverStarted, passNumbered, bookKnows, endPassAt, bookDoes}
 use Rattle.store.proofs.SumLaws.{sum-where-one}
 use Rattle.store.proofs.PointLaws.{ended, points-ended}

@@ -1,17 +1,14 @@
 -- The head's list of open passes is that of the book's open passes, each with its number.
 use Prim.Native.Nat.{ℕ, zero, suc, _+_, _-_, _≤_, _<_}
 use native.Mathlib.Omega.{arith}
-use native.Mathlib.Decide.{ℕ-discrete}
 use mathlib.Core.Path.{_≡_, refl, ap, ap₂, sym, _∙_}
-use mathlib.Core.Bool.{Bool, true, false, cond, _&&_, false≢true}
+use mathlib.Core.Bool.{Bool, true, false, cond, false≢true}
 use mathlib.Core.List.{List, [], _∷_, _++_}
 use lib.ListN.{length, getD, take, drop}
-use lib.Dec.{leb, ltb, eqb}
 use borrow.Author.Tests.{le-leb, lt-ltb, eq-eqb, ne-eqb}
 use Rattle.words.specs.Lists.{All}
 use Rattle.words.specs.Words.{keyLimit}
 use Rattle.store.specs.declared.types.OpenPass.{OpenPass}
-use Rattle.store.specs.declared.types.FoundPass.{FoundPass}
 use Rattle.store.specs.declared.types.FoundPass.the-variants.{Missing, At}
 use Rattle.store.specs.Head.{weightLimit, findPass, passesFit, risesTo, numbersRise}
 use Rattle.store.specs.Passes.{End, stillOpen, endedAt, Pass, sumWhere, countWhere}

@@ -1,9 +1,9 @@
 -- Questions: the store answers as the book, and stays as it is.
-use Prim.Native.Nat.{ℕ, _*_, _≤_}
+use Prim.Native.Nat.{ℕ, _≤_}
 use native.Mathlib.Omega.{arith}
-use mathlib.Core.Path.{_≡_, refl, ap, ap₂, _∙_}
+use mathlib.Core.Path.{ap₂}
 use mathlib.Core.Bool.{Bool, true, false, cond}
-use mathlib.Core.List.{List, [], _∷_, _++_}
+use mathlib.Core.List.{[], _∷_, _++_}
 use lib.ListN.{length, length-append}
 use Rattle.words.specs.Lists.{All}
 use Rattle.words.specs.Words.{openEnd}
@@ -12,7 +12,7 @@ use Rattle.store.specs.declared.types.TreeName.{TreeName}
 use Rattle.store.specs.declared.types.TreeName.the-variants.{Starts, Ends}
 use Rattle.store.specs.Trees.{Store}
 use Rattle.store.specs.Calls.{question}
-use Rattle.store.specs.Reading.{PointLookup, pointsBefore, nonePrecede, lookupBefore, lookupsOf}
+use Rattle.store.specs.Reading.{pointsBefore, nonePrecede, lookupBefore, lookupsOf}
 use Rattle.store.specs.Performing.{served}
 use Rattle.store.specs.Book.{Book, says}
 use Rattle.store.proofs.ArgumentFacts.{Asked}

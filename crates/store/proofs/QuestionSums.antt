@@ -1,11 +1,10 @@
 -- A question from its four lookups: "starts(t2 - 1, k2 - 1) - ends(t1 - 1, k2 - 1) - starts(t2 - 1, k1 - 1) + ends(t1 - 1, k1 - 1)" counts the passes of
 -- Definition 1, because a pass that ended before t1 started before t2.
-use Prim.Native.Nat.{ℕ, suc, _+_, _-_, _≤_, _<_}
+use Prim.Native.Nat.{ℕ, _+_, _-_, _≤_, _<_}
 use native.Mathlib.Omega.{arith}
-use native.Mathlib.Decide.{decLe}
-use mathlib.Core.Path.{_≡_, refl, ap, ap₂, sym, _∙_}
+use mathlib.Core.Path.{_≡_, refl, ap, ap₂, _∙_}
 use mathlib.Core.Bool.{Bool, true, false, cond, _&&_}
-use mathlib.Core.List.{List, [], _∷_, _++_}
+use mathlib.Core.List.{List, [], _∷_}
 use mathlib.Core.Logic.{_⊎_, inl, inr}
 use lib.Dec.{leb, ltb}
 use borrow.Author.Tests.{le-leb, lt-leb, lt-ltb, le-ltb}
@@ -14,7 +13,6 @@ use Rattle.words.specs.declared.value.Value.{Value}
 use Rattle.tree.specs.RowSteps.{Point}
 use Rattle.tree.specs.PointSums.{dominated}
 use Rattle.tree.proofs.ReplacedRows.{split}
-use Rattle.store.specs.Writing.{pointOf}
 use Rattle.store.specs.Passes.{End, stillOpen, endedAt, Pass, notEndedBefore, meets, sumWhere}
 use Rattle.store.specs.declared.types.TreeName.the-variants.{Starts, Ends}
 use Rattle.store.specs.Points.{endPointsOf, pointsOf}

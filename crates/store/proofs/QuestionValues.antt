@@ -1,15 +1,14 @@
 -- The value of a question: "starts(t2 - 1, k2 - 1) - ends(t1 - 1, k2 - 1) - starts(t2 - 1, k1 - 1) + ends(t1 - 1, k1 - 1)", modulo 2^64, is the book's.
-use Prim.Native.Nat.{ℕ, zero, suc, _+_, _-_, _%_, _^_, _≤_, _<_}
+use Prim.Native.Nat.{ℕ, zero, _+_, _-_, _%_, _^_, _≤_, _<_}
 use native.Mathlib.Omega.{arith}
 use native.Mathlib.Decide.{ℕ-discrete}
 use mathlib.Core.Path.{_≡_, refl, ap, ap₂, sym, _∙_}
-use mathlib.Core.Bool.{Bool, true, false, cond, _||_}
-use mathlib.Core.List.{List, [], _∷_}
-use lib.ListN.{length}
+use mathlib.Core.Bool.{Bool, cond, _||_}
+use mathlib.Core.List.{List}
 use lib.Dec.{eqb}
 use borrow.Author.Tests.{eq-eqb, ne-eqb}
 use Rattle.words.specs.Lists.{All}
-use Rattle.words.specs.Words.{keyLimit, openEnd}
+use Rattle.words.specs.Words.{openEnd}
 use Rattle.words.specs.declared.value.Value.{Value}
 use Rattle.words.specs.Value as value
 use Rattle.words.specs.Value.{plus, minus}

@@ -1,11 +1,9 @@
 -- Starts: the store does as the book does, and agrees with it afterwards.
-use Prim.Native.Nat.{ℕ, zero, suc, _+_, _≤_, _<_}
+use Prim.Native.Nat.{ℕ, _+_, _<_}
 use native.Mathlib.Omega.{arith}
 use mathlib.Core.Path.{_≡_, refl, ap, ap₂, sym, _∙_}
-use mathlib.Core.Bool.{Bool, cond}
 use mathlib.Core.List.{List, [], _∷_, _++_}
 use lib.ListN.{length, take, set, length-append, length-set}
-use Rattle.words.specs.Lists.{All}
 use Rattle.tree.specs.RowSteps.{Point}
 use Rattle.tree.specs.Grown.{InTime, Room}
 use Rattle.store.specs.declared.types.OpenPass.{OpenPass}
