@@ -1,4 +1,4 @@
--- The band of a tree, as the code of a question looks it up: the starts' less the ends'.
+-- The band of a tree, as the code looks it up. A question is the band of the starts less that of the ends.
 use Prim.Native.Nat.{ℕ, _+_, _-_}
 use mathlib.Core.Bool.{cond}
 use lib.Dec.{eqb}

@@ -38,16 +38,21 @@ impl Lives {
         }
     }
 
-    // At a tick, which may be another one than the last.
-    fn at(self, tick: u32, last: u32) -> Lives {
-        if tick == last {
-            return self;
-        }
+    // At a tick at which no pass has ended yet.
+    fn at_new_tick(self) -> Lives {
         Lives {
             clicks: self.clicks,
             ends_at_last: 0,
             most_ends: self.most_ends,
         }
+    }
+
+    // At a tick, which may be another one than the last.
+    fn at(self, tick: u32, last: u32) -> Lives {
+        if tick == last {
+            return self;
+        }
+        self.at_new_tick()
     }
 
     // One more end at the last tick.
@@ -60,7 +65,7 @@ impl Lives {
         }
     }
 
-    // After a call with its answer, by the book before it and the one after it. A store opened anew is another one at another tick.
+    // After a call with its answer, by the book before it and the one after it. In a store opened anew no pass has ended.
     pub fn after(
         self,
         call: Call,
@@ -72,7 +77,7 @@ impl Lives {
         let at = self.at(now.last, before.last);
         match answer {
             Answer::Ended => at.with_end(call, passes),
-            Answer::Opened => self.at(1, 0),
+            Answer::Opened => self.at_new_tick(),
             _ => at,
         }
     }

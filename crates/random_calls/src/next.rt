@@ -112,8 +112,8 @@ fn higher(a: u32, b: u32) -> u32
     a
 }
 
-// The first tick of a question whose ticks were drawn as `tick`, or the end of a pass, which is then counted, or the tick after it, from which on it
-// is not.
+// The first tick of a question: the one that was drawn, or the end tick of a pass, at which it is still counted, or the tick after it, from which on
+// it is not.
 fn first_tick(random: &mut u64, passes: &[u32; NUMBERS], book: PassBook, tick: u32) -> u32
     requires { ⌜ book .started ≤ 2000 ⌝ }
 {
