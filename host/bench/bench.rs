@@ -17,10 +17,10 @@ mod workload;
 
 use book::Book;
 use library::{
-    burst_by_library, burst_by_port, by_library, by_port, packet_by_library, packet_by_port, Answer, Call, Store,
+    burst_by_library, burst_by_port, by_library, by_port, packet_by_library, packet_by_port, write_by_library, write_by_port, Answer, Call, Store,
 };
 use list::List;
-use port::{Fed, Head};
+use port::{Block, Fed, Head, BLOCK_BYTES};
 use std::hint::black_box;
 use std::time::Instant;
 use workload::{questions_from_zero, questions_past, questions_today, season, Question, SHAPES};
@@ -208,10 +208,15 @@ fn by_book(calls: &[Call], questions: Asked) -> Vec<(u64, u64)> {
     answers.map(|totals| (totals.count, totals.sum)).collect()
 }
 
+/// The last tick of a season.
+fn last_tick(calls: &[Call]) -> u32 {
+    calls.iter().map(|call| if let Call::Start { tick, .. } | Call::End { tick, .. } = *call { tick } else { 0 }).max().unwrap()
+}
+
 /// One shape at one size. Returns the library's times.
 fn compare(shape: workload::Shape, name: &str, passes: u32, runs: u32, clock: f64) -> [Time; 2 + KINDS] {
     let calls = season(shape, passes);
-    let last = calls.iter().map(|call| if let Call::Start { tick, .. } | Call::End { tick, .. } = *call { tick } else { 0 }).max().unwrap();
+    let last = last_tick(&calls);
     let drawn = [questions_today, questions_past, questions_from_zero].map(|of_kind| of_kind(shape, last, QUESTIONS));
     let ends = calls.iter().filter(|call| matches!(call, Call::End { .. })).count();
     // A question to the list takes long, so it gets fewer of them.
@@ -279,29 +284,35 @@ impl Way {
     }
 }
 
-/// Who makes the calls, the packets and the bursts.
+/// Who makes the calls, the packets, the bursts and the writes to a register block.
 struct Maker {
     who: &'static str,
     single: fn(&mut Store, Call) -> Answer,
     packet: fn(&mut Store, &[u8], bool, &mut [u8]) -> Fed,
     burst: fn(&mut Store, &[u8], &mut [u64]) -> u8,
+    write: fn(&mut Store, &mut Block, usize, u8),
 }
 
 const MAKERS: [Maker; 2] = [
-    Maker { who: "library", single: by_library, packet: packet_by_library, burst: burst_by_library },
-    Maker { who: "port", single: by_port, packet: packet_by_port, burst: burst_by_port },
+    Maker { who: "library", single: by_library, packet: packet_by_library, burst: burst_by_library, write: write_by_library },
+    Maker { who: "port", single: by_port, packet: packet_by_port, burst: burst_by_port, write: write_by_port },
 ];
+
+/// The bytes of a call's command.
+fn bytes_of(call: Call) -> Vec<u8> {
+    match call {
+        Call::Start { tick, key, weight } => commands::start(tick, key, weight),
+        Call::End { tick, number } => commands::end(tick, number),
+        Call::Question { k1, k2, t1, t2 } => commands::question(k1, k2, t1, t2),
+        _ => Vec::new(),
+    }
+}
 
 /// The events of a season by single calls, and the same events as packets and as bursts. The three take turns, so that what else the machine does
 /// bears on all of them.
-fn compare_together(Maker { who, single, packet, burst }: &Maker, name: &str, calls: &[Call], runs: u32, clock: f64) {
+fn compare_together(Maker { who, single, packet, burst, .. }: &Maker, name: &str, calls: &[Call], runs: u32, clock: f64) {
     let groups: Vec<&[Call]> = calls.chunks_exact(TOGETHER).collect();
-    let bytes_of = |call: &Call| match *call {
-        Call::Start { tick, key, weight } => commands::start(tick, key, weight),
-        Call::End { tick, number } => commands::end(tick, number),
-        _ => Vec::new(),
-    };
-    let bytes: Vec<Vec<u8>> = groups.iter().map(|group| group.iter().flat_map(bytes_of).collect()).collect();
+    let bytes: Vec<Vec<u8>> = groups.iter().map(|group| group.iter().flat_map(|&call| bytes_of(call)).collect()).collect();
     let (mut out, mut results) = ([0; 18 * TOGETHER], [0; 2 * TOGETHER]);
     let [mut by_calls, mut by_packets, mut by_bursts] = [(); 3].map(|()| Way::new(groups.len()));
     for _ in 0..runs {
@@ -320,6 +331,99 @@ fn compare_together(Maker { who, single, packet, burst }: &Maker, name: &str, ca
         "{name}, {TOGETHER} starts and ends at a time, {who}: {} an event by single calls, {} in a packet, {:.2} times, {} in a burst, {:.2} times",
         shown(calls), shown(packets), packets / calls, shown(bursts), bursts / calls
     );
+}
+
+/// What a command through a register block is compared with: the direct call, the write to byte 0 alone, and that with the writes of its operands
+/// before it.
+#[derive(Clone, Copy, PartialEq)]
+enum Through {
+    Call,
+    Command,
+    Registers,
+}
+
+/// The kinds of calls that are commands: start, end, question.
+const COMMANDS: [&str; 3] = ["start", "end", "question"];
+
+/// One such way: its store and its block, and the best time of each call of each kind.
+struct Accessed {
+    store: Store,
+    block: Block,
+    best: [Vec<u32>; COMMANDS.len()],
+}
+
+/// The status register.
+const STATUS: usize = 13;
+
+impl Accessed {
+    fn new() -> Accessed {
+        Accessed { store: roomy_store(TOGETHER_PASSES), block: [0; BLOCK_BYTES], best: Default::default() }
+    }
+
+    /// Makes all calls once, from an opening on. The first run makes place for the times.
+    fn run(&mut self, maker: &Maker, through: Through, calls: &[(Call, Vec<u8>)]) {
+        accepted(by_library(&mut self.store, Call::Open));
+        let mut places = [0; COMMANDS.len()];
+        for (call, bytes) in calls {
+            let kind = bytes[0] as usize - 1;
+            if self.best[kind].len() == places[kind] {
+                self.best[kind].push(u32::MAX);
+            }
+            self.make(maker, through, *call, bytes, kind, places[kind]);
+            places[kind] += 1;
+        }
+    }
+
+    fn make(&mut self, Maker { single, write, .. }: &Maker, through: Through, call: Call, bytes: &[u8], kind: usize, place: usize) {
+        let Accessed { store, block, best } = self;
+        let time = &mut best[kind][place];
+        let write_operands = |store: &mut Store, block: &mut Block| {
+            for (offset, &operand) in bytes.iter().enumerate().skip(1) {
+                write(store, block, offset, operand);
+            }
+        };
+        if through == Through::Command {
+            write_operands(store, block);
+        }
+        take_time(time, || match through {
+            Through::Call => {
+                black_box(accepted(single(store, black_box(call))));
+            }
+            Through::Command => write(store, black_box(block), 0, bytes[0]),
+            Through::Registers => {
+                write_operands(store, black_box(block));
+                write(store, black_box(block), 0, bytes[0]);
+            }
+        });
+        assert!(through == Through::Call || block[STATUS] == 0, "a command of the benchmark was refused: {}", block[STATUS]);
+    }
+
+    fn mean(&self, kind: usize, clock: f64) -> f64 {
+        Time::of(&self.best[kind], clock).mean
+    }
+}
+
+/// The starts and ends of a season, and questions about its last day, by direct calls and through a register block. The ways take turns.
+fn compare_block(maker: &Maker, shape: workload::Shape, name: &str, calls: &[Call], runs: u32, clock: f64) {
+    let last = last_tick(calls);
+    let asked = questions_today(shape, last, QUESTIONS).into_iter().map(|(k1, k2, t1, t2)| Call::Question { k1, k2, t1, t2 });
+    let made: Vec<(Call, Vec<u8>)> = calls.iter().copied().chain(asked).map(|call| (call, bytes_of(call))).collect();
+    let ways = [Through::Call, Through::Command, Through::Registers];
+    let mut accessed = ways.map(|_| Accessed::new());
+    for _ in 0..runs {
+        for (way, through) in accessed.iter_mut().zip(ways) {
+            way.run(maker, through, &made);
+        }
+    }
+    assert!(accessed.iter().all(|way| way.store == accessed[0].store), "commands through a block leave another store than direct calls");
+    for (kind, command) in COMMANDS.iter().enumerate() {
+        let [direct, alone, registers] = [0, 1, 2].map(|way| accessed[way].mean(kind, clock));
+        println!(
+            "{name}, {command}, {}: {} by the call, {} by the write to byte 0 of a register block, {:.2} times, {} with the writes of its operands, \
+             {:.2} times",
+            maker.who, shown(direct), shown(alone), alone / direct, shown(registers), registers / direct
+        );
+    }
 }
 
 fn main() {
@@ -348,6 +452,13 @@ fn main() {
         let calls = season(shape, TOGETHER_PASSES);
         for maker in &MAKERS {
             compare_together(maker, name, &calls, runs, clock);
+        }
+    }
+    println!();
+    for (shape, name) in SHAPES {
+        let calls = season(shape, TOGETHER_PASSES);
+        for maker in &MAKERS {
+            compare_block(maker, shape, name, &calls, runs, clock);
         }
     }
 }

@@ -4,7 +4,7 @@
  * what the caller pushes as arguments in it.
  *
  * The store is grown with rising keys to trees four pages high, and each call is measured; the deepest one counts. Then it is opened anew and
- * grown again by packets of one command each, and a third time by bursts of one event each.
+ * grown again by packets of one command each, a third time by bursts of one event each, and a fourth time by commands through a register block.
  */
 #define _POSIX_C_SOURCE 200809L
 #include <nimbleshale.h>
@@ -28,6 +28,11 @@ static uint32_t tick, key, first_key, number;
 static uint8_t packet[NIMBLESHALE_LONGEST_COMMAND], answer[NIMBLESHALE_LONGEST_ANSWER];
 static size_t packet_length, taken, written;
 static uint64_t results[NIMBLESHALE_RESULT_WORDS];
+
+/* The register block, and the byte of it that is read or written next. */
+static uint8_t block[NIMBLESHALE_BLOCK_BYTES];
+static size_t offset;
+static uint8_t value;
 
 /* A function with a frame of its own. */
 #define FRAMED __attribute__((noinline))
@@ -86,8 +91,34 @@ static FRAMED uint8_t call_burst(void)
     return refusal != 0 || results[0] != 0;
 }
 
+static FRAMED uint8_t call_block_reset(void)
+{
+    nimbleshale_block_reset(block);
+    return 0;
+}
+
+/* What is read was written just before. */
+static FRAMED uint8_t call_block_read(void)
+{
+    return nimbleshale_block_read(block, offset) != value;
+}
+
+/* The mask is 0. */
+static FRAMED uint8_t call_block_line(void)
+{
+    return nimbleshale_block_line(block);
+}
+
+/* A write of an operand or, to byte 0, a command. It is refused where the status says so. */
+static FRAMED uint8_t call_block_write(void)
+{
+    nimbleshale_store_block_write(&store, block, offset, value);
+    return block[NIMBLESHALE_BLOCK_STATUS];
+}
+
 enum {
-    FIND_CALLER, OPEN, START, END, QUESTION, LOOKUP_STARTS, LOOKUP_ENDS, PACKET_START, PACKET_END, PACKET_QUESTION, BURST_START, BURST_END, CALLS
+    FIND_CALLER, OPEN, START, END, QUESTION, LOOKUP_STARTS, LOOKUP_ENDS, PACKET_START, PACKET_END, PACKET_QUESTION, BURST_START, BURST_END,
+    BLOCK_RESET, BLOCK_READ, BLOCK_LINE, BLOCK_OPERAND, BLOCK_START, BLOCK_END, BLOCK_QUESTION, CALLS
 };
 
 static const struct {
@@ -106,6 +137,13 @@ static const struct {
     {"nimbleshale_commands, question", call_commands},
     {"nimbleshale_burst, start", call_burst},
     {"nimbleshale_burst, end", call_burst},
+    {"nimbleshale_block_reset", call_block_reset},
+    {"nimbleshale_block_read", call_block_read},
+    {"nimbleshale_block_line", call_block_line},
+    {"nimbleshale_block_write, operand", call_block_write},
+    {"nimbleshale_block_write, start", call_block_write},
+    {"nimbleshale_block_write, end", call_block_write},
+    {"nimbleshale_block_write, question", call_block_write},
 };
 
 static size_t deepest[CALLS];
@@ -155,32 +193,55 @@ static void begin_packet(uint32_t command, uint32_t operand, int bytes)
     put(operand, bytes);
 }
 
-static void measure_packet_question(uint32_t from_key)
+/* How the starts and ends of a store are made. */
+enum way { BY_CALLS, BY_PACKETS, BY_BURSTS, BY_BLOCK, WAYS };
+
+/* The packet's bytes written to the block, operands first, and its command byte last. */
+static void measure_block(int which)
+{
+    for (offset = 1; offset < packet_length; offset++) {
+        value = packet[offset];
+        measure(BLOCK_OPERAND);
+        measure(BLOCK_READ);
+        measure(BLOCK_LINE);
+    }
+    offset = 0;
+    value = packet[0];
+    measure(which);
+}
+
+/* A start, an end or a question whose bytes are in the packet. */
+static void measure_command(int which, enum way way)
+{
+    if (way == BY_BLOCK)
+        measure_block(which);
+    else
+        measure(which);
+}
+
+static void measure_packet_question(uint32_t from_key, enum way way)
 {
     begin_packet(3, from_key, 2);
     put(key + 2, 2);
     put(tick / 2, 4);
     put(tick + 1, 4);
-    measure(PACKET_QUESTION);
+    measure_command(way == BY_BLOCK ? BLOCK_QUESTION : PACKET_QUESTION, way);
 }
-
-/* How the starts and ends of a store are made. */
-enum way { BY_CALLS, BY_PACKETS, BY_BURSTS, WAYS };
 
 /* A pass starts and ends. */
 static void measure_pass(uint32_t pass, enum way way)
 {
-    static const int starts[WAYS] = {START, PACKET_START, BURST_START}, ends[WAYS] = {END, PACKET_END, BURST_END};
+    static const int starts[WAYS] = {START, PACKET_START, BURST_START, BLOCK_START}, ends[WAYS] = {END, PACKET_END, BURST_END, BLOCK_END};
     tick = 10 * pass + 1;
     key = pass + 1;
     begin_packet(1, tick, 4);
     put(key, 2);
     put(100, 2);
-    measure(starts[way]);
+    measure_command(starts[way], way);
     tick += 5;
     begin_packet(2, tick, 4);
     put(pass, 4);
-    measure(ends[way]);
+    measure_command(ends[way], way);
 }
 
 static void *run(void *unused)
@@ -190,15 +251,16 @@ static void *run(void *unused)
     (void)unused;
     for (way = BY_CALLS; way < WAYS; way++) {
         measure(OPEN);
+        measure(BLOCK_RESET);
         for (pass = 0; pass < PASSES; pass++) {
             measure_pass(pass, (enum way)way);
             if (pass % 50 != 0 && pass != PASSES - 1)
                 continue;
             if (way == BY_CALLS)
                 measure_questions();
-            if (way == BY_PACKETS) {
-                measure_packet_question(0);
-                measure_packet_question(1 + key / 2);
+            if (way == BY_PACKETS || way == BY_BLOCK) {
+                measure_packet_question(0, (enum way)way);
+                measure_packet_question(1 + key / 2, (enum way)way);
             }
         }
     }
@@ -224,6 +286,6 @@ int main(void)
     printf("\nStack below the caller, arguments included; deepest of %u starts and ends each way, trees %u pages high:\n", 2 * PASSES,
            (unsigned)start_table[NIMBLESHALE_PAGE_WORDS * (size_t)(start_roots[store.start_roots_used - 1] >> 32)] + 1);
     for (call = OPEN; call < CALLS; call++)
-        printf("%-32s%6lu bytes\n", calls[call].name, (unsigned long)deepest[call]);
+        printf("%-36s%6lu bytes\n", calls[call].name, (unsigned long)deepest[call]);
     return refused != 0;
 }

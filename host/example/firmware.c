@@ -1,7 +1,8 @@
 /*
  * An example of firmware around the pass index: it lends static memory, records what the ear hears, answers the radio, keeps the store over
- * a power cycle, runs the radio's packets of commands, enters in one burst what it heard while the radio talked, and shows what a detector can do
- * about each refusal. The memory is small, so that it runs full within the example; a detector lends thousands of pages.
+ * a power cycle, runs the radio's packets of commands, enters in one burst what it heard while the radio talked, serves a radio chip that has a
+ * register block, and shows what a detector can do about each refusal. The memory is small, so that it runs full within the example; a detector
+ * lends thousands of pages.
  */
 #include <nimbleshale.h>
 #include <stdio.h>
@@ -283,10 +284,10 @@ static size_t say_answer(uint8_t command, const uint8_t *answer)
         return 1;
     }
     switch (command) {
-    case 1:
+    case NIMBLESHALE_COMMAND_START:
         printf("answer: start, pass %lu\n", (unsigned long)number_in(answer + 1, 4));
         return 5;
-    case 3:
+    case NIMBLESHALE_COMMAND_QUESTION:
         printf("answer: question, %llu passes, weight %llu, %u pages opened\n", (unsigned long long)number_in(answer + 1, 8),
                (unsigned long long)number_in(answer + 9, 8), (unsigned)answer[17]);
         return NIMBLESHALE_LONGEST_ANSWER;
@@ -303,7 +304,7 @@ static void send_answers(size_t taken, size_t written)
     while (at < taken && from < written) {
         uint8_t command = waiting[at];
         from += say_answer(command, answers + from);
-        at += command == 3 ? NIMBLESHALE_LONGEST_COMMAND : 9;
+        at += command == NIMBLESHALE_COMMAND_QUESTION ? NIMBLESHALE_LONGEST_COMMAND : 9;
     }
 }
 
@@ -358,7 +359,7 @@ static uint32_t track_number[TRACKS];
 static void try_alone(const uint8_t *event, unsigned track)
 {
     uint32_t tick = nimbleshale_narrowed(number_in(event + 1, 4));
-    if (event[0] == 1) {
+    if (event[0] == NIMBLESHALE_COMMAND_START) {
         uint32_t key = nimbleshale_narrowed(number_in(event + 5, 2)), weight = nimbleshale_narrowed(number_in(event + 7, 2));
         tracks[track] = on_start(tick, key, weight, &track_number[track]) ? NUMBERED : NO_PASS;
     } else {
@@ -375,7 +376,7 @@ static void settle(size_t place)
     const uint64_t number = results[NIMBLESHALE_RESULT_WORDS * place + 1];
     switch (refusal) {
     case NIMBLESHALE_ACCEPTED:
-        if (event[0] == 1) {
+        if (event[0] == NIMBLESHALE_COMMAND_START) {
             track_number[track] = nimbleshale_narrowed(number);
             tracks[track] = NUMBERED;
         }
@@ -444,6 +445,120 @@ static void hear_end(unsigned track, uint32_t tick)
         enter_queue();
     if (tracks[track] == NUMBERED)
         nimbleshale_event_end(queue_event(track), tick, track_number[track]);
+}
+
+/*
+ * The register block. A radio chip has a bus to 40 bytes of this processor. It writes the operands and then the command byte, and reads what came of
+ * it. Each access interrupts whatever runs here, and on_bus_read or on_bus_write is the handler.
+ *
+ * Reading, and writing any byte but byte 0, touch the block alone. The handler does both at once, be a call on the store interrupted or not. A write
+ * to byte 0 is a call on the store, and the handler cannot know whether it interrupts another one: it keeps the byte, and the main loop makes the
+ * write. To the chip this is a command that takes its time. It has cleared the flags, so that done is set when the command has run, and until
+ * then it writes nothing else.
+ */
+static uint8_t block[NIMBLESHALE_BLOCK_BYTES];
+static volatile uint8_t command_byte, command_waits;
+
+/* The interrupt line, as it was set last. It is a wire to the chip, whose own handler runs when it goes high. */
+static uint8_t line;
+
+static void on_line_high(void);
+
+static void set_line(void)
+{
+    uint8_t before = line;
+    line = nimbleshale_block_line(block);
+    if (line && !before)
+        on_line_high();
+}
+
+static uint8_t on_bus_read(size_t offset)
+{
+    return nimbleshale_block_read(block, offset);
+}
+
+static void on_bus_write(size_t offset, uint8_t value)
+{
+    if (offset == NIMBLESHALE_BLOCK_COMMAND) {
+        command_byte = value;
+        command_waits = 1;
+        return;
+    }
+    nimbleshale_store_block_write(&store, block, offset, value);
+    set_line();
+}
+
+/* The main loop, each time around. A detector holds the bus off from before the write until the line is set: nobody reads a block that is half
+ * written. */
+static void serve_chip(void)
+{
+    if (!command_waits)
+        return;
+    command_waits = 0;
+    nimbleshale_store_block_write(&store, block, NIMBLESHALE_BLOCK_COMMAND, command_byte);
+    set_line();
+}
+
+/* After a reset, for which the bus is held off too, no flag is set and the mask is 0. The store is as it was. */
+static void reset_chip(void)
+{
+    command_waits = 0;
+    nimbleshale_block_reset(block);
+    set_line();
+}
+
+/*
+ * The other end of the bus: what the chip's firmware does. It is here so that the example can be run; its calls of on_bus_read and on_bus_write stand
+ * for accesses over the bus. It learns that a command is done in one of two ways: it polls the flags, or it sets the mask and waits for the line.
+ */
+#define ALL_FLAGS (NIMBLESHALE_FLAG_DONE | NIMBLESHALE_FLAG_REFUSED | NIMBLESHALE_FLAG_ALL_OPEN)
+#define POLLS 8
+
+/* A command, in its bytes of the stream. The command byte comes last, since it runs the command. */
+static void chip_sends(const uint8_t *bytes, size_t length)
+{
+    size_t at;
+    on_bus_write(NIMBLESHALE_BLOCK_FLAGS, ALL_FLAGS);
+    for (at = 1; at < length; at++)
+        on_bus_write(NIMBLESHALE_BLOCK_OPERANDS + at - 1, bytes[at]);
+    on_bus_write(NIMBLESHALE_BLOCK_COMMAND, bytes[0]);
+}
+
+/* Reads status and result, which are the answer of the stream, and writes ones to the flags that it has seen: they are cleared, and the line falls. */
+static void chip_takes_answer(void)
+{
+    uint8_t answer[NIMBLESHALE_LONGEST_ANSWER], flags = on_bus_read(NIMBLESHALE_BLOCK_FLAGS);
+    size_t at;
+    answer[0] = on_bus_read(NIMBLESHALE_BLOCK_STATUS);
+    for (at = 0; at < NIMBLESHALE_BLOCK_RESULT_BYTES; at++)
+        answer[1 + at] = on_bus_read(NIMBLESHALE_BLOCK_RESULT + at);
+    on_bus_write(NIMBLESHALE_BLOCK_FLAGS, flags);
+    say_answer(on_bus_read(NIMBLESHALE_BLOCK_COMMAND), answer);
+    if (flags & NIMBLESHALE_FLAG_ALL_OPEN)
+        printf("64 passes are open\n");
+}
+
+/* The first way: flags are read until the command is done. Meanwhile the detector's main loop goes around. */
+static void chip_polls(void)
+{
+    int polls;
+    for (polls = 1; polls <= POLLS; polls++) {
+        if (on_bus_read(NIMBLESHALE_BLOCK_FLAGS) & NIMBLESHALE_FLAG_DONE) {
+            printf("poll %d: done\n", polls);
+            chip_takes_answer();
+            return;
+        }
+        printf("poll %d: not done\n", polls);
+        serve_chip();
+    }
+}
+
+/* The second way: the chip's handler for the line, which is high while a flag and its mask bit are both set. */
+static void on_line_high(void)
+{
+    printf("the line is high\n");
+    chip_takes_answer();
+    printf("the line is %s\n", line ? "still high" : "low again");
 }
 
 /* A pass starts each tick, until something has come about. Firmware waits for nothing without end: 64 starts are enough for all that is waited
@@ -561,6 +676,37 @@ static void at_dusk(void)
     enter_queue();
 }
 
+/* With 64 passes open: a question, the end of a pass and the starts of two, and a byte that begins no command. */
+static void register_block(uint32_t tick)
+{
+    static const uint8_t question[NIMBLESHALE_LONGEST_COMMAND] = {3, 0, 0, 0x30, 0x75, 0, 0, 0, 0, 0xff, 0xff, 0xff, 0xff};
+    static const uint8_t unknown[1] = {9};
+    uint8_t start[NIMBLESHALE_EVENT_BYTES], end[NIMBLESHALE_EVENT_BYTES];
+    nimbleshale_event_start(start, tick, 5000, 10);
+    nimbleshale_event_end(end, tick, nimbleshale_store_pass(&store, 0).number);
+
+    printf("\nA radio chip asks through its register block, and polls\n");
+    reset_chip();
+    chip_sends(question, sizeof question);
+    chip_polls();
+
+    printf("\nIt waits for the line: of every command that is done\n");
+    on_bus_write(NIMBLESHALE_BLOCK_MASK, NIMBLESHALE_FLAG_DONE);
+    chip_sends(start, sizeof start);
+    serve_chip();
+    chip_sends(unknown, sizeof unknown);
+    serve_chip();
+    chip_sends(end, sizeof end);
+    serve_chip();
+
+    printf("\nOnly of one that leaves 64 passes open\n");
+    on_bus_write(NIMBLESHALE_BLOCK_MASK, NIMBLESHALE_FLAG_ALL_OPEN);
+    chip_sends(question, sizeof question);
+    serve_chip();
+    chip_sends(start, sizeof start);
+    serve_chip();
+}
+
 static void full_stores(void)
 {
     uint32_t number = 0, tick;
@@ -573,6 +719,7 @@ static void full_stores(void)
     printf("\nPasses that never end\n");
     tick = starts_until(all_are_open, "fewer than 64 passes are open", tick, tick);
     on_start(tick, 5000, 10, &number);
+    register_block(tick);
 
     printf("\nA new store with too short a root list\n");
     lend_memory(2);

@@ -13,30 +13,37 @@
  *
  * What holds of every call:
  *   - It returns 0, or the number of the first refusal whose condition holds: first the refusals because of the input, then those because
- *     of the state, each list in number order. Nothing else is refused. (Only nimbleshale_commands returns something else. It is never
- *     refused itself; what is said here holds of each command that it runs. So it does of each event of nimbleshale_burst, which itself is
- *     refused with 31 or not at all.)
- *   - Refused, it leaves every lent number and word as it was, and its results (number, count, sum, pages, result words) as well.
+ *     of the state, each list in number order. Nothing else is refused. (Only nimbleshale_commands and the four calls of the register block
+ *     return something else. They are never refused themselves; what is said here holds of each command that they run, and the refusal of one
+ *     that came through the block stands in the status register. It holds of each event of nimbleshale_burst too, which itself is refused with
+ *     31 or not at all.)
+ *   - Refused, it leaves every lent number and word as it was, and its results (number, count, sum, pages, result words) as well. (A command
+ *     that is refused through the register block leaves the store as it was, and says so in the block.)
  *   - Any content of the lent memory is allowed, spoiled content too: a call then ends with a refusal or serves the words as they are. What
  *     is said of passes below is said of a store grown from opening, whose memory nobody else wrote.
- *   - Every call gets all the slices, those that the calls before it got. Each slice and each lent number is memory of its own: no two of
- *     them may overlap. This the functions cannot test, nor that a pointer leads to as much memory as is said.
+ *   - Every call on a store gets all the slices, those that the calls before it got. Each slice and each lent number is memory of its own, and
+ *     so is a register block: no two of them may overlap. This the functions cannot test, nor that a pointer leads to as much memory as is said.
  *   - A slice is a pointer and a length in elements. Words of a table past its last whole page are neither read nor written.
  *   - Numbers are 32 bits wide. C cuts a wider one at the call without a word: a tick of 2^32 + 5 arrives as 5. nimbleshale_narrowed guards.
  *   - While a call that writes runs on a store, no other call runs on it. Questions and lookups change nothing and may run together. Calls
- *     on different stores never meet: the functions have no memory of their own.
+ *     on different stores never meet: the functions have no memory of their own. With register blocks it is the same: while one is written or
+ *     reset, no other call runs on it. A write to a block is a call on the store only where it is to byte 0.
  *
- * Names. The library has eight functions: open, start, end, question, lookup_starts, lookup_ends, commands and burst, each behind `nimbleshale_`.
- * They take head and memory piece by piece. Firmware normally keeps a `struct nimbleshale_store` instead, and calls the same function with
- * `store_` before its name: nimbleshale_store_start(&store, ..) is nimbleshale_start on all that the store holds, and so for each of the eight.
+ * Names. The library has twelve functions: open, start, end, question, lookup_starts, lookup_ends, commands, burst, block_reset, block_read,
+ * block_line and block_write, each behind `nimbleshale_`. They take head and memory piece by piece. Firmware normally keeps a
+ * `struct nimbleshale_store` instead, and calls the same function with `store_` before its name: nimbleshale_store_start(&store, ..) is
+ * nimbleshale_start on all that the store holds, and so for each of the twelve but block_reset, block_read and block_line, which get no store.
  * Parameters of the library's functions and fields of the store have the same names.
  *
  * Interrupt handlers. Where a handler interrupts no call on a store, it may make any call on it. Where it interrupts a question or a lookup, it
- * may ask and look up on that store. Where it interrupts an opening, a start, an end, commands or a burst, it may make no call on that store and
- * read nothing of its head and memory, which may be half written. The simplest way is to put what a handler hears into a queue, and to make the
- * calls in the main loop: nimbleshale_burst takes such a queue in one call. A handler that calls needs the stack of the call and saves the
- * registers that calls use; and none, whether it calls or not, may write within the 128 bytes below the interrupted stack pointer
- * (docs/FIRMWARE.md).
+ * may ask and look up on that store. Where it interrupts an opening, a start, an end, commands, a burst or a write to byte 0 of a register block,
+ * it may make no call on that store and read nothing of its head and memory, which may be half written. The simplest way is to put what a handler
+ * hears into a queue, and to make the calls in the main loop: nimbleshale_burst takes such a queue in one call.
+ * Resetting a block, reading it and asking for its line touch its 40 bytes and no store, and so does writing to any byte of it but byte 0: a
+ * handler may do all this whatever call on a store it interrupts, as long as that is no call on the block itself. A write to byte 0 is a call on
+ * the store: a handler that interrupts another one keeps the byte, and the main loop makes the write (host/example/firmware.c).
+ * A handler that calls needs the stack of the call and saves the registers that calls use; and none, whether it calls or not, may write within
+ * the 128 bytes below the interrupted stack pointer (docs/FIRMWARE.md).
  *
  * Stack. What is said at each function are bytes below the caller, arguments included, at their deepest in trees four pages high, on x86-64
  * (host/bench/run measures them).
@@ -75,6 +82,27 @@
 #define NIMBLESHALE_BURST_EVENTS 256u      /* events that a burst has at most */
 #define NIMBLESHALE_EVENT_BYTES 9u         /* bytes of an event of a burst, which are those of its command */
 #define NIMBLESHALE_RESULT_WORDS 2u        /* 64-bit words that an event of a burst gets for its result */
+#define NIMBLESHALE_BLOCK_BYTES 40u        /* bytes of a register block */
+
+/* First bytes of the commands. */
+#define NIMBLESHALE_COMMAND_START 1u
+#define NIMBLESHALE_COMMAND_END 2u
+#define NIMBLESHALE_COMMAND_QUESTION 3u
+
+/* Where the registers of a block stand, and how many bytes those have that take several. */
+#define NIMBLESHALE_BLOCK_COMMAND 0u
+#define NIMBLESHALE_BLOCK_OPERANDS 1u
+#define NIMBLESHALE_BLOCK_OPERAND_BYTES 12u
+#define NIMBLESHALE_BLOCK_STATUS 13u
+#define NIMBLESHALE_BLOCK_FLAGS 14u
+#define NIMBLESHALE_BLOCK_MASK 15u
+#define NIMBLESHALE_BLOCK_RESULT 16u
+#define NIMBLESHALE_BLOCK_RESULT_BYTES 17u
+
+/* Bits of the flags, and of the mask over them. */
+#define NIMBLESHALE_FLAG_DONE 1u           /* a command has run, be it refused */
+#define NIMBLESHALE_FLAG_REFUSED 2u        /* its status is not 0 */
+#define NIMBLESHALE_FLAG_ALL_OPEN 4u       /* 64 passes are open after it */
 
 /* Words of a page table of so many pages, as a size_t: sizeof(char) is 1, and makes it one without a cast, in C and in C++. A root list as
  * long as its table has pages never runs full. */
@@ -90,7 +118,7 @@
 #define NIMBLESHALE_REFUSED_WEIGHT 3       /* weight 0 or above 10,000 */
 #define NIMBLESHALE_REFUSED_TICK 4         /* tick 4,294,967,295 in a start, an end or a lookup */
 #define NIMBLESHALE_REFUSED_INTERVAL 5     /* t1 not below t2 */
-#define NIMBLESHALE_REFUSED_COMMAND 6      /* unknown command byte; the command stream gives it, and an event of a burst gets it */
+#define NIMBLESHALE_REFUSED_COMMAND 6      /* unknown command byte: in the command stream, in an event of a burst, or in byte 0 of a register block */
 #define NIMBLESHALE_REFUSED_CUT_SHORT 7    /* command cut short; only the command stream gives it */
 #define NIMBLESHALE_REFUSED_MEMORY 8       /* on opening, a page table under 260 words or an empty root list */
 #define NIMBLESHALE_REFUSED_BURST 31       /* a burst of over 256 events, one that ends inside an event, or a result list too short for it */
@@ -117,7 +145,7 @@ extern "C" {
 #endif
 
 /*
- * The eight functions of the library. The head goes in and out as numbers:
+ * The twelve functions of the library. The head goes in and out as numbers:
  *
  *   last          the last tick: that of the latest accepted start or end, 0 at opening
  *   started       how many passes were started since opening
@@ -280,6 +308,74 @@ uint8_t nimbleshale_burst(uint32_t *last, uint32_t *started, uint32_t *count_ope
                           uint64_t *end_table, size_t end_table_length, uint64_t *end_roots, size_t end_roots_length,
                           const uint8_t *events, size_t events_length, uint64_t *results, size_t results_length);
 
+/*
+ * The register block: 40 bytes that the firmware lends, and that the radio chip reads and writes over a bus, a byte at a time. For each access the
+ * firmware makes one of the calls below, and afterwards it sets the interrupt line as nimbleshale_block_line says.
+ *
+ *   0          command    the first byte of a command of the stream: 01 start, 02 end, 03 question
+ *   1 to 12    operands   the bytes that follow it in the stream; a start and an end have the first 8 of them
+ *   13         status     the first byte of the command's answer: 0, or the number of its refusal
+ *   14         flags      bit 0 done, bit 1 refused, bit 2 64 passes open after the command
+ *   15         mask       a one for each flag that raises the line
+ *   16 to 32   result     the bytes that follow in the answer, and zeros behind them: of a start the number (16 to 19), of a question count (16 to
+ *                         23), sum (24 to 31) and pages (32); zeros of an end, and of a command that is refused
+ *   33 and on             no registers: they read zero and ignore writes, 40 and all that lies past the block too
+ *
+ * Any content of the 40 bytes is allowed. Of byte 14 only the three flags count, and bytes 33 to 39 are read by nobody. What the block says of
+ * earlier commands it says of a block that began with a reset and was changed only by these calls.
+ */
+
+/*
+ * Resets a block: all 40 bytes become 0, so no flag is set, the mask is 0 and the line is low. The store is not touched.
+ *
+ * Stack: 0 bytes.
+ */
+void nimbleshale_block_reset(uint8_t block[NIMBLESHALE_BLOCK_BYTES]);
+
+/*
+ * What the radio side reads at an offset, which may be any number: of byte 14 the three flags, of any other byte below 33 the byte itself, and 0
+ * from 33 on. No offset is taken modulo anything. Command, operands and mask read as last written. Nothing changes.
+ *
+ * Stack: 0 bytes.
+ */
+NIMBLESHALE_MUST_USE
+uint8_t nimbleshale_block_read(const uint8_t block[NIMBLESHALE_BLOCK_BYTES], size_t offset);
+
+/*
+ * The interrupt line: 1, high, exactly if a flag and its mask bit are both set, and else 0. Mask bits above the three flags raise nothing. Nothing
+ * changes.
+ *
+ * Stack: 0 bytes.
+ */
+NIMBLESHALE_MUST_USE
+uint8_t nimbleshale_block_line(const uint8_t block[NIMBLESHALE_BLOCK_BYTES]);
+
+/*
+ * The radio side writes a value at an offset, which may be any number.
+ *
+ *   0            the command of that byte runs on the operands (see below)
+ *   1 to 12, 15  the byte becomes the value; the mask keeps all its 8 bits
+ *   14           the flags that are ones in the value are cleared; byte 14 is then the flags that are left, and nothing above bit 2
+ *   any other    nothing: status and result cannot be written, and there is nothing else
+ *
+ * Only a write to 0 has to do with the store. Any other writes nothing of the head and the slices, and changes at most the byte that it names.
+ *
+ * A write to 0: the byte becomes the value, and the command runs as in the stream, with the refusals of nimbleshale_start, nimbleshale_end or
+ * nimbleshale_question. All 12 operands are there, so no command is cut short. A byte that begins no command has the status 6 and leaves the store
+ * as it was; unlike the stream a block goes on after it. Whatever the command was, status, flags and result are all written anew: done is set,
+ * refused is set exactly if the status is not 0, the third flag exactly if count_open is 64 after the command (not if a spoiled head has 65), and
+ * the bytes of the result behind the answer are 0. Mask, operands and bytes 33 to 39 stay as they were. Head and slices are left as the stream's
+ * command leaves them.
+ *
+ * Refusals: none of its own.
+ * Stack: 0 bytes.
+ */
+void nimbleshale_block_write(uint32_t *last, uint32_t *started, uint32_t *count_open, uint32_t *start_pages_used, uint32_t *start_roots_used,
+                             uint32_t *end_pages_used, uint32_t *end_roots_used, uint32_t passes[NIMBLESHALE_PASS_NUMBERS],
+                             uint64_t *start_table, size_t start_table_length, uint64_t *start_roots, size_t start_roots_length,
+                             uint64_t *end_table, size_t end_table_length, uint64_t *end_roots, size_t end_roots_length,
+                             uint8_t block[NIMBLESHALE_BLOCK_BYTES], size_t offset, uint8_t value);
+
 #ifdef __cplusplus
 }
 #endif
@@ -384,6 +480,13 @@ static inline uint8_t nimbleshale_store_burst(struct nimbleshale_store *store, c
     return nimbleshale_burst(NIMBLESHALE_LENT, events, events_length, results, results_length);
 }
 
+/* nimbleshale_block_write on a store. */
+static inline void nimbleshale_store_block_write(struct nimbleshale_store *store, uint8_t block[NIMBLESHALE_BLOCK_BYTES], size_t offset,
+                                                 uint8_t value)
+{
+    nimbleshale_block_write(NIMBLESHALE_LENT, block, offset, value);
+}
+
 #undef NIMBLESHALE_LENT
 #undef NIMBLESHALE_SHOWN
 #undef NIMBLESHALE_SLICES
@@ -431,7 +534,7 @@ static inline void nimbleshale_event_number(uint8_t *bytes, uint32_t number, int
 /* Writes the event of a start, for a burst. */
 static inline void nimbleshale_event_start(uint8_t event[NIMBLESHALE_EVENT_BYTES], uint32_t tick, uint32_t key, uint32_t weight)
 {
-    event[0] = 1;
+    event[0] = NIMBLESHALE_COMMAND_START;
     nimbleshale_event_number(event + 1, tick, 4);
     nimbleshale_event_number(event + 5, key, 2);
     nimbleshale_event_number(event + 7, weight, 2);
@@ -440,7 +543,7 @@ static inline void nimbleshale_event_start(uint8_t event[NIMBLESHALE_EVENT_BYTES
 /* Writes the event of an end, for a burst. */
 static inline void nimbleshale_event_end(uint8_t event[NIMBLESHALE_EVENT_BYTES], uint32_t tick, uint32_t number)
 {
-    event[0] = 2;
+    event[0] = NIMBLESHALE_COMMAND_END;
     nimbleshale_event_number(event + 1, tick, 4);
     nimbleshale_event_number(event + 5, number, 4);
 }

@@ -1,7 +1,7 @@
 //! The port under the names of the library, as an archive for C: it stands in where the proved library is not at hand, and shows that the
-//! tests need no more than the eight functions of the header. `host/include/nimbleshale.h` says what each does.
+//! tests need no more than the twelve functions of the header. `host/include/nimbleshale.h` says what each does.
 
-use port::{Fed, Head, Lent, Seen, Totals, PASS_NUMBERS};
+use port::{Block, Fed, Head, Lent, Seen, Totals, PASS_NUMBERS};
 use std::slice::{from_raw_parts, from_raw_parts_mut};
 
 /// A lent slice. C may hand in any address with a length of zero.
@@ -19,9 +19,10 @@ unsafe fn seen<'a, T>(start: *const T, length: usize) -> &'a [T] {
     from_raw_parts(start, length)
 }
 
-/// Defines a call that may write: the seven numbers of the head are read and written back. A refused call has left them as they were.
+/// Defines a call that may write: the seven numbers of the head are read and written back. A refused call has left them as they were. Where
+/// `first` answers, the call is done without the store: nothing of it is written, not even with what it held.
 macro_rules! writing {
-    ($name:ident, $call:path, ($($argument:ident: $type:ty),*), ($($passed:expr),*)) => {
+    ($name:ident -> $answer:ty, $call:path, ($($argument:ident: $type:ty),*), ($($passed:expr),*) $(, first $without:expr)?) => {
         /// # Safety
         /// Every pointer is to memory of its length, and no two overlap.
         #[no_mangle]
@@ -32,7 +33,10 @@ macro_rules! writing {
             start_table: *mut u64, start_table_length: usize, start_roots: *mut u64, start_roots_length: usize,
             end_table: *mut u64, end_table_length: usize, end_roots: *mut u64, end_roots_length: usize,
             $($argument: $type),*
-        ) -> u8 {
+        ) -> $answer {
+            $(if let Some(answer) = $without {
+                return answer;
+            })?
             let mut head = Head {
                 last: *last, started: *started, count_open: *count_open,
                 start_pages_used: *start_pages_used, start_roots_used: *start_roots_used,
@@ -54,19 +58,43 @@ macro_rules! writing {
     };
 }
 
-writing!(nimbleshale_open, port::open, (), ());
-writing!(nimbleshale_start, port::start, (tick: u32, key: u32, weight: u32, number: &mut u32), (tick, key, weight, number));
-writing!(nimbleshale_end, port::end, (tick: u32, number: u32), (tick, number));
+writing!(nimbleshale_open -> u8, port::open, (), ());
+writing!(nimbleshale_start -> u8, port::start, (tick: u32, key: u32, weight: u32, number: &mut u32), (tick, key, weight, number));
+writing!(nimbleshale_end -> u8, port::end, (tick: u32, number: u32), (tick, number));
 writing!(
-    nimbleshale_commands, packet,
+    nimbleshale_commands -> u8, packet,
     (input: *const u8, input_length: usize, ended: u8, out: *mut u8, out_length: usize, taken: &mut usize, written: &mut usize),
     (seen(input, input_length), ended != 0, lent(out, out_length), taken, written)
 );
 writing!(
-    nimbleshale_burst, port::burst,
+    nimbleshale_burst -> u8, port::burst,
     (events: *const u8, events_length: usize, results: *mut u64, results_length: usize),
     (seen(events, events_length), lent(results, results_length))
 );
+writing!(
+    nimbleshale_block_write -> (), port::block_write,
+    (block: &mut Block, offset: usize, value: u8), (block, offset, value), first write_without_store(block, offset, value)
+);
+
+/// A write that runs no command. A handler may make it while a call on the store runs.
+fn write_without_store(block: &mut Block, offset: usize, value: u8) -> Option<()> {
+    (offset != 0).then(|| port::write_register(block, offset, value))
+}
+
+#[no_mangle]
+pub extern "C" fn nimbleshale_block_reset(block: &mut Block) {
+    port::block_reset(block);
+}
+
+#[no_mangle]
+pub extern "C" fn nimbleshale_block_read(block: &Block, offset: usize) -> u8 {
+    port::block_read(block, offset)
+}
+
+#[no_mangle]
+pub extern "C" fn nimbleshale_block_line(block: &Block) -> u8 {
+    u8::from(port::block_line(block))
+}
 
 /// A packet of commands; 1 where the run is over.
 fn packet(head: &mut Head, memory: Lent, input: &[u8], ended: bool, out: &mut [u8], taken: &mut usize, written: &mut usize) -> u8 {

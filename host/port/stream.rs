@@ -13,7 +13,10 @@ pub struct Fed {
 }
 
 /// Bytes of the longest answer, that to a question.
-const LONGEST_ANSWER: usize = 18;
+pub const LONGEST_ANSWER: usize = 18;
+
+/// Bytes of the longest command, a question.
+pub const LONGEST_COMMAND: usize = 13;
 
 /// Runs the commands at the front of a packet, as long as an answer of any length has room and the command has come whole. Only where no byte
 /// comes behind the packet, which `ended` says, is a command that lacks bytes cut short.
@@ -41,16 +44,16 @@ pub fn commands(head: &mut Head, mut lent: Lent, input: &[u8], ended: bool, out:
 }
 
 /// How long a command is, by its first byte; nothing where the byte begins none.
-fn length_of(byte: u8) -> Option<usize> {
+pub fn length_of(byte: u8) -> Option<usize> {
     match byte {
         1 | 2 => Some(EVENT_BYTES),
-        3 => Some(13),
+        3 => Some(LONGEST_COMMAND),
         _ => None,
     }
 }
 
 /// Runs a whole command and writes its answer. Returns how many bytes that has.
-fn run(head: &mut Head, lent: Lent, command: &[u8], out: &mut [u8]) -> usize {
+pub fn run(head: &mut Head, lent: Lent, command: &[u8], out: &mut [u8]) -> usize {
     let (mut number, mut totals) = (0, Totals::default());
     out[0] = match command[0] {
         3 => question(head, lent.seen(), two(command, 1), two(command, 3), four(command, 5), four(command, 9), &mut totals),

@@ -1,6 +1,7 @@
 /* Cases of the refusals: a case is a set of conditions, each of which spoils a store on which the call is accepted. For 20 there are many ways to
  * spoil the head; all combinations are tried with each of them. Two conditions are no ground for a refusal, and are tried in all combinations like
- * the others. tests/refusals.c makes each call by itself, tests/bursts.c the starts and ends as events of bursts. */
+ * the others. tests/refusals.c makes each call by itself, tests/bursts.c the starts and ends as events of bursts, tests/blocks.c the starts, ends and
+ * questions through a register block. */
 #ifndef CASES_H
 #define CASES_H
 
@@ -152,6 +153,29 @@ static inline struct arguments arguments_of(enum call call, unsigned conditions,
         of.tick = 90;
     if (holds(conditions, call, 22))
         of.number = not_open[way % 3];
+    return of;
+}
+
+/* The arguments of a question, with the conditions that are of them. */
+struct asked {
+    uint32_t k1, k2, t1, t2;
+};
+
+static inline struct asked asked_of(unsigned conditions, enum way way)
+{
+    struct asked of = {450, 30000, 50, 4294967295u};
+    if (holds(conditions, QUESTION, 2))
+        of.k2 = way % 2 ? 450 : 449;
+    if (holds(conditions, QUESTION, 1)) {
+        if (way % 2)
+            of.k1 = holds(conditions, QUESTION, 2) ? 30000 : 4294967295u;
+        else
+            of.k2 = 30001, of.k1 = holds(conditions, QUESTION, 2) ? 30002 : of.k1;
+    }
+    if (holds(conditions, QUESTION, FROM_ZERO))
+        of.t1 = 0;
+    if (holds(conditions, QUESTION, 5))
+        of.t2 = way % 2 ? of.t1 : 0;
     return of;
 }
 

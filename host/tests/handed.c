@@ -1,5 +1,6 @@
-/* What the header's short calls hand to the library. The eight functions are this program's own, under the library's names: each notes all that it
- * is handed. A store holds different numbers, addresses and lengths throughout, so whatever is handed in another place is found.
+/* What the header's short calls hand to the library. The nine functions that they call are this program's own, under the library's names: each notes
+ * all that it is handed. (The three others of the twelve get no store, and have no short call.) A store holds different numbers, addresses and lengths
+ * throughout, so whatever is handed in another place is found.
  *
  * No archive is linked. tests/lengths.c makes the short calls on one. */
 #include <nimbleshale.h>
@@ -8,9 +9,9 @@
 
 static unsigned long compared, differed;
 
-enum call { OPEN, START, END, COMMANDS, BURST, QUESTION, LOOKUP_STARTS, LOOKUP_ENDS, CALLS };
+enum call { OPEN, START, END, COMMANDS, BURST, BLOCK_WRITE, QUESTION, LOOKUP_STARTS, LOOKUP_ENDS, CALLS };
 
-static const char *const names[CALLS] = {"open", "start", "end", "commands", "burst", "question", "lookup_starts", "lookup_ends"};
+static const char *const names[CALLS] = {"open", "start", "end", "commands", "burst", "block_write", "question", "lookup_starts", "lookup_ends"};
 
 /* What a call is handed: of the head's seven numbers where they are lent, or what they are where they are shown. */
 struct handed {
@@ -21,7 +22,8 @@ struct handed {
     const void *slices[4];
     size_t lengths[4];
     uint32_t arguments[4];
-    /* The input and the room for answers of a packet, or the events and the result words of a burst. */
+    /* The input and the room for answers of a packet, or the events and the result words of a burst; or a register block, and in the place of a
+     * length its offset. */
     const void *own_slices[2];
     size_t own_lengths[2];
     const void *results[3];
@@ -92,6 +94,12 @@ uint8_t nimbleshale_burst(LENT(, ), const uint8_t *events, size_t events_length,
     return note(BURST, &handed);
 }
 
+void nimbleshale_block_write(LENT(, ), uint8_t block[NIMBLESHALE_BLOCK_BYTES], size_t offset, uint8_t value)
+{
+    const struct handed handed = {.lent = NUMBERS, NOTED_SLICES, .arguments = {value}, .own_slices = {block}, .own_lengths = {offset}};
+    note(BLOCK_WRITE, &handed);
+}
+
 uint8_t nimbleshale_question(SHOWN, uint32_t k1, uint32_t k2, uint32_t t1, uint32_t t2, uint64_t *count, uint64_t *sum, uint32_t *pages)
 {
     const struct handed handed = {.shown = NUMBERS, NOTED_SLICES, .arguments = {k1, k2, t1, t2}, .results = {count, sum, pages}};
@@ -115,7 +123,7 @@ static uint64_t memory[4];
 static struct nimbleshale_store store;
 static struct nimbleshale_totals totals;
 static uint32_t number;
-static uint8_t input[1], out[1], events[1];
+static uint8_t input[1], out[1], events[1], block[NIMBLESHALE_BLOCK_BYTES];
 static uint64_t results[1];
 static size_t taken, written;
 
@@ -146,6 +154,10 @@ static uint8_t make(enum call call)
     case END: return nimbleshale_store_end(&store, 31, 32);
     case COMMANDS: return nimbleshale_store_commands(&store, input, 41, 31, out, 42, &taken, &written);
     case BURST: return nimbleshale_store_burst(&store, events, 41, results, 42);
+    case BLOCK_WRITE:
+        /* It answers nothing. */
+        nimbleshale_store_block_write(&store, block, 41, 31);
+        return answer_of(call);
     case QUESTION: return nimbleshale_store_question(&store, 31, 32, 33, 34, &totals);
     case LOOKUP_STARTS: return nimbleshale_store_lookup_starts(&store, 31, 32, &totals);
     case LOOKUP_ENDS: return nimbleshale_store_lookup_ends(&store, 31, 32, &totals);
@@ -165,7 +177,7 @@ static void expect(enum call call, const char *what, size_t place, int same)
 /* A call's arguments and results; a place that it does not have is 0. */
 static void expect_own(enum call call)
 {
-    static const uint32_t arguments[CALLS] = {0, 3, 2, 1, 0, 4, 2, 2};
+    static const uint32_t arguments[CALLS] = {0, 3, 2, 1, 0, 1, 4, 2, 2};
     const void *single[3] = {NULL, NULL, NULL}, *slices[2] = {NULL, NULL};
     if (call == START)
         single[0] = &number;
@@ -179,6 +191,8 @@ static void expect_own(enum call call)
         slices[0] = events;
         slices[1] = results;
     }
+    if (call == BLOCK_WRITE)
+        slices[0] = block;
     if (call >= QUESTION) {
         single[0] = &totals.count;
         single[1] = &totals.sum;

@@ -7,11 +7,15 @@
 //! Among the calls are bursts, some of them to be refused. The book gets their events one by one, and so does a second store, by single calls: what
 //! the events get, and what the burst leaves, must be the same.
 //!
+//! Among them are accesses to a register block as well, which follow a plain model (blocks.rs). A command through the block goes to the book as the
+//! call that it is, and to the second store by that call.
+//!
 //! A pass lives at its end tick too. So there are clicks among the passes, ticks with more starts and ends than passes may be open, and questions
-//! that one tick decides (lives.rs). The test fails where something of this, or of bursts, did not come about.
+//! that one tick decides (lives.rs). The test fails where something of this, of bursts or of register blocks, did not come about.
 //!
 //! histories [ROUNDS]
 
+mod blocks;
 mod book;
 mod bursts;
 mod commands;
@@ -20,10 +24,14 @@ mod lives;
 mod shapes;
 mod trees;
 
+use blocks::{answer_of, command_of, other_offset, unknown_byte, Accessed, Model, FLAGS, MASK, OPERANDS};
 use book::Book;
 use bursts::{call_of, event_of, of_unknown_kind, of_wider_number, unset_results, EVENT_BYTES, MOST_EVENTS};
-use library::{burst_by_library, by_library, Answer, Call, Random, Store, PAGE_WORDS};
+use library::{
+    burst_by_library, by_library, line_by_library, read_by_library, reset_by_library, write_by_library, Answer, Call, Random, Store, PAGE_WORDS,
+};
 use lives::{Crowd, Lives};
+use port::{Block, BLOCK_BYTES};
 use shapes::{Keys, Mix, Pace, Shape};
 use std::collections::BTreeMap;
 use trees::{lacks_room, pages_opened, Tree};
@@ -33,6 +41,11 @@ use trees::{lacks_room, pages_opened, Tree};
 const CALLS_A_BURST: u32 = 40;
 const BURSTS_A_REFUSED_ONE: u32 = 8;
 const EVENTS_AN_UNKNOWN_ONE: u32 = 40;
+
+/// Of so many calls one is an access to the register block. Of so many commands through it one has a byte that begins none, and one is run again on the
+/// operands that stand there.
+const CALLS_AN_ACCESS: u32 = 8;
+const COMMANDS_AN_UNKNOWN_ONE: u32 = 20;
 
 /// What came about in bursts.
 #[derive(Default)]
@@ -93,6 +106,7 @@ struct Counts {
     differed: u64,
     refusals: BTreeMap<u8, u64>,
     reached: Reached,
+    accessed: Accessed,
     lives: Lives,
     highest: u32,
 }
@@ -109,7 +123,8 @@ impl Counts {
     }
 }
 
-/// A history on a store. Where `whole`, the store is compared word for word after a refusal and after a call that only reads, and after a burst.
+/// A history on a store. Where `whole`, the store is compared word for word after a refusal and after a call that only reads, after a burst, and after
+/// an access to the register block.
 struct History {
     seed: u64,
     random: Random,
@@ -120,19 +135,27 @@ struct History {
     single: Store,
     whole: bool,
     crowd: Crowd,
+    block: Block,
+    model: Model,
 }
 
 impl History {
     /// So many calls, of which the first is an opening; each event of a burst is one of them.
     fn run(seed: u64, shape: Shape, store: Store, calls: u32, whole: bool, counts: &mut Counts) {
         let (book, crowd, single) = (Book::default(), Crowd::default(), store.clone());
-        let mut history = History { seed, random: Random(!seed), shape, book, store, single, whole, crowd };
+        let (block, model) = ([0xa5; BLOCK_BYTES], Model::default());
+        let mut history = History { seed, random: Random(!seed), shape, book, store, single, whole, crowd, block, model };
         history.call(Call::Open, counts);
+        history.reset(counts);
         let mut made = 1;
         while made < calls {
             made += 1;
             if history.random.one_in(CALLS_A_BURST) {
                 made += history.burst(counts);
+                continue;
+            }
+            if history.random.one_in(CALLS_AN_ACCESS) {
+                history.access(counts);
                 continue;
             }
             let anew = whole && history.random.one_in(800);
@@ -279,6 +302,102 @@ impl History {
         counts.judge(refusal == 31 && kept, self.seed, || format!("a burst of {} bytes and {words} words: {refusal}, not 31", events.len()));
     }
 
+    /// Something that the radio side does with the register block: mostly a command.
+    fn access(&mut self, counts: &mut Counts) {
+        let value = self.random.word() as u8;
+        match self.random.below(16) {
+            0..=9 => self.command(counts),
+            10 | 11 => {
+                counts.accessed.cleared += u64::from(self.model.bytes()[FLAGS] & value != 0);
+                self.write_register(FLAGS, value, counts);
+            }
+            12 | 13 => {
+                counts.accessed.masked += 1;
+                self.write_register(MASK, value, counts);
+            }
+            14 if self.random.one_in(4) => self.reset(counts),
+            _ => {
+                let offset = other_offset(&mut self.random);
+                counts.accessed.ignored += u64::from(offset == 13 || offset > 15);
+                self.write_register(offset, value, counts);
+            }
+        }
+    }
+
+    fn reset(&mut self, counts: &mut Counts) {
+        reset_by_library(&mut self.block);
+        self.model = Model::default();
+        counts.accessed.resets += 1;
+        self.see_block("a reset", counts);
+    }
+
+    fn write_register(&mut self, offset: usize, value: u8, counts: &mut Counts) {
+        write_by_library(&mut self.store, &mut self.block, offset, value);
+        self.model.write(offset, value);
+        self.see_block("a write", counts);
+    }
+
+    /// A command through the block. Operands that have to change are written, in any order, and now and then one that has not; then the command byte.
+    fn command(&mut self, counts: &mut Counts) {
+        let again = (1..=3).contains(&self.model.command) && self.random.one_in(COMMANDS_AN_UNKNOWN_ONE);
+        let mut byte = self.model.command;
+        if !again {
+            let bytes = loop {
+                let call = self.next_call();
+                if let Some(bytes) = command_of(call) {
+                    break bytes;
+                }
+            };
+            byte = if self.random.one_in(COMMANDS_AN_UNKNOWN_ONE) { unknown_byte(&mut self.random) } else { bytes[0] };
+            let mut places: Vec<usize> = (0..bytes.len() - 1).collect();
+            while !places.is_empty() {
+                let place = places.swap_remove(self.random.below(places.len() as u32) as usize);
+                if self.model.operands[place] != bytes[1 + place] || self.random.one_in(8) {
+                    self.write_register(OPERANDS + place, bytes[1 + place], counts);
+                }
+            }
+        }
+        counts.accessed.again += u64::from(again);
+        self.run_command(byte, counts);
+    }
+
+    /// Writes a command byte. What the book answers to the call that it is must stand in the block.
+    fn run_command(&mut self, byte: u8, counts: &mut Counts) {
+        write_by_library(&mut self.store, &mut self.block, 0, byte);
+        let status = self.block[blocks::STATUS];
+        let call = blocks::call_of(byte, &self.model.operands);
+        let answer = call.map_or(vec![6], |call| self.answer_by_book(call, status, counts));
+        let open = self.book.open.len();
+        self.model.run(byte, &answer, open);
+        counts.accessed.count(call, &answer, open);
+        let kept = self.head_is_of_book();
+        counts.judge(kept, self.seed, || format!("command {byte} through the block, {call:?}: the head that it leaves"));
+        self.see_block("a command", counts);
+    }
+
+    /// The answer of a call by the book, which is told a 27 or a 28; the second store gets the same call.
+    fn answer_by_book(&mut self, call: Call, told: u8, counts: &mut Counts) -> Vec<u8> {
+        let exact = self.lacks_room_if_said(call, told);
+        counts.judge(exact, self.seed, || format!("{call:?} through the block: {told} with room"));
+        let alone = by_library(&mut self.single, call);
+        let mut wanted = self.by_book(call, told, counts);
+        if wanted.refusal == 0 {
+            wanted.totals.pages = pages_opened(&self.single, call);
+        }
+        counts.judge(alone == wanted, self.seed, || format!("{call:?} beside the block: {alone:?}, not {wanted:?}"));
+        answer_of(call, &wanted)
+    }
+
+    /// The block is as the model, what is read of it and its line, and the store is as single calls leave it.
+    fn see_block(&mut self, what: &str, counts: &mut Counts) {
+        let (wanted, line) = (self.model.bytes(), line_by_library(&self.block));
+        let offset = self.random.below(48) as usize;
+        let read = read_by_library(&self.block, offset);
+        counts.accessed.see_line(line);
+        let same = self.block == wanted && line == self.model.line() && read == wanted.get(offset).copied().unwrap_or(0) && self.is_as_single();
+        counts.judge(same, self.seed, || format!("{what}: {:?}, not {wanted:?}, line {line}, {read} at {offset}", self.block));
+    }
+
     /// Whether the store is as single calls leave it. Of a large one only the head is looked at, until the history ends.
     fn is_as_single(&self) -> bool {
         let (store, single) = (&self.store, &self.single);
@@ -343,8 +462,8 @@ fn main() {
         let in_turn = Mix { clicks: 50, together: 1, ..mix };
         long_history(4_000_000 + round, Keys::Rising, Pace::Jumps, in_turn, 58_000, &mut counts);
     }
-    let (in_bursts, of_lives) = (counts.reached.named(), counts.lives.named());
-    for reached in [&in_bursts[..], &of_lives[..]] {
+    let (in_bursts, in_blocks, of_lives) = (counts.reached.named(), counts.accessed.named(), counts.lives.named());
+    for reached in [&in_bursts[..], &in_blocks[..], &of_lives[..]] {
         let named: Vec<String> = reached.iter().map(|(times, name)| format!("{times} {name}")).collect();
         println!("histories: {}", named.join(", "));
     }
@@ -357,6 +476,6 @@ fn main() {
         counts.compared,
         counts.differed
     );
-    let all_reached = in_bursts.iter().chain(&of_lives).all(|&(times, _)| times > 0);
+    let all_reached = in_bursts.iter().chain(&in_blocks).chain(&of_lives).all(|&(times, _)| times > 0);
     std::process::exit(i32::from(counts.differed != 0 || !all_reached));
 }

@@ -1,9 +1,9 @@
-/* Every call that answers with a refusal, made for nothing: the compiler must warn of each, 16 times in all. This program is never run. */
+/* Every call that answers something, made for nothing: the compiler must warn of each, 18 times in all, and of no other. This program is never run. */
 #include <nimbleshale.h>
 
 static uint32_t number, passes[NIMBLESHALE_PASS_NUMBERS];
 static uint64_t word, table[NIMBLESHALE_TABLE_WORDS(1)];
-static uint8_t byte, bytes[1];
+static uint8_t byte, bytes[1], block[NIMBLESHALE_BLOCK_BYTES];
 static size_t taken, written;
 static struct nimbleshale_store store;
 static struct nimbleshale_totals totals;
@@ -21,6 +21,10 @@ int main(void)
     nimbleshale_lookup_ends(SHOWN, 0, 0, &word, &word, &number);
     nimbleshale_commands(LENT, &byte, 1, 0, bytes, 1, &taken, &written);
     nimbleshale_burst(LENT, &byte, 1, &word, 1);
+    nimbleshale_block_read(block, 0);
+    nimbleshale_block_line(block);
+    nimbleshale_block_reset(block);
+    nimbleshale_block_write(LENT, block, 0, 0);
     nimbleshale_store_open(&store);
     nimbleshale_store_start(&store, 0, 0, 0, &number);
     nimbleshale_store_end(&store, 0, 0);
@@ -29,5 +33,6 @@ int main(void)
     nimbleshale_store_lookup_ends(&store, 0, 0, &totals);
     nimbleshale_store_commands(&store, &byte, 1, 0, bytes, 1, &taken, &written);
     nimbleshale_store_burst(&store, &byte, 1, &word, 1);
+    nimbleshale_store_block_write(&store, block, 0, 0);
     return 0;
 }

@@ -9,9 +9,9 @@
 
 static unsigned long compared, differed;
 
-enum call { OPEN, START, END, QUESTION, LOOKUP_STARTS, LOOKUP_ENDS, COMMANDS, BURST, CALLS };
+enum call { OPEN, START, END, QUESTION, LOOKUP_STARTS, LOOKUP_ENDS, COMMANDS, BURST, BLOCK_WRITE, CALLS };
 
-static const char *const names[CALLS] = {"open", "start", "end", "question", "lookup_starts", "lookup_ends", "commands", "burst"};
+static const char *const names[CALLS] = {"open", "start", "end", "question", "lookup_starts", "lookup_ends", "commands", "burst", "block_write"};
 
 /* The first command of a packet of two, a question and one that is cut short: what it answers. The packet and the room for answers are of
  * different lengths, as long as they must be and no longer. 254 where not all of both is used. */
@@ -49,6 +49,22 @@ static uint8_t make_burst(struct nimbleshale_store *store)
     return answer;
 }
 
+/* A start through a register block: its status. 254 where the flags say something else. */
+static uint8_t make_block_write(struct nimbleshale_store *store)
+{
+    uint8_t *block = lend(NIMBLESHALE_BLOCK_BYTES), event[NIMBLESHALE_EVENT_BYTES], answer;
+    size_t at;
+    nimbleshale_block_reset(block);
+    nimbleshale_event_start(event, 10, 450, 100);
+    for (at = NIMBLESHALE_EVENT_BYTES; at-- > 0;)
+        nimbleshale_store_block_write(store, block, at, event[at]);
+    answer = nimbleshale_block_read(block, NIMBLESHALE_BLOCK_STATUS);
+    if (nimbleshale_block_read(block, NIMBLESHALE_BLOCK_FLAGS) != (answer == 0 ? 1 : 3) || nimbleshale_block_line(block) != 0)
+        answer = 254;
+    give_back(block, NIMBLESHALE_BLOCK_BYTES);
+    return answer;
+}
+
 static uint8_t make(struct nimbleshale_store *store, enum call call)
 {
     struct nimbleshale_totals totals;
@@ -62,6 +78,7 @@ static uint8_t make(struct nimbleshale_store *store, enum call call)
     case LOOKUP_ENDS: return nimbleshale_store_lookup_ends(store, 10, 450, &totals);
     case COMMANDS: return make_commands(store);
     case BURST: return make_burst(store);
+    case BLOCK_WRITE: return make_block_write(store);
     default: return 255;
     }
 }

@@ -1,9 +1,9 @@
-//! The library's eight functions as they are declared in `nimbleshale.h`, and a store with its lent memory on which a call can be made by the
+//! The library's twelve functions as they are declared in `nimbleshale.h`, and a store with its lent memory on which a call can be made by the
 //! library or by the port. Each test program uses a part of it.
 
 #![allow(dead_code)]
 
-use port::{Fed, Head, Lent, Totals, PASS_NUMBERS};
+use port::{Block, Fed, Head, Lent, Totals, PASS_NUMBERS};
 
 extern "C" {
     fn nimbleshale_open(
@@ -66,6 +66,17 @@ extern "C" {
         end_table: *mut u64, end_table_length: usize, end_roots: *mut u64, end_roots_length: usize,
         events: *const u8, events_length: usize, results: *mut u64, results_length: usize,
     ) -> u8;
+    fn nimbleshale_block_reset(block: &mut Block);
+    fn nimbleshale_block_read(block: &Block, offset: usize) -> u8;
+    fn nimbleshale_block_line(block: &Block) -> u8;
+    fn nimbleshale_block_write(
+        last: &mut u32, started: &mut u32, count_open: &mut u32,
+        start_pages_used: &mut u32, start_roots_used: &mut u32, end_pages_used: &mut u32, end_roots_used: &mut u32,
+        passes: &mut [u32; PASS_NUMBERS],
+        start_table: *mut u64, start_table_length: usize, start_roots: *mut u64, start_roots_length: usize,
+        end_table: *mut u64, end_table_length: usize, end_roots: *mut u64, end_roots_length: usize,
+        block: &mut Block, offset: usize, value: u8,
+    );
 }
 
 /// A head and what is lent with it.
@@ -198,6 +209,38 @@ pub fn burst_by_library(store: &mut Store, events: &[u8], results: &mut [u64]) -
 pub fn burst_by_port(store: &mut Store, events: &[u8], results: &mut [u64]) -> u8 {
     let Store { head, passes, start_table, start_roots, end_table, end_roots } = store;
     port::burst(head, Lent { passes, start_table, start_roots, end_table, end_roots }, events, results)
+}
+
+/// A write to a register block by the library.
+#[inline]
+pub fn write_by_library(store: &mut Store, block: &mut Block, offset: usize, value: u8) {
+    lent!(nimbleshale_block_write, store, block, offset, value)
+}
+
+/// A write to a register block by the port.
+#[inline]
+pub fn write_by_port(store: &mut Store, block: &mut Block, offset: usize, value: u8) {
+    let Store { head, passes, start_table, start_roots, end_table, end_roots } = store;
+    port::block_write(head, Lent { passes, start_table, start_roots, end_table, end_roots }, block, offset, value)
+}
+
+/// What the library reads of a register block.
+pub fn read_by_library(block: &Block, offset: usize) -> u8 {
+    unsafe { nimbleshale_block_read(block, offset) }
+}
+
+/// Whether the library says that the interrupt line is high. A line that is neither high nor low is none.
+pub fn line_by_library(block: &Block) -> bool {
+    match unsafe { nimbleshale_block_line(block) } {
+        0 => false,
+        1 => true,
+        other => panic!("the line is {other}"),
+    }
+}
+
+/// A reset by the library.
+pub fn reset_by_library(block: &mut Block) {
+    unsafe { nimbleshale_block_reset(block) }
 }
 
 /// Words of a page.

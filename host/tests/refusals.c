@@ -19,25 +19,12 @@ static uint8_t make_call(struct tried *t, enum call call, unsigned conditions, e
 {
     struct nimbleshale_store *s = &t->store;
     const struct arguments a = arguments_of(call, conditions, way);
-    uint32_t k1 = 450, k2 = 30000, t1 = 50, t2 = 4294967295u;
+    const struct asked q = asked_of(conditions, way);
     switch (call) {
     case OPEN: return nimbleshale_open(LENT);
     case START: return nimbleshale_start(LENT, a.tick, a.key, a.weight, &r->number);
     case END: return nimbleshale_end(LENT, a.tick, a.number);
-    case QUESTION:
-        if (holds(conditions, QUESTION, 2))
-            k2 = way % 2 ? 450 : 449;
-        if (holds(conditions, QUESTION, 1)) {
-            if (way % 2)
-                k1 = holds(conditions, QUESTION, 2) ? 30000 : 4294967295u;
-            else
-                k2 = 30001, k1 = holds(conditions, QUESTION, 2) ? 30002 : k1;
-        }
-        if (holds(conditions, QUESTION, FROM_ZERO))
-            t1 = 0;
-        if (holds(conditions, QUESTION, 5))
-            t2 = way % 2 ? t1 : 0;
-        return nimbleshale_question(SHOWN, k1, k2, t1, t2, &r->count, &r->sum, &r->pages);
+    case QUESTION: return nimbleshale_question(SHOWN, q.k1, q.k2, q.t1, q.t2, &r->count, &r->sum, &r->pages);
     case LOOKUP_STARTS: return nimbleshale_lookup_starts(SHOWN, a.tick, a.key, &r->count, &r->sum, &r->pages);
     case LOOKUP_ENDS: return nimbleshale_lookup_ends(SHOWN, a.tick, a.key, &r->count, &r->sum, &r->pages);
     default: return 255;

@@ -1,10 +1,11 @@
 //! Spoiled memory: random heads, tables and root lists, each call made by the library and by the port on the same store. The answer and every
 //! number and word must be the same; a refused call, a question and a lookup must leave everything as it was; and every call must end. Packets of
-//! commands, too, are run by both; and so are bursts, whose events are also entered one by one. There must be clicks, and questions from tick 0 on
-//! that are answered although the tree of ends is spoiled.
+//! commands, too, are run by both; and so are bursts, whose events are also entered one by one, and writes to register blocks of any 40 bytes, whose
+//! commands are also run in the stream. There must be clicks, and questions from tick 0 on that are answered although the tree of ends is spoiled.
 //!
 //! spoiled [ROUNDS]
 
+mod blocks;
 mod bursts;
 mod commands;
 mod library;
@@ -13,13 +14,16 @@ mod shapes;
 
 use bursts::{call_of, event_of, of_unknown_kind, of_wider_number, unset_results, EVENT_BYTES, MOST_EVENTS};
 use library::{
-    burst_by_library, burst_by_port, by_library, by_port, packet_by_library, packet_by_port, Answer, Call, Random, Store, PAGE_WORDS,
+    burst_by_library, burst_by_port, by_library, by_port, line_by_library, packet_by_library, packet_by_port, read_by_library, reset_by_library,
+    write_by_library, write_by_port, Answer, Call, Random, Store, PAGE_WORDS,
 };
+use port::{Block, BLOCK_BYTES};
 use std::collections::BTreeMap;
 
-/// Packets on each store, and bursts, after its calls.
+/// Packets on each store, bursts, and writes to register blocks, after its calls.
 const PACKETS: u64 = 4;
 const BURSTS: u64 = 4;
+const WRITES: u64 = 8;
 
 /// A call with keys and ticks that the store's own words name, or close to them.
 fn call_on(random: &mut Random, store: &Store) -> Call {
@@ -128,6 +132,66 @@ fn same_of_burst(random: &mut Random, before: &Store, reached: &mut Reached) -> 
     by_library == by_port && by_library == if refuses { 31 } else { 0 } && found == wanted && found == results && library == port && library == alone
 }
 
+/// What came about in register blocks: commands by their status, how many left the flag of 64 open, and writes that run none.
+#[derive(Default)]
+struct Accessed {
+    statuses: BTreeMap<u8, u64>,
+    all_open: u64,
+    others: u64,
+}
+
+/// Any 40 bytes, mostly with the operands of such a call, and the byte that would run it.
+fn block_on(random: &mut Random, store: &Store) -> (Block, u8) {
+    let mut block = [0; BLOCK_BYTES];
+    block.iter_mut().for_each(|byte| *byte = random.word() as u8);
+    let command = loop {
+        if let Some(bytes) = blocks::command_of(call_on(random, store)) {
+            break bytes;
+        }
+    };
+    if !random.one_in(8) {
+        block[blocks::OPERANDS..command.len()].copy_from_slice(&command[1..]);
+    }
+    (block, if random.one_in(16) { random.word() as u8 } else { command[0] })
+}
+
+/// What the stream answers to the command in a block, by the port, filled with zeros to the 18 bytes of the longest answer.
+fn answer_in_stream(store: &mut Store, command: u8, block: &Block) -> [u8; 18] {
+    let length = match command {
+        1 | 2 => 9,
+        3 => 13,
+        _ => 1,
+    };
+    let mut answer = [0; 18];
+    packet_by_port(store, &[&[command], &block[blocks::OPERANDS..length]].concat(), false, &mut answer);
+    answer
+}
+
+/// Whether library and port do the same with a write to a register block, a reset of it and reads of it, and the stream the same as they with its
+/// command: what stands in the block, and the memory that is left.
+fn same_of_block(random: &mut Random, before: &Store, accessed: &mut Accessed) -> bool {
+    let (block, command) = block_on(random, before);
+    let other = random.one_in(4).then(|| (blocks::other_offset(random), random.word() as u8));
+    let (offset, value) = other.unwrap_or((0, command));
+    let (mut found, mut wanted) = (block, block);
+    let (mut library, mut port, mut stream) = (before.clone(), before.clone(), before.clone());
+    write_by_library(&mut library, &mut found, offset, value);
+    write_by_port(&mut port, &mut wanted, offset, value);
+    let mut same = found == wanted && library == port && line_by_library(&found) == port::block_line(&wanted);
+    for at in (0..BLOCK_BYTES + 4).chain([offset, offset.wrapping_add(BLOCK_BYTES)]) {
+        same &= read_by_library(&found, at) == port::block_read(&wanted, at);
+    }
+    if other.is_none() {
+        let answer = answer_in_stream(&mut stream, command, &block);
+        same &= found[blocks::STATUS] == answer[0] && found[blocks::RESULT..][..17] == answer[1..] && found[blocks::MASK] == block[blocks::MASK];
+        *accessed.statuses.entry(answer[0]).or_default() += 1;
+        accessed.all_open += u64::from(found[blocks::FLAGS] & 4 != 0);
+    }
+    accessed.others += u64::from(other.is_some());
+    reset_by_library(&mut found);
+    same && library == stream && found == [0; BLOCK_BYTES]
+}
+
 /// A word of one of the tables.
 fn any_word(random: &mut Random, store: &Store, of_row: u32) -> u64 {
     let (table, pages) = if random.one_in(2) {
@@ -168,6 +232,7 @@ struct Counts {
     beside_spoiled: u64,
     refusals: BTreeMap<u8, u64>,
     in_bursts: Reached,
+    in_blocks: Accessed,
 }
 
 impl Counts {
@@ -219,7 +284,7 @@ fn try_call(seed: u64, call: Call, before: &mut Store, [library, port]: [&mut St
     }
 }
 
-/// A store with its calls, its packets and its bursts.
+/// A store with its calls, its packets, its bursts and its register blocks.
 fn try_store(seed: u64, counts: &mut Counts) {
     let mut random = Random(seed);
     let mut before = if random.one_in(3) { made::grown(&mut random) } else { made::random_trees(&mut random) };
@@ -245,6 +310,10 @@ fn try_store(seed: u64, counts: &mut Counts) {
         let same = same_of_burst(&mut random, &before, &mut counts.in_bursts);
         counts.judge(same, || format!("store {seed}, a burst"));
     }
+    for _ in 0..WRITES {
+        let same = same_of_block(&mut random, &before, &mut counts.in_blocks);
+        counts.judge(same, || format!("store {seed}, a write to a register block"));
+    }
 }
 
 fn listed<T: std::fmt::Display>(times: impl Iterator<Item = (T, u64)>) -> String {
@@ -258,16 +327,21 @@ fn main() {
     for seed in 0..stores {
         try_store(seed, &mut counts);
     }
-    let Counts { compared, differed, written, split, clicks, beside_spoiled, refusals, in_bursts } = counts;
+    let Counts { compared, differed, written, split, clicks, beside_spoiled, refusals, in_bursts, in_blocks } = counts;
     println!(
         "spoiled: {} bursts, {} refused with 31, {} with an event accepted after one that the state refused; events by what they got: {}",
         BURSTS * stores, in_bursts.refused, in_bursts.accepted_later, listed(in_bursts.results.into_iter())
+    );
+    let accepted = in_blocks.statuses.get(&0).copied().unwrap_or(0);
+    println!(
+        "spoiled: {} writes to register blocks, {} of them of no command; commands by their status: {}; {} left with 64 open",
+        WRITES * stores, in_blocks.others, listed(in_blocks.statuses.into_iter()), in_blocks.all_open
     );
     println!(
         "spoiled: {stores} stores, {written} accepted writes, {split} of them with splits and {clicks} of them clicks, {beside_spoiled} questions from \
          tick 0 answered beside a spoiled tree of ends, refusals {}, {} packets: {compared} compared, {differed} differed",
         listed(refusals.into_iter().filter(|seen| seen.0 != 0)), PACKETS * stores
     );
-    let all_reached = in_bursts.accepted_later > 0 && clicks > 0 && beside_spoiled > 0;
+    let all_reached = in_bursts.accepted_later > 0 && accepted > 0 && in_blocks.all_open > 0 && in_blocks.others > 0 && clicks > 0 && beside_spoiled > 0;
     std::process::exit(i32::from(differed != 0 || !all_reached));
 }

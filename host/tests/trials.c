@@ -19,9 +19,10 @@ static const char *file_name;
 static unsigned long line_number, turn;
 static char text[256];
 
-/* The trial that is at hand, if one is: its store, whether memory is lent to it yet, and what was compared before it began. */
+/* The trial that is at hand, if one is: its store and its register block, whether memory is lent to it yet, and what was compared before it began. */
 static int is_begun, is_lent;
 static struct nimbleshale_store store;
+static uint8_t *block;
 static unsigned long compared_before;
 
 /* A step that cannot be taken. */
@@ -272,6 +273,127 @@ static void try_burst_refused(const uint32_t *n)
     expect("digest of head and memory", digest_store(&store), before);
 }
 
+/* The register block, as the radio side has it. */
+
+static void poke_byte(uint32_t offset, uint8_t value)
+{
+    nimbleshale_store_block_write(&store, block, offset, value);
+    calls++;
+}
+
+static uint8_t peek_byte(uint32_t offset)
+{
+    calls++;
+    return nimbleshale_block_read(block, offset);
+}
+
+static uint8_t checked_byte(uint32_t number)
+{
+    if (number > 255)
+        fault("no byte");
+    return (uint8_t)number;
+}
+
+/* poke OFFSET VALUE: nothing of the store is written, unless a command is run */
+static void poke(const uint32_t *n)
+{
+    const uint64_t before = digest_store(&store);
+    poke_byte(n[0], checked_byte(n[1]));
+    if (n[0] != NIMBLESHALE_BLOCK_COMMAND)
+        expect("digest of head and memory", digest_store(&store), before);
+}
+
+static void see_peek(const uint32_t *n)
+{
+    expect("byte", peek_byte(n[0]), n[1]);
+}
+
+static void see_line(const uint32_t *n)
+{
+    calls++;
+    expect("line", nimbleshale_block_line(block), n[0]);
+}
+
+static void reset_block(const uint32_t *n)
+{
+    (void)n;
+    calls++;
+    nimbleshale_block_reset(block);
+}
+
+/* A number of so many bytes, the lowest first, from an operand on. */
+static uint32_t poke_number(uint32_t offset, uint32_t number, uint32_t bytes)
+{
+    uint32_t at;
+    for (at = 0; at < bytes; at++)
+        poke_byte(offset + at, (uint8_t)(number >> 8 * at & 255));
+    return offset + bytes;
+}
+
+/* operands start T K W */
+static void put_start(const uint32_t *n)
+{
+    uint32_t at = poke_number(NIMBLESHALE_BLOCK_OPERANDS, n[0], 4);
+    poke_number(poke_number(at, n[1], 2), n[2], 2);
+}
+
+/* operands end T N */
+static void put_end(const uint32_t *n)
+{
+    poke_number(poke_number(NIMBLESHALE_BLOCK_OPERANDS, n[0], 4), n[1], 4);
+}
+
+/* operands question K1 K2 T1 T2 */
+static void put_question(const uint32_t *n)
+{
+    uint32_t at = poke_number(NIMBLESHALE_BLOCK_OPERANDS, n[0], 2);
+    at = poke_number(at, n[1], 2);
+    poke_number(poke_number(at, n[2], 4), n[3], 4);
+}
+
+/* command B = STATUS flags F: one that is refused, or only reads, must leave the head and every word as they were */
+static void run_command(const uint32_t *n)
+{
+    const uint64_t before = digest_store(&store);
+    poke_byte(NIMBLESHALE_BLOCK_COMMAND, checked_byte(n[0]));
+    expect("status", peek_byte(NIMBLESHALE_BLOCK_STATUS), n[1]);
+    expect("flags", peek_byte(NIMBLESHALE_BLOCK_FLAGS), n[2]);
+    if (n[1] != 0 || n[0] == NIMBLESHALE_COMMAND_QUESTION)
+        expect("digest of head and memory", digest_store(&store), before);
+}
+
+/* Bytes of the result from a place on: a number, the lowest byte first. */
+static uint64_t number_of_result(uint32_t place, uint32_t bytes)
+{
+    return bytes == 0 ? 0 : peek_byte(NIMBLESHALE_BLOCK_RESULT + place) + 256 * number_of_result(place + 1, bytes - 1);
+}
+
+/* The bytes of the result from a place on are all zero. */
+static void see_zeros(uint32_t place)
+{
+    for (; place < NIMBLESHALE_BLOCK_RESULT_BYTES; place++)
+        expect("a byte of the result", peek_byte(NIMBLESHALE_BLOCK_RESULT + place), 0);
+}
+
+static void see_no_result(const uint32_t *n)
+{
+    (void)n;
+    see_zeros(0);
+}
+
+static void see_result_number(const uint32_t *n)
+{
+    expect("number", number_of_result(0, 4), n[0]);
+    see_zeros(4);
+}
+
+static void see_result_totals(const uint32_t *n)
+{
+    expect("count", number_of_result(0, 8), n[0]);
+    expect("sum", number_of_result(8, 8), n[1]);
+    expect("pages opened", number_of_result(16, 1), n[2]);
+}
+
 /* A word of a page, or of a row of it, in the table of starts. */
 static uint64_t *page_word(uint32_t page, uint32_t word)
 {
@@ -427,6 +549,7 @@ static void lend_memory(const uint32_t *n)
     if (is_lent || !is_begun || n[0] > 1000 || n[1] > 1000)
         fault("no memory can be lent");
     lend_store(&store, NIMBLESHALE_TABLE_WORDS(n[0]), n[1], NIMBLESHALE_TABLE_WORDS(n[0]), n[1]);
+    block = lend(NIMBLESHALE_BLOCK_BYTES);
     is_lent = 1;
 }
 
@@ -468,6 +591,17 @@ static const struct {
     {"burst", try_burst},
     {"burst bytes # words #", try_burst_of},
     {"burst bytes # words # refused #", try_burst_refused},
+    {"poke # #", poke},
+    {"peek # = #", see_peek},
+    {"line = #", see_line},
+    {"reset", reset_block},
+    {"operands start # # #", put_start},
+    {"operands end # #", put_end},
+    {"operands question # # # #", put_question},
+    {"command # = # flags #", run_command},
+    {"result none", see_no_result},
+    {"result number #", see_result_number},
+    {"result totals # # #", see_result_totals},
     {"used # #", see_used},
     {"level # = #", see_level},
     {"rows # = #", see_rows},
@@ -536,8 +670,10 @@ static void end_trial(void)
         fault("the trial before this line compares nothing");
     if (queued > 0)
         fault("the trial before this line leaves events in the queue");
-    if (is_lent)
+    if (is_lent) {
         give_back_store(&store);
+        give_back(block, NIMBLESHALE_BLOCK_BYTES);
+    }
     is_begun = is_lent = 0;
 }
 

@@ -142,18 +142,60 @@ static void try_burst(struct nimbleshale_store *store, const char *line)
     free(expected);
 }
 
+/* A register block that has just been reset. Before that it held anything. */
+static uint8_t *lend_block(void)
+{
+    uint8_t *block = lend(NIMBLESHALE_BLOCK_BYTES);
+    memset(block, 0xa5, NIMBLESHALE_BLOCK_BYTES);
+    nimbleshale_block_reset(block);
+    return block;
+}
+
+/* An access to the register block, and what it gives: 0, or the byte that is read. 256 where there is no such access. */
+static uint64_t access_block(struct nimbleshale_store *store, uint8_t *block, const char *line)
+{
+    unsigned long offset, value;
+    if (sscanf(line, "k w %lu %lu", &offset, &value) == 2 && value < 256) {
+        nimbleshale_store_block_write(store, block, offset, (uint8_t)value);
+        return 0;
+    }
+    if (sscanf(line, "k r %lu", &offset) == 1)
+        return nimbleshale_block_read(block, offset);
+    if (strncmp(line, "k z ", 4) != 0)
+        return 256;
+    nimbleshale_block_reset(block);
+    return 0;
+}
+
+/* An access's line: what it gives, the interrupt line after it, and the digest of the store, of which the block is no part. */
+static void try_access(struct nimbleshale_store *store, uint8_t *block, const char *line)
+{
+    const char *answer = strstr(line, " = "), *after = strstr(line, " # ");
+    uint64_t expected[2], digest, found;
+    if (answer == NULL || after == NULL || numbers_of(answer + 3, 10, expected, 2) != 2 || numbers_of(after + 3, 10, &digest, 1) != 1) {
+        judge(0, line);
+        return;
+    }
+    found = access_block(store, block, line);
+    judge(found == expected[0] && nimbleshale_block_line(block) == expected[1] && digest_store(store) == digest, line);
+}
+
 static void try_traces(FILE *file)
 {
     struct nimbleshale_store store;
+    uint8_t *block = NULL;
     uint64_t head[263];
     char *line = NULL;
-    size_t room = 0, stores = 0, slices = 0, bursts = 0;
+    size_t room = 0, stores = 0, slices = 0, bursts = 0, accesses = 0;
     while (getline(&line, &room, file) > 0) {
         switch (line[0]) {
         case 'S':
-            if (stores++ > 0)
+            if (stores++ > 0) {
                 give_back_store(&store);
+                give_back(block, NIMBLESHALE_BLOCK_BYTES);
+            }
             slices = 0;
+            block = lend_block();
             judge(numbers_of(line + 1, 16, head, 263) == 263, line);
             load_head(&store, head);
             break;
@@ -173,14 +215,22 @@ static void try_traces(FILE *file)
             try_burst(&store, line);
             bursts++;
             break;
+        case 'k':
+            try_access(&store, block, line);
+            accesses++;
+            break;
         default:
             judge(0, line);
         }
     }
-    if (stores > 0)
+    if (stores > 0) {
         give_back_store(&store);
+        give_back(block, NIMBLESHALE_BLOCK_BYTES);
+    }
     free(line);
-    printf("vectors: %lu stores, %lu bursts", (unsigned long)stores, (unsigned long)bursts);
+    printf("vectors: %lu stores, %lu bursts, %lu accesses to register blocks", (unsigned long)stores, (unsigned long)bursts,
+           (unsigned long)accesses);
+    judge(bursts > 0 && accesses > 0, "traces without bursts or without register blocks");
 }
 
 static void try_streams(FILE *file)

@@ -1,4 +1,4 @@
-/* Libraries under the eight names, and command programs, that the tests must not let pass and must survive. None lives for more than five
+/* Libraries under the twelve names, and command programs, that the tests must not let pass and must survive. None lives for more than five
  * minutes, in case that the tests fail to end it. What one does is said when it is compiled:
  *
  *   -DANSWER=N    every call answers N
@@ -98,5 +98,25 @@ uint8_t nimbleshale_commands(void)
 uint8_t nimbleshale_burst(void)
 {
     return called();
+}
+
+void nimbleshale_block_reset(void)
+{
+    called();
+}
+
+uint8_t nimbleshale_block_read(void)
+{
+    return called();
+}
+
+uint8_t nimbleshale_block_line(void)
+{
+    return called();
+}
+
+void nimbleshale_block_write(void)
+{
+    called();
 }
 #endif

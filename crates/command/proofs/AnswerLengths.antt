@@ -41,7 +41,7 @@ totals-length count sum pages =
       bytes-length 8 sum,
     )
 
-written-fits : (a : Answer) → length (written a) ≤ longestAnswer
+pub written-fits : (a : Answer) → length (written a) ≤ longestAnswer
 written-fits (Refused n) = omega (arith, code-length n)
 written-fits Opened = omega (arith, code-length 0)
 written-fits (Started n) = omega (arith, started-length n)

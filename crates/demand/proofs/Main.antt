@@ -1,115 +1,94 @@
--- Demand 3 with bursts in the list, the theorem: each call and each event of a burst answers what document 01's pass book answers (specs/Demand has
--- the claim). It rests on the theorem about calls (store/proofs/Main).
-use Prim.Native.Nat.{ℕ, zero, suc}
+-- Demand 3 with bursts and accesses to the register block in the list, the theorem: each call, each event of a burst and each command through the
+-- block answers what document 01's pass book answers (specs/Demand has the claim). It rests on the theorem about calls (store/proofs/Main).
+use Prim.Native.Nat.{ℕ}
 use mathlib.Core.Path.{_≡_, refl, ap, ap₂, sym, _∙_}
 use mathlib.Core.List.{List, [], _∷_, _++_, map}
+use lib.ListN.{length, drop}
 use Rattle.words.specs.Lists.{All}
-use Rattle.tree.proofs.Lists.{all-append}
+use Rattle.tree.proofs.Lists.{all-append, all-take, all-drop}
 use Rattle.store.specs.Trees.{Store}
 use Rattle.store.specs.Calls.{Call, opening, Sent}
-use Rattle.store.specs.Answers.{refusalOf}
 use Rattle.store.specs.Performing.{perform, storeAfter}
-use Rattle.store.specs.Book.{Book, bookPart, emptyBook}
-use Rattle.store.proofs.Agreement.{Agrees}
-use Rattle.store.proofs.Outcomes.{Alike, outcome, turn-alike}
+use Rattle.store.specs.Book.{Book, emptyBook}
 use Rattle.store.proofs.Main.{just-opened, demand-3}
-use Rattle.demand.specs.Bursts.{Asked, unknownKind, asked, eventCount, answerTo, answersTo, storeBehind, Entered, unlessRefusedWhole}
-use Rattle.demand.specs.Steps.{Step, single, burst, SentStep, refusalOfStep, askedIn, performStep, performSteps, storeAfterSteps, callsAsked, callsTried, callsOf, BookSaid, bookParts, refusalsIn, bookTurnAt, bookAnswersTo, bookBehind, BookStep, unlessBookRefuses, bookStep, bookSteps}
-use Rattle.demand.specs.Demand.{Demand3WithBursts}
-use Rattle.demand.proofs.SentEvents.{SentAsked, sent-events}
+use Rattle.command.specs.Stream.{kindOf, written}
+use Rattle.register_block.specs.Block.{Block, blockBytes, commandAt, operandsAt, operandCount, operandsOf, showing}
+use Rattle.register_block.specs.Access.{Device, runFromBlock, writeDevice, Access, reset, read, write}
+use Rattle.demand.specs.Bursts.{askedBy, answerTo}
+use Rattle.demand.specs.Steps.{Step, single, burst, access, SentStep, refusalOfStep, askedIn, operandsAfter, performStep, deviceAfter, performSteps, deviceAfterSteps, callsTried, callsOf, bookParts, refusalsIn, bookSteps}
+use Rattle.demand.specs.Demand.{ShownIn, bookAfter, ShownAlong, Demand3OfSteps}
+use Rattle.demand.proofs.SentEvents.{IsByte}
+use Rattle.demand.proofs.CallsStand.{step-stands, after-both, tried-sent}
+use Rattle.demand.proofs.BlockSteps.{operands-follow, runs-the-call, shows-the-call}
+use Rattle.demand.proofs.StepsReady.{Ready, store-after, long-after, bytes-after, sent-step, alike, ready-after, open-as-the-book}
 
--- One call or event
-event-alike : (s : Store) (b : Book) (e : Asked) → SentAsked e → Agrees s b → Alike (answerTo s e) (bookTurnAt b e)
-event-alike s b unknownKind sent a = record { answer = refl; next = a }
-event-alike s b (asked c) sent a = turn-alike s b c a (outcome s b c sent a)
-
--- Events one after the other
-record EventsAlike (s : Store) (b : Book) (es : List Asked) : Type 0 where
-  pub answers : map bookPart (answersTo s es) ≡ bookAnswersTo b es (map refusalOf (answersTo s es))
-  pub next : Agrees (storeBehind s es) (bookBehind b es (map refusalOf (answersTo s es)))
-
-events-alike : (s : Store) (b : Book) (es : List Asked) → All SentAsked es → Agrees s b → EventsAlike s b es
-unfolding answersTo storeBehind bookAnswersTo bookBehind
-events-alike s b [] sent a = record { answers = refl; next = a }
-events-alike s b (e ∷ es) sent a =
-    let one = event-alike s b e (sent .0) a in
-    let rest = events-alike _ _ es (sent .1) (one .next) in
-    record { answers = ap₂ _∷_ (one .answer) (rest .answers); next = rest .next }
-
--- A call or a burst, by its refusal as a whole
-record StepAlike (e : Entered) (turn : BookStep) : Type 0 where
-  pub said : bookParts e ≡ turn .said
-  pub next : Agrees (e .store) (turn .book)
-
-step-alike : (n : ℕ) (s : Store) (b : Book) (es : List Asked) → All SentAsked es → Agrees s b
-    → StepAlike (unlessRefusedWhole n s es) (unlessBookRefuses n b es (refusalsIn (unlessRefusedWhole n s es)))
-step-alike zero s b es sent a =
-    let all = events-alike s b es sent a in
-    record { said = ap (λ (answers : List _). record { refusal = 0; answers = answers }) (all .answers); next = all .next }
-step-alike (suc n) s b es sent a = record { said = refl; next = a }
-
-sent-step : (step : Step) → SentStep step → All SentAsked (askedIn step)
-sent-step (single c) sent = (sent, tt)
-sent-step (burst bytes words) sent = sent-events (eventCount bytes) bytes sent
-
-same-answers : (s : Store) (b : Book) (steps : List Step) → All SentStep steps → Agrees s b
-    → map bookParts (performSteps s steps) ≡ bookSteps b steps (map refusalsIn (performSteps s steps))
+-- Answers, one step after the other
+same-answers : (d : Device) (b : Book) (steps : List Step) → All SentStep steps → Ready d b
+    → map bookParts (performSteps d steps) ≡ bookSteps b (operandsOf (d .block)) steps (map refusalsIn (performSteps d steps))
 unfolding performSteps bookSteps
-same-answers s b [] sent a = refl
-same-answers s b (step ∷ steps) sent a =
-    let one = step-alike (refusalOfStep step) s b (askedIn step) (sent-step step (sent .0)) a in
-    ap₂ _∷_ (one .said) (same-answers _ _ steps (sent .1) (one .next))
+same-answers d b [] sent ready = refl
+same-answers d b (step ∷ steps) sent ready =
+    let after : Device = deviceAfter d step in
+    let rest = same-answers after (bookAfter d b step) steps (sent .1) (ready-after d b step (sent .0) ready) in
+    ap₂ _∷_ (alike d b step (sent .0) ready .said)
+    (rest
+    ∙ ap (λ (operands : List ℕ). bookSteps (bookAfter d b step) operands steps (map refusalsIn (performSteps after steps)))
+    (operands-follow d step (ready .long)))
 
--- Each event stands in the list as the call that it is
-events-stand : (s : Store) (es : List Asked) → storeBehind s es ≡ storeAfter s (callsAsked es)
-unfolding storeBehind storeAfter callsAsked
-events-stand s [] = refl
-events-stand s (unknownKind ∷ es) = events-stand s es
-events-stand s (asked c ∷ es) = events-stand (perform s c .store) es
+-- Each event and each command stands in the list as the call that it is
+steps-stand : (d : Device) (steps : List Step) → length (d .block) ≡ blockBytes
+    → deviceAfterSteps d steps .store ≡ storeAfter (d .store) (callsOf (operandsOf (d .block)) steps)
+unfolding deviceAfterSteps callsOf storeAfter
+steps-stand d [] long = refl
+steps-stand d (step ∷ steps) long =
+    let after : Device = deviceAfter d step in
+    let operands : List ℕ = operandsOf (d .block) in
+    let calls : List Call = callsTried (refusalOfStep step) (askedIn operands step) in
+    steps-stand after steps (long-after d step long)
+    ∙ ap₂ (λ (s : Store) (ops : List ℕ). storeAfter s (callsOf ops steps))
+    (store-after d step long ∙ step-stands (refusalOfStep step) (d .store) (askedIn operands step))
+    (operands-follow d step long)
+    ∙ after-both (d .store) calls (callsOf (operandsAfter operands step) steps)
 
-step-stands : (n : ℕ) (s : Store) (es : List Asked) → unlessRefusedWhole n s es .store ≡ storeAfter s (callsTried n es)
-unfolding storeAfter
-step-stands zero s es = events-stand s es
-step-stands (suc n) s es = refl
+-- A command through the block shows the answer of the list, and by the book whether 64 are open
+shown-in : (d : Device) (b : Book) (step : Step) → SentStep step → Ready d b → ShownIn d step (bookAfter d b step)
+shown-in d b (single c) sent ready = tt
+shown-in d b (burst bytes words) sent ready = tt
+shown-in d b (access reset) sent ready = tt
+shown-in d b (access (read offset)) sent ready = tt
+shown-in d b (access (write offset value)) sent ready = λ at.
+    let after = ready-after d b (access (write offset value)) sent ready in
+    let same : answerTo (d .store) (askedBy (kindOf value) (operandsOf (d .block))) .store ≡ writeDevice d offset value .store =
+    sym (runs-the-call d value (ready .long)) ∙ sym (ap (λ (i : ℕ). writeDevice d i value .store) at) in
+    ap (λ (i : ℕ). writeDevice d i value .block) at
+    ∙ shows-the-call d value (ready .long)
+    ∙ ap (showing (d .block) value (written (answerTo (d .store) (askedBy (kindOf value) (operandsOf (d .block))) .answer)))
+    (ap (λ (s : Store). s .head .count) same ∙ open-as-the-book (after .agrees))
 
-after-both : (s : Store) (xs ys : List Call) → storeAfter (storeAfter s xs) ys ≡ storeAfter s (xs ++ ys)
-unfolding storeAfter
-after-both s [] ys = refl
-after-both s (c ∷ xs) ys = after-both (perform s c .store) xs ys
-
-steps-stand : (s : Store) (steps : List Step) → storeAfterSteps s steps ≡ storeAfter s (callsOf steps)
-unfolding storeAfterSteps callsOf storeAfter
-steps-stand s [] = refl
-steps-stand s (step ∷ steps) =
-    let calls : List Call = callsTried (refusalOfStep step) (askedIn step) in
-    steps-stand (performStep s step .store) steps
-    ∙ ap (λ (s′ : Store). storeAfter s′ (callsOf steps)) (step-stands (refusalOfStep step) s (askedIn step))
-    ∙ after-both s calls (callsOf steps)
+shown-along : (d : Device) (b : Book) (steps : List Step) → All SentStep steps → Ready d b → ShownAlong d b steps
+unfolding ShownAlong
+shown-along d b [] sent ready = tt
+shown-along d b (step ∷ steps) sent ready =
+    (shown-in d b step (sent .0) ready, shown-along (deviceAfter d step) (bookAfter d b step) steps (sent .1) (ready-after d b step (sent .0) ready))
 
 -- Ticks of 32 bits
-calls-sent : (es : List Asked) → All SentAsked es → All Sent (callsAsked es)
-unfolding callsAsked
-calls-sent [] sent = tt
-calls-sent (unknownKind ∷ es) sent = calls-sent es (sent .1)
-calls-sent (asked c ∷ es) sent = (sent .0, calls-sent es (sent .1))
-
-tried-sent : (n : ℕ) (es : List Asked) → All SentAsked es → All Sent (callsTried n es)
-tried-sent zero es sent = calls-sent es sent
-tried-sent (suc n) es sent = tt
-
-all-sent : (steps : List Step) → All SentStep steps → All Sent (callsOf steps)
+all-sent : (operands : List ℕ) (steps : List Step) → All SentStep steps → All IsByte operands → All Sent (callsOf operands steps)
 unfolding callsOf
-all-sent [] sent = tt
-all-sent (step ∷ steps) sent =
-    all-append Sent (callsTried (refusalOfStep step) (askedIn step)) (callsOf steps)
-    (tried-sent (refusalOfStep step) (askedIn step) (sent-step step (sent .0))) (all-sent steps (sent .1))
+all-sent operands [] sent h = tt
+all-sent operands (step ∷ steps) sent h =
+    all-append Sent (callsTried (refusalOfStep step) (askedIn operands step)) (callsOf (operandsAfter operands step) steps)
+    (tried-sent (refusalOfStep step) (askedIn operands step) (sent-step operands step (sent .0) h))
+    (all-sent (operandsAfter operands step) steps (sent .1) (bytes-after operands step (sent .0) h))
 
-pub demand-3-with-bursts : Demand3WithBursts
-demand-3-with-bursts head lent takes steps sent =
+pub demand-3-of-steps : Demand3OfSteps
+demand-3-of-steps head lent block long bytes takes steps sent =
     let memory : Store = record { head = head; lent = lent } in
-    let opened : Store = perform memory opening .store in
+    let opened : Device = record { store = perform memory opening .store; block = block } in
+    let operands = all-take IsByte operandCount (drop operandsAt block) (all-drop IsByte operandsAt block bytes) in
+    let ready : Ready opened emptyBook = record { agrees = just-opened memory takes; long = long; bytes = operands } in
     record {
-      answers = same-answers opened emptyBook steps sent (just-opened memory takes);
-      stands = steps-stand opened steps;
-      along = demand-3 head lent takes (callsOf steps) (all-sent steps sent) .along;
+      answers = same-answers opened emptyBook steps sent ready;
+      stands = steps-stand opened steps long;
+      shown = shown-along opened emptyBook steps sent ready;
+      along = demand-3 head lent takes (callsOf (operandsOf block) steps) (all-sent (operandsOf block) steps sent operands) .along;
     }

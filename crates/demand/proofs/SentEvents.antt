@@ -10,7 +10,7 @@ use Rattle.words.specs.Words.{openEnd}
 use Rattle.tree.proofs.Lists.{all-take, all-drop}
 use Rattle.store.specs.Calls.{Call, Sent}
 use Rattle.codec.specs.Bytes.{numberOf}
-use Rattle.command.specs.Stream.{Kind, unknown, command, startCommand, endCommand, eventKind}
+use Rattle.command.specs.Stream.{Kind, unknown, command, startCommand, endCommand, questionCommand, eventKind, kindOf}
 use Rattle.demand.specs.Bursts.{Asked, unknownKind, asked, askedBy, firstEvent, eventBytes, eventsFrom}
 
 abbrev pub IsByte : ℕ → Type 0
@@ -35,6 +35,14 @@ sent-event byte operands h = go (eqb byte 1) (eqb byte 2)
     go true y = four-bytes operands h
     go false true = four-bytes operands h
     go false false = tt
+
+-- A command's, too
+pub sent-command : (byte : ℕ) (operands : List ℕ) → All IsByte operands → SentAsked (askedBy (kindOf byte) operands)
+sent-command byte operands h = go (eqb byte 3)
+  where
+    go : (x : Bool) → SentAsked (askedBy (cond x (command 12 questionCommand) (eventKind byte)) operands)
+    go true = four-bytes (drop 8 operands) (all-drop IsByte 8 operands h)
+    go false = sent-event byte operands h
 
 pub sent-events : (count : ℕ) (bytes : List ℕ) → All IsByte bytes → All SentAsked (eventsFrom count bytes)
 unfolding eventsFrom

@@ -13,9 +13,10 @@ use Rattle.burst.specs.declared.entering.BurstReply.{BurstReply}
 use Rattle.burst.specs.BurstReplies.{BurstAs}
 use Rattle.c_numbers.specs.Heads.{Fields, passNumbers, headOf, fieldsOf, numbersOf}
 use Rattle.firmware.specs.Exported.{Handed, storeIn, handedBack}
-use Rattle.c_numbers.proofs.HeadNumbers.{passes-length, numbers-back, others-kept}
+use Rattle.c_numbers.proofs.HeadNumbers.{passes-length}
+use Rattle.firmware.proofs.ExportedLaws.{handed-again}
 use Rattle.firmware.proofs.ExportedLists.{tried-places}
-use Rattle.firmware.proofs.KeptPlaces.{all-places}
+use Rattle.firmware.proofs.KeptPlaces.{written-back}
 use Rattle.firmware.specs.BurstCalls.{Lending, LeavesBurst}
 
 -- A burst that is refused as a whole tries no event
@@ -44,14 +45,12 @@ module _ (before : Handed) (events results : List ℕ) {head : Head} (of-head : 
       let none = none-tried (burstRefusal events (length results)) (storeIn before) (eventsOf events) (λ z. some (is .refusal ∙ z)) in
       let same = is .lent-is ∙ ap (λ (s : Store). s .lent) (none .1) in
       let list : results′ ≡ results = is .words ∙ ap (λ (l : List _). overwrite results 0 (resultWords l)) (none .0) ∙ overwrite-none results 0 in
-      let back = numbers-back (before .passes) long in
       let kept : record { fields = before .fields; passes = before .passes; lent = lent } ≡ before =
       λ i. record { fields = before .fields; passes = before .passes; lent = same i } in
-      let again : handedBack (storeIn before) ≡ before = λ i. record { fields = before .fields; passes = back i; lent = before .lent } in
       record {
         refusal = is .refusal;
         words = is .words;
-        left = kept ∙ sym (ap handedBack (none .1) ∙ again);
+        left = kept ∙ sym (ap handedBack (none .1) ∙ handed-again before long);
         kept = λ n. λ i. record { handed = kept i; results = list i };
       }
 
@@ -61,18 +60,10 @@ module _ (before : Handed) (events results : List ℕ) {head : Head} (of-head : 
       → LeavesBurst b 0 (record { handed = before; results = results })
       (record { handed = record { fields = fields; passes = passes; lent = lent }; results = results′ })
   burst-done long none fs ps =
-      let old = passes-length (before .passes) 0 openLimit in
-      let new = tried-places (burstRefusal events (length results)) (storeIn before) old (eventsOf events) in
-      let places = all-places (storeIn before .head) (b .store .head) old new in
-      let fields-are = fs ∙ ap fieldsOf (is .head) in
-      let passes-are =
-      ps
-      ∙ ap (λ (h : Head). overwrite (before .passes) 0 (numbersOf (take openLimit (h .passes)))) (is .head)
-      ∙ others-kept (before .passes) (b .store .head .passes) openLimit long new (places .few) (places .rest) in
-      let lent-is = is .lent-is in
+      let new = tried-places (burstRefusal events (length results)) (storeIn before) (passes-length (before .passes) 0 openLimit) (eventsOf events) in
       record {
         refusal = sym none ∙ is .refusal;
         words = is .words;
-        left = λ i. record { fields = fields-are i; passes = passes-are i; lent = lent-is i };
+        left = written-back before long (b .store) new (is .head) (is .lent-is) fs ps;
         kept = λ some. absurd (some refl);
       }

@@ -34,6 +34,10 @@ unchanged (suc n) s done e some = refl
 call-unchanged : (s : Store) (c : Call) → (refusalOf (perform s c .answer) ≡ 0 → ⊥) → perform s c .store ≡ s
 call-unchanged s c = unchanged (refusal s c) s (served s c) (served-answers s c)
 
+-- A head that is written where it was read from
+pub handed-again : (h : Handed) → length (h .passes) ≡ passNumbers → handedBack (storeIn h) ≡ h
+handed-again h long = let same = numbers-back (h .passes) long in λ i. record { fields = h .fields; passes = same i; lent = h .lent }
+
 -- A call leaves the passes from a place on as they were
 pub record KeepsFrom (places : ℕ) (before after : Head) : Type 0 where
   pub full : length (after .passes) ≡ openLimit
@@ -51,9 +55,6 @@ module _ (c : Call) (before : Handed) (long : length (before .passes) ≡ passNu
   said : (r : ℕ) → r ≡ refusalOf (reply .answer) → r ≡ refusalOf (a .answer)
   said r e = e ∙ ap refusalOf (is .answer)
 
-  back : handedBack (storeIn before) ≡ before
-  back = let same = numbers-back (before .passes) long in λ i. record { fields = before .fields; passes = same i; lent = before .lent }
-
   -- Refused: no field and no number of a pass was written
   pub leaves-refused : {r : ℕ} → r ≡ refusalOf (reply .answer) → (r ≡ 0 → ⊥)
       → Leaves a r before (record { fields = before .fields; passes = before .passes; lent = lent })
@@ -62,7 +63,7 @@ module _ (c : Call) (before : Handed) (long : length (before .passes) ≡ passNu
       let same = is .lent-is ∙ ap (λ (x : Store). x .lent) stays in
       let kept : record { fields = before .fields; passes = before .passes; lent = lent } ≡ before =
       λ i. record { fields = before .fields; passes = before .passes; lent = same i } in
-      record { refusal = said r e; left = kept ∙ sym (ap handedBack stays ∙ back); kept = λ n. kept }
+      record { refusal = said r e; left = kept ∙ sym (ap handedBack stays ∙ handed-again before long); kept = λ n. kept }
 
   -- Done: the head that the call handed back was written, its passes as far as the call may have changed them
   pub leaves-done : {r : ℕ} → r ≡ refusalOf (reply .answer) → r ≡ 0 → {fields : Fields} {passes : List ℕ} → fields ≡ fieldsOf (reply .head)

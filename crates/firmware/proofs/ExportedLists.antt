@@ -1,7 +1,8 @@
--- A list of exported calls and bursts, each handed what the one before left, is a list of calls and bursts: the numbers of the open passes carry the head over.
+-- A list of exported calls, bursts and accesses to the register block, each handed what the one before left, is such a list of the store: the numbers of the
+-- open passes carry the head over.
 use Prim.Native.Nat.{ℕ, zero, suc, _+_, _*_}
 use native.Mathlib.Omega.{arith}
-use mathlib.Core.Path.{_≡_, refl, ap, ap₂, sym, _∙_}
+use mathlib.Core.Path.{_≡_, refl, ap, ap₂, sym, subst, _∙_}
 use mathlib.Core.List.{List, [], _∷_, _++_, append-assoc}
 use lib.ListN.{length, getD, length-append, length-replicate, length-set}
 use lib.Seq.{getD-append-add}
@@ -15,7 +16,10 @@ use Rattle.store.specs.Answers.{unlessRefused}
 use Rattle.store.specs.Writing.{endEntries, enterAll, passesWithout}
 use Rattle.store.specs.Performing.{refusal, served, perform}
 use Rattle.demand.specs.Bursts.{Asked, unknownKind, asked, answerTo, storeBehind, unlessRefusedWhole}
-use Rattle.demand.specs.Steps.{Step, refusalOfStep, askedIn, performStep, performSteps}
+use Rattle.register_block.specs.Block.{Block, blockBytes, operandsOf}
+use Rattle.register_block.specs.Access.{Device}
+use Rattle.demand.specs.Steps.{Step, refusalOfStep, askedIn, performStep, deviceAfter, performSteps}
+use Rattle.demand.proofs.StepsReady.{store-after, long-after}
 use Rattle.store.proofs.HeadLists.{closed-length}
 use Rattle.refusals.proofs.RefusalParts.{none-of}
 use Rattle.refusals.proofs.FoundPasses.{found-facts}
@@ -112,12 +116,16 @@ pub tried-places : (n : ℕ) (s : Store) → Places s → (es : List Asked) → 
 tried-places zero s long es = events-places s long es
 tried-places (suc n) s long es = long
 
-pub exported-list : (h : Handed) → length (h .passes) ≡ passNumbers → (steps : List Step) → exportAll h steps ≡ performSteps (storeIn h) steps
+pub exported-list : (h : Handed) → length (h .passes) ≡ passNumbers → (block : Block) → length block ≡ blockBytes → (steps : List Step)
+    → exportAll h block steps ≡ performSteps (record { store = storeIn h; block = block }) steps
 unfolding exportAll performSteps
-exported-list h long [] = refl
-exported-list h long (step ∷ steps) =
-    let after : Store = performStep (storeIn h) step .store in
-    let places = tried-places (refusalOfStep step) (storeIn h) (passes-length (h .passes) 0 openLimit) (askedIn step) in
-    let written : length (numbersOf (after .head .passes)) ≡ passNumbers = omega (arith, numbers-length (after .head .passes), places) in
-    ap (_∷_ (performStep (storeIn h) step))
-    (exported-list (handedBack after) written steps ∙ ap (λ (s : Store). performSteps s steps) (store-back after places))
+exported-list h long block whole [] = refl
+exported-list h long block whole (step ∷ steps) =
+    let d : Device = record { store = storeIn h; block = block } in
+    let after : Device = deviceAfter d step in
+    let tried = tried-places (refusalOfStep step) (storeIn h) (passes-length (h .passes) 0 openLimit) (askedIn (operandsOf block) step) in
+    let places : Places (after .store) = subst Places (sym (store-after d step whole)) tried in
+    let written : length (numbersOf (after .store .head .passes)) ≡ passNumbers = omega (arith, numbers-length (after .store .head .passes), places) in
+    ap (_∷_ (performStep d step))
+    (exported-list (handedBack (after .store)) written (after .block) (long-after d step whole) steps
+    ∙ ap (λ (s : Store). performSteps (record { store = s; block = after .block }) steps) (store-back (after .store) places))

@@ -3,7 +3,7 @@ use Prim.Native.Nat.{ℕ, zero, suc, _+_, _-_, _≤_, _<_}
 use native.Mathlib.Omega.{arith}
 use mathlib.Core.Path.{_≡_, refl, ap, sym, subst, _∙_}
 use mathlib.Core.List.{List}
-use lib.ListN.{length, drop, length-set, length-replicate, drop-of-length-le}
+use lib.ListN.{length, take, drop, length-set, length-replicate, drop-of-length-le}
 use lib.Seq.{drop-set-lt}
 use Rattle.store.specs.declared.types.Head.{Head}
 use Rattle.store.specs.declared.types.OpenPass.{OpenPass}
@@ -21,11 +21,12 @@ use Rattle.refusals.proofs.RefusalParts.{none-of}
 use Rattle.refusals.proofs.FoundPasses.{found-facts}
 use Rattle.replies.specs.declared.types.Reply.{Reply}
 use Rattle.replies.specs.Replies.{RepliedAs}
-use Rattle.c_numbers.specs.Heads.{passNumbers, headOf}
-use Rattle.c_numbers.proofs.HeadNumbers.{passes-length}
-use Rattle.firmware.specs.Exported.{Handed, storeIn}
+use Rattle.words.specs.Overwrite.{overwrite}
+use Rattle.c_numbers.specs.Heads.{Fields, passNumbers, headOf, fieldsOf, numbersOf}
+use Rattle.c_numbers.proofs.HeadNumbers.{passes-length, others-kept}
+use Rattle.firmware.specs.Exported.{Handed, storeIn, handedBack}
 use Rattle.firmware.proofs.ExportedLaws.{KeepsFrom, is}
-use Rattle.firmware.proofs.ExportedLists.{places-stay}
+use Rattle.firmware.proofs.ExportedLists.{Places, places-stay}
 
 -- All places are all that there are
 pub all-places : (before after : Head) → length (before .passes) ≡ openLimit → length (after .passes) ≡ openLimit → KeepsFrom openLimit before after
@@ -35,6 +36,19 @@ all-places before after old new =
       few = omega arith;
       rest = drop-of-length-le (after .passes) {i = openLimit} (omega (arith, new)) ∙ sym (drop-of-length-le (before .passes) {i = openLimit} (omega (arith, old)));
     }
+
+-- A head whose places are all written in the places of the one before it
+pub written-back : (before : Handed) → length (before .passes) ≡ passNumbers → (s : Store) → Places s → {head : Head} → head ≡ s .head → {lent : Lent} → lent ≡ s .lent
+    → {fields : Fields} {passes : List ℕ} → fields ≡ fieldsOf head → passes ≡ overwrite (before .passes) 0 (numbersOf (take openLimit (head .passes)))
+    → record { fields = fields; passes = passes; lent = lent } ≡ handedBack s
+written-back before long s new is lent-is fs ps =
+    let kept = all-places (storeIn before .head) (s .head) (passes-length (before .passes) 0 openLimit) new in
+    let fields-are = fs ∙ ap fieldsOf is in
+    let passes-are =
+    ps
+    ∙ ap (λ (h : Head). overwrite (before .passes) 0 (numbersOf (take openLimit (h .passes)))) is
+    ∙ others-kept (before .passes) (s .head .passes) openLimit long new (kept .few) (kept .rest) in
+    λ i. record { fields = fields-are i; passes = passes-are i; lent = lent-is i }
 
 module _ (s : Store) (long : length (s .head .passes) ≡ openLimit) where
   pub opening-keeps : KeepsFrom openLimit (s .head) (perform s opening .store .head)

@@ -4,3 +4,4 @@ pub mod ExportedLists
 pub mod KeptPlaces
 pub mod PacketLaws
 pub mod BurstLaws
+pub mod BlockLaws

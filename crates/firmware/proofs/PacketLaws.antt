@@ -18,19 +18,19 @@ use Rattle.command.proofs.PieceSteps.{each-piece}
 use Rattle.pieces.specs.declared.pieces.Fed.{Fed}
 use Rattle.pieces.specs.Fed.{FedAs}
 use Rattle.c_numbers.specs.Heads.{Fields, passNumbers, headOf, fieldsOf, numbersOf}
-use Rattle.c_numbers.proofs.HeadNumbers.{passes-length, others-kept}
+use Rattle.c_numbers.proofs.HeadNumbers.{passes-length}
 use Rattle.firmware.specs.Exported.{Handed, storeIn, handedBack}
 use Rattle.firmware.specs.Packets.{Packet, LeavesOf, handedOn, exportPackets}
 use Rattle.firmware.proofs.ExportedLists.{store-back, places-stay, Places}
-use Rattle.firmware.proofs.KeptPlaces.{all-places}
+use Rattle.firmware.proofs.KeptPlaces.{written-back}
 
 -- A truth value as a byte
 pub as-byte : (b : Bool) → boolByte b ≡ cond b 1 0
 as-byte true = refl
 as-byte false = refl
 
--- Every packet leaves a head with as many places
-command-places : (s : Store) → Places s → (bytes : List ℕ) (kind : Kind) → Places (runKind s bytes kind .store)
+-- Every command and every packet leave a head with as many places
+pub command-places : (s : Store) → Places s → (bytes : List ℕ) (kind : Kind) → Places (runKind s bytes kind .store)
 command-places s long bytes unknown = long
 command-places s long bytes (command n call) = go (ltb (length bytes) n)
   where
@@ -56,21 +56,13 @@ module _ (room : ℕ) (ended : Bool) (before : Handed) (input : List ℕ) {head 
       → LeavesOf (runPiece room ended (storeIn before) input) (record { over = over; taken = r .taken; written = r .written; out = out′ }) out
       (record { fields = fields; passes = passes; lent = lent })
   packet-leaves long e fs ps =
-      let old = passes-length (before .passes) 0 openLimit in
-      let new = packet-places room ended (storeIn before) input old in
-      let kept = all-places (storeIn before .head) (runPiece room ended (storeIn before) input .store .head) old new in
-      let fields-are = fs ∙ ap fieldsOf (is .head) in
-      let passes-are =
-      ps
-      ∙ ap (λ (h : Head). overwrite (before .passes) 0 (numbersOf (take openLimit (h .passes)))) (is .head)
-      ∙ others-kept (before .passes) (runPiece room ended (storeIn before) input .store .head .passes) openLimit long new (kept .few) (kept .rest) in
-      let lent-is = is .lent-is in
+      let new = packet-places room ended (storeIn before) input (passes-length (before .passes) 0 openLimit) in
       record {
         over = e ∙ ap (λ (x : Bool). cond x 1 0) (is .over);
         taken = is .taken;
         written = is .size;
         output = is .output;
-        left = λ i. record { fields = fields-are i; passes = passes-are i; lent = lent-is i };
+        left = written-back before long (runPiece room ended (storeIn before) input .store) new (is .head) (is .lent-is) fs ps;
       }
 
 fed-places : (f : Feed) (p : Piece) → Places (f .store) → Places (feedAfter f p .store)

@@ -4,8 +4,10 @@ use mathlib.Core.Path.{_≡_}
 use mathlib.Core.List.{List, [], _∷_}
 use Rattle.store.specs.Trees.{Lent, Store}
 use Rattle.store.specs.Answers.{refusalOf, Answered}
+use Rattle.register_block.specs.Block.{Block}
+use Rattle.register_block.specs.Access.{Device}
 use Rattle.demand.specs.Bursts.{Entered}
-use Rattle.demand.specs.Steps.{Step, performStep}
+use Rattle.demand.specs.Steps.{Step, performStep, deviceAfter}
 use Rattle.c_numbers.specs.Heads.{Fields, headOf, fieldsOf, numbersOf}
 
 -- The head's numbers, its open passes as numbers, and the lent slices
@@ -27,7 +29,9 @@ pub record Leaves (a : Answered) (r : ℕ) (before after : Handed) : Type 0 wher
   pub left : after ≡ handedBack (a .store)
   pub kept : (r ≡ 0 → ⊥) → after ≡ before
 
--- Exported calls and bursts one after the other: each is handed what the one before left
-unfoldable pub exportAll : Handed → List Step → List Entered
-exportAll h [] = []
-exportAll h (step ∷ steps) = performStep (storeIn h) step ∷ exportAll (handedBack (performStep (storeIn h) step .store)) steps
+-- Exported calls one after the other, bursts and accesses to the block among them: each is handed what the one before left
+unfoldable pub exportAll : Handed → Block → List Step → List Entered
+exportAll h block [] = []
+exportAll h block (step ∷ steps) =
+    let d : Device = record { store = storeIn h; block = block } in
+    performStep d step ∷ exportAll (handedBack (deviceAfter d step .store)) (deviceAfter d step .block) steps

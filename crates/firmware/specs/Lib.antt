@@ -2,3 +2,4 @@
 pub mod Exported
 pub mod Packets
 pub mod BurstCalls
+pub mod BlockCalls

@@ -1,4 +1,5 @@
 // The store for firmware in C: calls on head fields as numbers and on lent slices.
+mod blocks;
 mod bursts;
 mod commands;
 mod lookups;

@@ -1,5 +1,4 @@
 // Pieces of the command stream, run on lent slices.
-mod answers;
 mod pieces;
 
 pub use pieces::Fed;

@@ -1,0 +1,2 @@
+-- Laws of commands that run through the register block.
+pub mod RunningLaws

@@ -1,0 +1,2 @@
+-- What running a command through the register block hands back.
+pub mod Running

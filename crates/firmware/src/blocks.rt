@@ -1,0 +1,113 @@
+// The register block of the radio chip, for C: 40 lent bytes, any of which are a block.
+use block_command::run_from_block;
+use c_numbers::head_of;
+use c_numbers::put_head;
+use registers::BLOCK_BYTES;
+use registers::RESET_MASK;
+use registers::line_high;
+use registers::read;
+use registers::reset;
+use registers::write_register;
+use store::Head;
+ghost use mathlib.Core.Path.{_≡_};
+ghost use mathlib.Core.Bool.{cond};
+ghost use Rattle.tree.specs.declared.types.TreeUse.{TreeUse};
+ghost use Rattle.store.specs.Trees.{Lent, lentOf};
+ghost use Rattle.register_block.specs.Block.{resetMask, clearBlock, readBlock, lineHigh};
+ghost use Rattle.c_numbers.specs.Heads.{Fields};
+ghost use Rattle.firmware.specs.Exported.{Handed};
+ghost use Rattle.firmware.specs.BlockCalls.{LeavesWrite};
+
+// "Reset clears the block": it is handed no store, so that it can change none.
+#[no_mangle]
+pub extern "C" fn nimbleshale_block_reset(block: &mut [u8; BLOCK_BYTES])
+    ensures { λ _. ⌜ now (block .exit) ≡ clearBlock resetMask ⌝ }
+{
+    reset(block, RESET_MASK);
+}
+
+// The byte that the radio side reads at an offset.
+#[no_mangle]
+pub extern "C" fn nimbleshale_block_read(block: &[u8; BLOCK_BYTES], offset: usize) -> u8
+    ensures { λ r. ⌜ r ≡ readBlock (now (block .entry)) offset ⌝ }
+{
+    read(block, offset)
+}
+
+// 1 where the interrupt line is high, and else 0.
+#[no_mangle]
+pub extern "C" fn nimbleshale_block_line(block: &[u8; BLOCK_BYTES]) -> u8
+    ensures { λ r. ⌜ r ≡ cond (lineHigh (now (block .entry))) 1 0 ⌝ }
+{
+    line_high(block) as u8
+}
+
+// The radio side writes a byte at an offset. A byte 0 runs a command; head and slices are then left as the stream's command leaves them.
+#[no_mangle]
+pub extern "C" fn nimbleshale_block_write(
+    last: &mut u32,
+    started: &mut u32,
+    count_open: &mut u32,
+    start_pages_used: &mut u32,
+    start_roots_used: &mut u32,
+    end_pages_used: &mut u32,
+    end_roots_used: &mut u32,
+    passes: &mut [u32; Head::PASS_NUMBERS],
+    start_table: &mut [u64],
+    start_roots: &mut [u64],
+    end_table: &mut [u64],
+    end_roots: &mut [u64],
+    block: &mut [u8; BLOCK_BYTES],
+    offset: usize,
+    value: u8,
+)
+    ensures { λ _. do
+      let beforeStarts : TreeUse = record { pages = now («start_pages_used» .entry); roots = now («start_roots_used» .entry) }
+      let beforeEnds : TreeUse = record { pages = now («end_pages_used» .entry); roots = now («end_roots_used» .entry) }
+      let beforeFields : Fields = record { last = now (last .entry); started = now (started .entry); count = now («count_open» .entry); starts = beforeStarts; ends = beforeEnds }
+      let beforeLent : Lent = lentOf (now («start_table» .entry)) (now («start_roots» .entry)) (now («end_table» .entry)) (now («end_roots» .entry))
+      let before : Handed = record { fields = beforeFields; passes = now (passes .entry); lent = beforeLent }
+      let afterStarts : TreeUse = record { pages = now («start_pages_used» .exit); roots = now («start_roots_used» .exit) }
+      let afterEnds : TreeUse = record { pages = now («end_pages_used» .exit); roots = now («end_roots_used» .exit) }
+      let afterFields : Fields = record { last = now (last .exit); started = now (started .exit); count = now («count_open» .exit); starts = afterStarts; ends = afterEnds }
+      let afterLent : Lent = lentOf (now («start_table» .exit)) (now («start_roots» .exit)) (now («end_table» .exit)) (now («end_roots» .exit))
+      let after : Handed = record { fields = afterFields; passes = now (passes .exit); lent = afterLent }
+      ⌜ LeavesWrite before (now (block .entry)) offset value after (now (block .exit)) ⌝ }
+{
+    // Most writes are of operands, which need no head.
+    if offset != 0 {
+        write_register(block, offset, value);
+        return;
+    }
+    let head = head_of(
+        *last,
+        *started,
+        *count_open,
+        *start_pages_used,
+        *start_roots_used,
+        *end_pages_used,
+        *end_roots_used,
+        passes,
+    );
+    let after = run_from_block(
+        head,
+        start_table,
+        start_roots,
+        end_table,
+        end_roots,
+        block,
+        value,
+    );
+    put_head(
+        after,
+        Head::PLACES,
+        last,
+        started,
+        count_open,
+        start_pages_used,
+        start_roots_used,
+        end_pages_used,
+        end_roots_used,
+        passes,
+    );
+}

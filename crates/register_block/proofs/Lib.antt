@@ -1,0 +1,5 @@
+-- What the definitions of the register block come to.
+pub mod WriteCases
+pub mod BlockLengths
+pub mod BlockBytes
+pub mod BlockReadings
