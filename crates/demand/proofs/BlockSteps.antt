@@ -15,7 +15,7 @@ use Rattle.store.specs.Answers.{Answered}
 use Rattle.command.specs.Stream.{Kind, unknown, command, startCommand, endCommand, questionCommand, kindOf, written, answered, Ran, runOne}
 use Rattle.command.proofs.AnswerLengths.{output-fits}
 use Rattle.command.proofs.KindLaws.{by-kind, whole}
-use Rattle.register_block.specs.Block.{Block, blockBytes, commandAt, operandsAt, operandCount, statusAt, flagsAt, maskAt, flagsIn, flagByte, flagsOf, flagsCleared, operandsOf, isOperand, resetMask, registerWritten, showing}
+use Rattle.register_block.specs.Block.{Block, blockBytes, commandAt, operandsAt, operandCount, operandsEnd, flagsAt, maskAt, flagsIn, flagByte, flagsOf, flagsCleared, operandsOf, isOperand, resetMask, registerWritten, showing}
 use Rattle.register_block.specs.Access.{Device, runFromBlock, Access, reset, read, write, accessed}
 use Rattle.register_block.proofs.BlockBytes.{rest-stays}
 use Rattle.register_block.proofs.BlockLengths.{run-length}
@@ -37,7 +37,7 @@ command-keeps d value long =
     let here : i < operandCount = omega (arith, many, inside) in
     getD-take operandCount (drop operandsAt after) i 0 here
     ∙ getD-drop operandsAt after i 0
-    ∙ rest-stays (d .block) value (r .output) (r .store .head .count) long (output-fits (d .store) value (operandsOf (d .block))) (operandsAt + i) (omega (arith, here))
+    ∙ rest-stays (d .block) value _ _ (r .output) long (output-fits (d .store) value (operandsOf (d .block))) (operandsAt + i) (omega (arith, here))
     (λ e. omega (arith, e)) (λ e. omega (arith, e, here)) (λ e. omega (arith, e, here))
     ∙ sym (getD-take operandCount (drop operandsAt (d .block)) i 0 here ∙ getD-drop operandsAt (d .block) i 0))
 
@@ -51,17 +51,17 @@ operand-set b i value h = ap (take operandCount) (drop-set-add operandsAt b i va
 -- A write that runs no command
 register-keeps : (b : Block) (offset value : ℕ)
     → operandsOf (registerWritten b offset value) ≡ cond (isOperand offset) (set (operandsOf b) (offset - operandsAt) value) (operandsOf b)
-register-keeps b offset value = go (eqb offset flagsAt) (eqb offset maskAt) (ltb commandAt offset) (ltb offset statusAt) refl refl refl refl
+register-keeps b offset value = go (eqb offset flagsAt) (eqb offset maskAt) (ltb commandAt offset) (ltb offset operandsEnd) refl refl refl refl
   where
     cleared : ℕ
     cleared = flagByte (flagsCleared (flagsOf b) (flagsIn value))
 
-    go : (w x y z : Bool) → eqb offset flagsAt ≡ w → eqb offset maskAt ≡ x → ltb commandAt offset ≡ y → ltb offset statusAt ≡ z
+    go : (w x y z : Bool) → eqb offset flagsAt ≡ w → eqb offset maskAt ≡ x → ltb commandAt offset ≡ y → ltb offset operandsEnd ≡ z
         → operandsOf (cond w (set b flagsAt cleared) (cond x (set b maskAt value) (cond (y && z) (set b offset value) b)))
         ≡ cond (y && z) (set (operandsOf b) (offset - operandsAt) value) (operandsOf b)
-    go w x true true e f g h = inside w x e f (ltb-true commandAt offset g) (ltb-true offset statusAt h)
+    go w x true true e f g h = inside w x e f (ltb-true commandAt offset g) (ltb-true offset operandsEnd h)
       where
-        inside : (w x : Bool) → eqb offset flagsAt ≡ w → eqb offset maskAt ≡ x → commandAt < offset → offset < statusAt
+        inside : (w x : Bool) → eqb offset flagsAt ≡ w → eqb offset maskAt ≡ x → commandAt < offset → offset < operandsEnd
             → operandsOf (cond w (set b flagsAt cleared) (cond x (set b maskAt value) (set b offset value))) ≡ set (operandsOf b) (offset - operandsAt) value
         inside true x e f low high = absurd (omega (arith, eqb-true offset flagsAt e, high))
         inside false true e f low high = absurd (omega (arith, eqb-true offset maskAt f, high))

@@ -8,10 +8,11 @@ use lib.ListN.{length, getD, set, drop, replicate, length-set, List·getD-append
 use lib.Seq.{getD-set-same, getD-set-other, getD-append-add, getD-drop}
 use lib.Dec.{eqb, ltb}
 use borrow.Author.Tests.{eqb-true, ltb-true, ltb-false}
+use Rattle.words.specs.Overwrite.{overwrite}
 use Rattle.words.proofs.OverwriteLaws.{word-inside, word-before}
 use Rattle.command.specs.Stream.{longestAnswer}
-use Rattle.register_block.specs.Block.{Block, blockBytes, commandAt, statusAt, flagsAt, maskAt, resultAt, resultCount, flagsIn, flagByte, flagsOf, flagsCleared, flagsShown, isOperand, registerWritten, statusShown, zeroFilled, resultShown, showing}
-use Rattle.register_block.proofs.BlockLengths.{result-length, unresulted, unresulted-length, result-fits}
+use Rattle.register_block.specs.Block.{Block, blockBytes, commandAt, statusAt, flagsAt, maskAt, resultAt, resultCount, flagsIn, flagByte, flagsOf, flagsCleared, isOperand, registerWritten, zeroFilled, resultShown, marked}
+use Rattle.register_block.proofs.BlockLengths.{result-length, result-fits}
 
 -- A write to a register changes no other byte
 pub others-stay : (b : Block) (offset value i : ℕ) → (i ≡ offset → ⊥) → getD (registerWritten b offset value) i 0 ≡ getD b i 0
@@ -41,43 +42,38 @@ filled-byte count bytes i h = go (ltb i (length bytes)) refl
         ∙ getD-replicate (count - length bytes) (i - length bytes) 0 0 (omega (arith, h, behind))
         ∙ sym (List·getD-eq-default bytes 0 behind)
 
--- Every byte of a block that shows a command's output
-module _ (b : Block) (command : ℕ) (output : List ℕ) (openCount : ℕ) (long : length b ≡ blockBytes) (short : length output ≤ longestAnswer) where
+-- Every byte of a block that shows a command's output, whatever its status and flags
+module _ (b : Block) (command status flags : ℕ) (output : List ℕ) (long : length b ≡ blockBytes) (short : length output ≤ longestAnswer) where
   abbrev after : Block
-  after = showing b command output openCount
+  after = overwrite (marked b command status flags) resultAt (resultShown output)
 
-  abbrev middle : Block
-  middle = unresulted b command output openCount long short
-
-  abbrev status : ℕ
-  status = statusShown output
-
-  abbrev flags : ℕ
-  flags = flagByte (flagsShown (statusShown output) openCount)
-
-  before-result : (i : ℕ) → i < resultAt → getD after i 0 ≡ getD middle i 0
-  before-result = word-before middle resultAt (resultShown output) (result-fits b command output openCount long short)
+  before-result : (i : ℕ) → i < resultAt → getD after i 0 ≡ getD (marked b command status flags) i 0
+  before-result = word-before (marked b command status flags) resultAt (resultShown output) (result-fits b command status flags output long short)
 
   pub command-shown : getD after commandAt 0 ≡ command
+  unfolding marked
   command-shown =
       before-result commandAt (omega arith)
       ∙ getD-set-other (set (set b commandAt command) statusAt status) flagsAt commandAt flags 0 (λ e. omega (arith, e))
       ∙ getD-set-other (set b commandAt command) statusAt commandAt status 0 (λ e. omega (arith, e))
       ∙ getD-set-same b commandAt command 0 (omega (arith, long))
 
-  pub status-shown : getD after statusAt 0 ≡ statusShown output
+  pub status-shown : getD after statusAt 0 ≡ status
+  unfolding marked
   status-shown =
       before-result statusAt (omega arith)
       ∙ getD-set-other (set (set b commandAt command) statusAt status) flagsAt statusAt flags 0 (λ e. omega (arith, e))
       ∙ getD-set-same (set b commandAt command) statusAt status 0 (omega (arith, long, length-set b commandAt command))
 
-  pub flags-shown : getD after flagsAt 0 ≡ flagByte (flagsShown (statusShown output) openCount)
+  pub flags-shown : getD after flagsAt 0 ≡ flags
+  unfolding marked
   flags-shown =
       let wide = length-set (set b commandAt command) statusAt status ∙ length-set b commandAt command in
       before-result flagsAt (omega arith) ∙ getD-set-same (set (set b commandAt command) statusAt status) flagsAt flags 0 (omega (arith, long, wide))
 
   -- Operands and mask
   pub rest-stays : (i : ℕ) → i < resultAt → (i ≡ commandAt → ⊥) → (i ≡ statusAt → ⊥) → (i ≡ flagsAt → ⊥) → getD after i 0 ≡ getD b i 0
+  unfolding marked
   rest-stays i h c s f =
       before-result i h
       ∙ getD-set-other (set (set b commandAt command) statusAt status) flagsAt i flags 0 f
@@ -86,7 +82,8 @@ module _ (b : Block) (command : ℕ) (output : List ℕ) (openCount : ℕ) (long
 
   pub result-shown : (i : ℕ) → i < resultCount → getD after (resultAt + i) 0 ≡ getD output (suc i) 0
   result-shown i h =
-      word-inside middle resultAt (resultShown output) (result-fits b command output openCount long short) i (omega (arith, result-length output short, h))
+      word-inside (marked b command status flags) resultAt (resultShown output) (result-fits b command status flags output long short) i
+      (omega (arith, result-length output short, h))
       ∙ filled-byte resultCount (drop 1 output) i h
       ∙ getD-drop 1 output i 0
       ∙ ap (λ (n : ℕ). getD output n 0) next

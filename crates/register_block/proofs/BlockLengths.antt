@@ -6,10 +6,11 @@ use mathlib.Core.Bool.{Bool, true, false, cond}
 use mathlib.Core.List.{List}
 use lib.ListN.{length, set, drop, replicate, length-append, length-drop, length-set, length-replicate}
 use lib.Dec.{eqb}
+use Rattle.words.specs.Overwrite.{overwrite}
 use Rattle.words.proofs.OverwriteLaws.{overwrite-length}
-use Rattle.command.specs.Stream.{longestAnswer, Ran, runOne}
+use Rattle.command.specs.Stream.{longestAnswer, runOne}
 use Rattle.command.proofs.AnswerLengths.{output-fits}
-use Rattle.register_block.specs.Block.{Block, blockBytes, commandAt, statusAt, flagsAt, maskAt, resultAt, resultCount, flagsIn, flagByte, flagsOf, flagsCleared, flagsShown, clearBlock, isOperand, registerWritten, operandsOf, statusShown, resultShown, showing}
+use Rattle.register_block.specs.Block.{Block, blockBytes, commandAt, statusAt, flagsAt, maskAt, resultAt, resultCount, flagsIn, flagByte, flagsOf, flagsCleared, clearBlock, isOperand, registerWritten, operandsOf, resultShown, marked}
 use Rattle.register_block.specs.Access.{Device, runFromBlock, writeDevice, Access, reset, read, write, accessed}
 
 pub cleared-length : (mask : ℕ) → length (clearBlock mask) ≡ blockBytes
@@ -32,28 +33,22 @@ result-length output h =
     length-append (drop 1 output) (replicate (resultCount - length (drop 1 output)) 0)
     ∙ omega (arith, length-drop 1 output, length-replicate {A = ℕ} (resultCount - length (drop 1 output)) 0)
 
-module _ (b : Block) (command : ℕ) (output : List ℕ) (openCount : ℕ) (long : length b ≡ blockBytes) (short : length output ≤ longestAnswer) where
-  -- The block before its result is written
-  abbrev pub unresulted : Block
-  unresulted = set (set (set b commandAt command) statusAt (statusShown output)) flagsAt (flagByte (flagsShown (statusShown output) openCount))
+pub marked-length : (b : Block) (command status flags : ℕ) → length (marked b command status flags) ≡ length b
+unfolding marked
+marked-length b command status flags =
+    length-set (set (set b commandAt command) statusAt status) flagsAt flags ∙ length-set (set b commandAt command) statusAt status ∙ length-set b commandAt command
 
-  pub unresulted-length : length unresulted ≡ blockBytes
-  unresulted-length =
-      length-set (set (set b commandAt command) statusAt (statusShown output)) flagsAt _
-      ∙ length-set (set b commandAt command) statusAt _
-      ∙ length-set b commandAt command
-      ∙ long
+-- A result has its place behind whatever command, status and flags
+module _ (b : Block) (command status flags : ℕ) (output : List ℕ) (long : length b ≡ blockBytes) (short : length output ≤ longestAnswer) where
+  pub result-fits : resultAt + length (resultShown output) ≤ length (marked b command status flags)
+  result-fits = omega (arith, result-length output short, marked-length b command status flags, long)
 
-  pub result-fits : resultAt + length (resultShown output) ≤ length unresulted
-  result-fits = omega (arith, result-length output short, unresulted-length)
-
-  pub showing-length : length (showing b command output openCount) ≡ blockBytes
-  showing-length = overwrite-length unresulted resultAt (resultShown output) result-fits ∙ unresulted-length
+  pub shown-length : length (overwrite (marked b command status flags) resultAt (resultShown output)) ≡ blockBytes
+  shown-length = overwrite-length (marked b command status flags) resultAt (resultShown output) result-fits ∙ marked-length b command status flags ∙ long
 
 pub run-length : (d : Device) (command : ℕ) → length (d .block) ≡ blockBytes → length (runFromBlock d command .block) ≡ blockBytes
 run-length d command long =
-    let r : Ran = runOne (d .store) command (operandsOf (d .block)) in
-    showing-length (d .block) command (r .output) (r .store .head .count) long (output-fits (d .store) command (operandsOf (d .block)))
+    shown-length (d .block) command _ _ (runOne (d .store) command (operandsOf (d .block)) .output) long (output-fits (d .store) command (operandsOf (d .block)))
 
 pub write-length : (d : Device) (offset value : ℕ) → length (d .block) ≡ blockBytes → length (writeDevice d offset value .block) ≡ blockBytes
 write-length d offset value long = go (eqb offset commandAt)

@@ -27,18 +27,18 @@ module _ (b : Block) where
   abbrev reads : (flags registers : Bool) (offset : ℕ) → ℕ
   reads x y offset = cond x (flagByte (flagsOf b)) (cond y (getD b offset 0) 0)
 
+  -- "other offsets read zero": all those past the registers, 40 and more among them
+  pub others-read-zero : (offset : ℕ) → registersEnd ≤ offset → readBlock b offset ≡ 0
+  others-read-zero offset h =
+      ap (λ (x : Bool). reads x (ltb offset registersEnd) offset) (ne-eqb offset flagsAt (λ e. omega (arith, e)))
+      ∙ ap (λ (y : Bool). reads false y offset) (le-ltb offset registersEnd h)
+
   pub read-flags : readBlock b flagsAt ≡ flagByte (flagsOf b)
   read-flags = refl
 
   pub read-register : (offset : ℕ) → (offset ≡ flagsAt → ⊥) → offset < registersEnd → readBlock b offset ≡ getD b offset 0
   read-register offset n h =
       ap (λ (x : Bool). reads x (ltb offset registersEnd) offset) (ne-eqb offset flagsAt n) ∙ ap (λ (y : Bool). reads false y offset) (lt-ltb offset registersEnd h)
-
-  -- "other offsets read zero": all those past the registers, 40 and more among them
-  pub others-read-zero : (offset : ℕ) → registersEnd ≤ offset → readBlock b offset ≡ 0
-  others-read-zero offset h =
-      ap (λ (x : Bool). reads x (ltb offset registersEnd) offset) (ne-eqb offset flagsAt (λ e. omega (arith, e)))
-      ∙ ap (λ (y : Bool). reads false y offset) (le-ltb offset registersEnd h)
 
 -- A byte holds three flags as they are
 pub flags-held : (f : Flags) → flagsIn (flagByte f) ≡ f
@@ -75,7 +75,7 @@ reset-keeps-store d mask = refl
 pub ignored : (d : Device) (offset value : ℕ) → (offset ≡ statusAt) ⊎ (resultAt ≤ offset) → writeDevice d offset value ≡ d
 ignored d offset value at =
     ap (λ (x : Bool). cond x (runFromBlock d value) (record { store = d .store; block = registerWritten (d .block) offset value })) (ne-eqb offset commandAt (λ e. omega (arith, e, past at)))
-    ∙ ap (λ (b : Block). record { store = d .store; block = b }) (not-written (d .block) offset value (apart at flagsAt (omega arith) (λ f. omega (arith, f))) (apart at maskAt (omega arith) (λ f. omega (arith, f))) (inr (past at)))
+    ∙ ap (λ (b : Block). record { store = d .store; block = b }) (not-written (d .block) offset value (apart at flagsAt (omega arith) (λ f. omega (arith, f))) (apart at maskAt (omega arith) (λ f. omega (arith, f))) (inr (omega (arith, past at))))
   where
     past : (offset ≡ statusAt) ⊎ (resultAt ≤ offset) → statusAt ≤ offset
     past (inl is) = omega (arith, is)
@@ -135,17 +135,17 @@ module _ (d : Device) (command : ℕ) (long : length (d .block) ≡ blockBytes) 
 
   -- "Status is the first output byte and the result what follows, zero filled."
   pub status-read : readBlock after statusAt ≡ getD (ran .output) 0 0
-  status-read = status-shown (d .block) command (ran .output) (ran .store .head .count) long short
+  status-read = status-shown (d .block) command _ _ (ran .output) long short
 
   pub result-read : (i : ℕ) → i < resultCount → readBlock after (resultAt + i) ≡ getD (ran .output) (suc i) 0
   result-read i h =
       read-register after (resultAt + i) (λ e. omega (arith, e)) (omega (arith, h))
-      ∙ result-shown (d .block) command (ran .output) (ran .store .head .count) long short i h
+      ∙ result-shown (d .block) command _ _ (ran .output) long short i h
 
   -- "Flag bit 0 is done, set by refused commands too, bit 1 refused, bit 2 64 open after the command; each command sets all three anew."
   pub flags-read : flagsOf after ≡ record { done = true; refused = not (eqb (readBlock after statusAt) 0); full = eqb (ran .store .head .count) 64 }
   flags-read =
-      ap flagsIn (flags-shown (d .block) command (ran .output) (ran .store .head .count) long short)
+      ap flagsIn (flags-shown (d .block) command _ _ (ran .output) long short)
       ∙ flags-held (flagsShown (statusShown (ran .output)) (ran .store .head .count))
       ∙ sym (ap (λ (status : ℕ). flagsShown status (ran .store .head .count)) status-read)
 
@@ -200,7 +200,7 @@ module _ (mask offset : ℕ) (held : IsHeld offset) where
     where
       go : IsHeld offset → getD (registerWritten b offset value) offset 0 ≡ value
       go (inl h) =
-          ap (λ (x : Block). getD x offset 0) (operand-written b offset value (omega (arith, n)) h) ∙ getD-set-same b offset value 0 (omega (arith, long, low))
+          ap (λ (x : Block). getD x offset 0) (operand-written b offset value (omega (arith, n)) (omega (arith, h))) ∙ getD-set-same b offset value 0 (omega (arith, long, low))
       go (inr e) =
           ap (λ (x : Block). getD x offset 0) (mask-written b offset value e)
           ∙ ap (λ (i : ℕ). getD (set b maskAt value) i 0) e
@@ -218,9 +218,9 @@ module _ (mask offset : ℕ) (held : IsHeld offset) where
           ≡ cond y value (getD (d .block) offset 0)
       go true true e f =
           ap (λ (i : ℕ). getD (runFromBlock d value .block) i 0) (sym (eqb-true other offset f) ∙ eqb-true other commandAt e)
-          ∙ command-shown (d .block) value (r .output) (r .store .head .count) long (output-fits (d .store) value (operandsOf (d .block)))
+          ∙ command-shown (d .block) value _ _ (r .output) long (output-fits (d .store) value (operandsOf (d .block)))
       go true false e f =
-          rest-stays (d .block) value (r .output) (r .store .head .count) long (output-fits (d .store) value (operandsOf (d .block))) offset low
+          rest-stays (d .block) value _ _ (r .output) long (output-fits (d .store) value (operandsOf (d .block))) offset low
           (λ is. eqb-false other offset f (eqb-true other commandAt e ∙ sym is)) no-status no-flags
       go false true e f =
           ap (λ (i : ℕ). getD (registerWritten (d .block) i value) offset 0) (eqb-true other offset f)

@@ -7,7 +7,7 @@ use mathlib.Core.Logic.{_⊎_, inl, inr}
 use lib.ListN.{set}
 use lib.Dec.{eqb, ltb}
 use borrow.Author.Tests.{eq-eqb, ne-eqb, lt-ltb, le-ltb}
-use Rattle.register_block.specs.Block.{Block, commandAt, statusAt, flagsAt, maskAt, flagsIn, flagByte, flagsOf, flagsCleared, isOperand, registerWritten}
+use Rattle.register_block.specs.Block.{Block, commandAt, operandsEnd, flagsAt, maskAt, flagsIn, flagByte, flagsOf, flagsCleared, isOperand, registerWritten}
 
 module _ (b : Block) (offset value : ℕ) where
   abbrev tested : (flags mask operand : Bool) → Block
@@ -25,18 +25,18 @@ module _ (b : Block) (offset value : ℕ) where
   neither : (offset ≡ flagsAt → ⊥) → (offset ≡ maskAt → ⊥) → registerWritten b offset value ≡ tested false false (isOperand offset)
   neither n m = not-flags n ∙ ap (λ (x : Bool). tested false x (isOperand offset)) (ne-eqb offset maskAt m)
 
-  pub operand-written : commandAt < offset → offset < statusAt → registerWritten b offset value ≡ set b offset value
+  pub operand-written : commandAt < offset → offset < operandsEnd → registerWritten b offset value ≡ set b offset value
   operand-written low high =
       neither (λ e. omega (arith, e, high)) (λ e. omega (arith, e, high))
-      ∙ ap₂ (λ (x y : Bool). tested false false (x && y)) (lt-ltb commandAt offset low) (lt-ltb offset statusAt high)
+      ∙ ap₂ (λ (x y : Bool). tested false false (x && y)) (lt-ltb commandAt offset low) (lt-ltb offset operandsEnd high)
 
-  pub not-written : (offset ≡ flagsAt → ⊥) → (offset ≡ maskAt → ⊥) → (offset ≤ commandAt) ⊎ (statusAt ≤ offset) → registerWritten b offset value ≡ b
+  pub not-written : (offset ≡ flagsAt → ⊥) → (offset ≡ maskAt → ⊥) → (offset ≤ commandAt) ⊎ (operandsEnd ≤ offset) → registerWritten b offset value ≡ b
   not-written n m outside = neither n m ∙ ap (tested false false) (no-operand outside)
     where
       and-false : (x : Bool) → x && false ≡ false
       and-false true = refl
       and-false false = refl
 
-      no-operand : (offset ≤ commandAt) ⊎ (statusAt ≤ offset) → isOperand offset ≡ false
-      no-operand (inl low) = ap (λ (x : Bool). x && ltb offset statusAt) (le-ltb commandAt offset low)
-      no-operand (inr high) = ap (_&&_ (ltb commandAt offset)) (le-ltb offset statusAt high) ∙ and-false (ltb commandAt offset)
+      no-operand : (offset ≤ commandAt) ⊎ (operandsEnd ≤ offset) → isOperand offset ≡ false
+      no-operand (inl low) = ap (λ (x : Bool). x && ltb offset operandsEnd) (le-ltb commandAt offset low)
+      no-operand (inr high) = ap (_&&_ (ltb commandAt offset)) (le-ltb offset operandsEnd high) ∙ and-false (ltb commandAt offset)

@@ -39,7 +39,10 @@ resultAt = 16
 abbrev pub resultCount : ℕ
 resultCount = 17
 
--- Behind the last register
+-- Behind the last operand, and behind the last register
+abbrev pub operandsEnd : ℕ
+operandsEnd = 13
+
 abbrev pub registersEnd : ℕ
 registersEnd = 33
 
@@ -85,7 +88,7 @@ flagsCleared f ones =
 
 -- A write that runs no command. "Status and result can't be written"; "other offsets read zero and ignore writes"
 abbrev pub isOperand : (offset : ℕ) → Bool
-isOperand offset = ltb commandAt offset && ltb offset statusAt
+isOperand offset = ltb commandAt offset && ltb offset operandsEnd
 
 abbrev pub registerWritten : Block → (offset value : ℕ) → Block
 registerWritten b offset value =
@@ -107,8 +110,11 @@ resultShown output = zeroFilled resultCount (drop 1 output)
 abbrev pub flagsShown : (status openCount : ℕ) → Flags
 flagsShown status openCount = record { done = true; refused = not (eqb status 0); full = eqb openCount openLimit }
 
--- A block after a command with this output, and so many passes open behind it
+-- The block with a command, its status and its flags
+unfoldable pub marked : Block → (command status flags : ℕ) → Block
+marked b command status flags = set (set (set b commandAt command) statusAt status) flagsAt flags
+
+-- The block after a command with this output, and so many passes open behind it
 abbrev pub showing : Block → (command : ℕ) (output : List ℕ) (openCount : ℕ) → Block
 showing b command output openCount =
-    overwrite (set (set (set b commandAt command) statusAt (statusShown output)) flagsAt (flagByte (flagsShown (statusShown output) openCount))) resultAt
-    (resultShown output)
+    overwrite (marked b command (statusShown output) (flagByte (flagsShown (statusShown output) openCount))) resultAt (resultShown output)

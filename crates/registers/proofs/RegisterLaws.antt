@@ -2,7 +2,7 @@
 use Prim.Native.Nat.{ℕ, zero, suc, _+_, _-_, _≤_, _%_}
 use native.Mathlib.Omega.{arith}
 use mathlib.Core.Path.{_≡_, refl, ap, ap₂, sym, _∙_}
-use mathlib.Core.Bool.{Bool, true, false, _&&_, _||_}
+use mathlib.Core.Bool.{Bool, true, false, not, _&&_, _||_}
 use mathlib.Core.List.{List, [], _∷_, _++_}
 use lib.ListN.{length, set, replicate, length-append, length-set}
 use Rattle.words.specs.Overwrite.{overwrite}
@@ -14,7 +14,22 @@ use Rattle.codec.proofs.ByteLaws.{bytes-length}
 use Rattle.command.specs.Stream.{widthsOf, spelled, written}
 use Rattle.command.proofs.AnswerLengths.{written-fits}
 use Rattle.register_block.specs.declared.flags.Flags.{Flags}
-use Rattle.register_block.specs.Block.{Block, blockBytes, commandAt, statusAt, flagsAt, maskAt, resultAt, resultCount, registersEnd, flagByte, anyOfBoth, clearBlock, flagsShown, statusShown, resultShown, showing}
+use Rattle.register_block.specs.Block.{Block, blockBytes, commandAt, statusAt, flagsAt, maskAt, resultAt, resultCount, registersEnd, flagByte, anyOfBoth, clearBlock, flagsShown, statusShown, resultShown, marked, showing}
+
+-- A flag that a one is written to, and one that none is written to
+pub flag-cleared : (flag : Bool) {one : Bool} → one ≡ true → false ≡ flag && not one
+flag-cleared flag e = sym (ap (λ (x : Bool). flag && not x) e ∙ none flag)
+  where
+    none : (x : Bool) → x && false ≡ false
+    none true = refl
+    none false = refl
+
+pub flag-left : (flag : Bool) {one : Bool} → one ≡ false → flag ≡ flag && not one
+flag-left flag e = sym (ap (λ (x : Bool). flag && not x) e ∙ same flag)
+  where
+    same : (x : Bool) → x && true ≡ x
+    same true = refl
+    same false = refl
 
 -- The three tests of the line
 module _ (f m : Flags) where
@@ -57,22 +72,15 @@ module _ (a : Answer) where
   unfolding bytesOf
   what-follows = refl
 
--- The block with the answer's first byte and its flags, before the values are written
-abbrev pub withStatus : (b : Block) (command status flags : ℕ) → Block
-withStatus b command status flags = set (set (set b commandAt command) statusAt status) flagsAt flags
-
-module _ (b : Block) (command : ℕ) (a : Answer) (openCount : ℕ) {status : ℕ} (is : status ≡ refusalOf a) (byte : status ≤ 255) {flags : ℕ}
-    (fs : flags ≡ flagByte (flagsShown status openCount)) where
-  pub answer-shown : resultAt + resultCount ≤ length (withStatus b command status flags)
-      → {m : Block} → m ≡ overwrite (withStatus b command status flags) resultAt (values a) → {end : ℕ} → end ≡ resultAt + length (values a)
-      → {after : Block} → after ≡ overwrite m end (bytesOf (registersEnd - end) 0) → after ≡ showing b command (written a) openCount
-  answer-shown room {m} ms {end} ends last =
-      let rest : registersEnd - end ≡ resultCount - length (values a) = omega (arith, ends) in
-      let shown = sym (first-byte a is byte) in
-      let marked : withStatus b command status flags ≡ withStatus b command (statusShown (written a)) (flagByte (flagsShown (statusShown (written a)) openCount)) =
-      ap₂ (withStatus b command) shown (fs ∙ ap (λ (x : ℕ). flagByte (flagsShown x openCount)) shown) in
-      last
-      ∙ ap₂ (λ (x : Block) (n : ℕ). overwrite x end (bytesOf n 0)) ms rest
-      ∙ overwrite-more (withStatus b command status flags) resultAt (values a) (omega (arith, values-fit a)) end (bytesOf (resultCount - length (values a)) 0) ends
-      ∙ ap₂ (λ (x : Block) (zeros : List ℕ). overwrite x resultAt (values a ++ zeros)) marked (zero-bytes (resultCount - length (values a)))
-      ∙ ap (overwrite (withStatus b command (statusShown (written a)) (flagByte (flagsShown (statusShown (written a)) openCount))) resultAt) (sym (what-follows a))
+pub answer-shown : (b : Block) (command : ℕ) (a : Answer) (openCount : ℕ) {status : ℕ} → status ≡ refusalOf a → status ≤ 255
+    → {x : Block} → x ≡ marked b command status (flagByte (flagsShown status openCount)) → resultAt + resultCount ≤ length x
+    → {m : Block} → m ≡ overwrite x resultAt (values a) → {end : ℕ} → end ≡ resultAt + length (values a)
+    → {after : Block} → after ≡ overwrite m end (bytesOf (registersEnd - end) 0) → after ≡ showing b command (written a) openCount
+answer-shown b command a openCount {status} is byte {x} xs room {m} ms {end} ends last =
+    let rest : registersEnd - end ≡ resultCount - length (values a) = omega (arith, ends) in
+    let as-shown = xs ∙ ap (λ (n : ℕ). marked b command n (flagByte (flagsShown n openCount))) (sym (first-byte a is byte)) in
+    last
+    ∙ ap₂ (λ (l : Block) (n : ℕ). overwrite l end (bytesOf n 0)) ms rest
+    ∙ overwrite-more x resultAt (values a) (omega (arith, values-fit a, room)) end (bytesOf (resultCount - length (values a)) 0) ends
+    ∙ ap₂ (λ (l : Block) (zeros : List ℕ). overwrite l resultAt (values a ++ zeros)) as-shown (zero-bytes (resultCount - length (values a)))
+    ∙ ap (overwrite (marked b command (statusShown (written a)) (flagByte (flagsShown (statusShown (written a)) openCount))) resultAt) (sym (what-follows a))

@@ -43,10 +43,10 @@ pub fn flag_byte(flags: Flags) -> u8
 fn left(flag: bool, one: bool) -> bool
     ensures { λ r. ⌜ r ≡ flag && not one ⌝ }
 {
-    if flag {
-        return !one;
+    if one {
+        return false;
     }
-    false
+    flag
 }
 
 // "Writing ones to 14 clears those flags."

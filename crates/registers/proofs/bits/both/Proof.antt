@@ -1,6 +1,5 @@
 use mathlib.Core.Path.{ap, sym}
 use mathlib.Core.Bool.{Bool, _&&_}
-use borrow.Author.Needs.{needs}
 use Rattle.registers.proofs.bits.both.Statement.{statement}
 use Rattle.registers.proofs.bits.both.Tie as tie
 
