@@ -3,4 +3,5 @@ mod numbers;
 
 pub use numbers::number2;
 pub use numbers::number4;
+pub use numbers::put_bytes;
 pub use numbers::put_number;

@@ -44,3 +44,15 @@ pub fn put_number(out: &mut [u8], from: usize, count: usize, number: u64)
         at += 1;
     }
 }
+
+// Writes bytes over others from a place on.
+pub fn put_bytes(out: &mut [u8], from: usize, bytes: &[u8])
+    requires { ⌜ from + length (now bytes) ≤ length (now out) ⌝ }
+    ensures { λ _. ⌜ now (out .exit) ≡ overwrite (now (out .entry)) from (now (bytes .entry)) ⌝ }
+{
+    let mut at: usize = 0;
+    while at < bytes.len() {
+        out[from + at] = bytes[at];
+        at += 1;
+    }
+}

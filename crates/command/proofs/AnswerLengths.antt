@@ -9,7 +9,8 @@ use Rattle.store.specs.declared.types.Answer.the-variants.{Refused, Opened, Sta
 use Rattle.store.specs.Trees.{Store}
 use Rattle.codec.specs.Bytes.{bytesOf}
 use Rattle.codec.proofs.ByteLaws.{bytes-length}
-use Rattle.command.specs.Stream.{kindOf, written, longestAnswer, answered, runOne}
+use Rattle.store.specs.Answers.{refusalOf, valuesOf}
+use Rattle.command.specs.Stream.{kindOf, widthsOf, spelled, written, longestAnswer, answered, runOne}
 
 -- A code with no value behind it
 pub code-only : (n : ℕ) → bytesOf 1 n ++ [] ≡ bytesOf 1 n
@@ -41,7 +42,7 @@ totals-length count sum pages =
       bytes-length 8 sum,
     )
 
-pub written-fits : (a : Answer) → length (written a) ≤ longestAnswer
+written-fits : (a : Answer) → length (written a) ≤ longestAnswer
 written-fits (Refused n) = omega (arith, code-length n)
 written-fits Opened = omega (arith, code-length 0)
 written-fits (Started n) = omega (arith, started-length n)
@@ -50,3 +51,9 @@ written-fits (Totals count sum pages) = omega (arith, totals-length count sum pa
 
 pub output-fits : (s : Store) (code : ℕ) (bytes : List ℕ) → length (runOne s code bytes .output) ≤ longestAnswer
 output-fits s code bytes = written-fits (answered s bytes (kindOf code) .answer)
+
+-- Whatever a command answers begins with a byte
+pub output-begins : (s : Store) (code : ℕ) (bytes : List ℕ) → 1 ≤ length (runOne s code bytes .output)
+output-begins s code bytes =
+    let a : Answer = answered s bytes (kindOf code) .answer in
+    omega (arith, length-append (bytesOf 1 (refusalOf a)) (spelled (widthsOf a) (valuesOf a)), bytes-length 1 (refusalOf a))

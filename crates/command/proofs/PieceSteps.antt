@@ -3,8 +3,8 @@ use Prim.Native.Nat.{ℕ, zero, suc, _+_, _-_, _≤_, min}
 use native.Mathlib.Omega.{arith}
 use mathlib.Core.Path.{_≡_, refl, ap, sym, _∙_}
 use mathlib.Core.Bool.{Bool, true, false, true≢false, cond}
-use mathlib.Core.List.{List, [], _∷_}
-use lib.ListN.{length, drop, length-drop}
+use mathlib.Core.List.{List, [], _∷_, _++_, append-nil}
+use lib.ListN.{length, drop, length-drop, drop-of-length-le}
 use lib.Seq.{drop-drop}
 use lib.Dec.{ltb}
 use borrow.Author.Tests.{ltb-false, not-true}
@@ -121,3 +121,34 @@ module _ (P : (room : ℕ) (ended : Bool) (s : Store) (bytes : List ℕ) → Fed
 
   pub each-piece : (room : ℕ) (ended : Bool) (s : Store) (bytes : List ℕ) → P room ended s bytes (runPiece room ended s bytes)
   each-piece room ended s bytes = each-bound (length bytes) room ended s bytes (omega arith)
+
+-- A piece that is one command, with no byte behind its operands, where no more comes and an answer has room: that command, and nothing else
+module _ (s : Store) (b : ℕ) (bytes : List ℕ) (whole : length bytes ≤ operandBytes (kindOf b)) where
+  abbrev one : Ran
+  one = runOne s b bytes
+
+  -- What comes of the rest, whether or not the run goes on
+  abbrev afterOne : Bool → List ℕ → Fed
+  afterOne on rest = cond on (runPieceFor (length bytes) (longestAnswer - length (one .output)) true (one .store) rest) (overAfter one)
+
+  nothing-more : (on : Bool) (n : ℕ) (room : ℕ) → (cond on (runPieceFor n room true (one .store) []) (overAfter one) .output ≡ []) × (cond on (runPieceFor n room true (one .store) []) (overAfter one) .store ≡ one .store)
+  unfolding runPieceFor
+  nothing-more true zero room = (refl, refl)
+  nothing-more true (suc n) room = (refl, refl)
+  nothing-more false n room = (refl, refl)
+
+  rest-empty : drop (operandBytes (kindOf b)) bytes ≡ []
+  rest-empty = drop-of-length-le bytes {i = operandBytes (kindOf b)} whole
+
+  pub one-output : runPiece longestAnswer true s (b ∷ bytes) .output ≡ one .output
+  unfolding runPieceFor
+  one-output =
+      ap (λ (rest : List ℕ). one .output ++ afterOne (one .on) rest .output) rest-empty
+      ∙ ap (_++_ (one .output)) (nothing-more (one .on) (length bytes) (longestAnswer - length (one .output)) .0)
+      ∙ append-nil (one .output)
+
+  pub one-store : runPiece longestAnswer true s (b ∷ bytes) .store ≡ one .store
+  unfolding runPieceFor
+  one-store =
+      ap (λ (rest : List ℕ). afterOne (one .on) rest .store) rest-empty
+      ∙ nothing-more (one .on) (length bytes) (longestAnswer - length (one .output)) .1

@@ -1,24 +1,34 @@
--- Writes to the register block: what an exported call leaves, from what the registers and the command leave.
-use Prim.Native.Nat.{ℕ}
-use mathlib.Core.Path.{_≡_, refl, ap, sym, subst, _∙_}
-use mathlib.Core.Bool.{Bool, cond}
-use mathlib.Core.List.{List}
-use lib.ListN.{length, take}
+-- Writes to the register block: what an exported call leaves, from what the registers and the packet of one command leave.
+use Prim.Native.Nat.{ℕ, suc, _+_, _≤_}
+use native.Mathlib.Omega.{arith}
+use mathlib.Core.Path.{_≡_, refl, ap, ap₂, sym, subst, _∙_}
+use mathlib.Core.Bool.{Bool, true, cond}
+use mathlib.Core.List.{List, [], _∷_}
+use lib.ListN.{length, getD, set, take, drop, replicate, length-take, length-set}
+use lib.Seq.{take-take}
 use borrow.Author.Tests.{eq-eqb, ne-eqb}
 use Rattle.words.specs.Overwrite.{overwrite}
-use Rattle.store.specs.declared.types.Head.{Head}
-use Rattle.store.specs.Head.{openLimit}
-use Rattle.store.specs.Trees.{Lent}
-use Rattle.command.specs.Stream.{kindOf}
-use Rattle.register_block.specs.Block.{Block, commandAt, operandsOf, registerWritten}
+use Rattle.command.specs.Stream.{kindOf, operandBytes, longestAnswer, Ran, runOne}
+use Rattle.command.specs.Pieces.{Fed, runPiece}
+use Rattle.command.proofs.AnswerLengths.{output-fits, output-begins}
+use Rattle.command.proofs.KindLaws.{few-operands}
+use Rattle.command.proofs.StreamLaws.{front-enough}
+use Rattle.command.proofs.PieceSteps.{one-output, one-store}
+use Rattle.register_block.specs.Block.{Block, blockBytes, commandAt, operandCount, operandsOf, statusAt, flagsAt, resultAt, resultCount, flagByte, flagsShown, registerWritten, showing}
 use Rattle.register_block.specs.Access.{Device, runFromBlock, writeDevice}
-use Rattle.block_command.specs.Running.{LeftBy}
-use Rattle.c_numbers.specs.Heads.{Fields, passNumbers, headOf, fieldsOf, numbersOf}
-use Rattle.c_numbers.proofs.HeadNumbers.{passes-length}
+use Rattle.registers.proofs.RegisterLaws.{answer-shown}
 use Rattle.firmware.specs.Exported.{Handed, storeIn, handedBack}
+use Rattle.firmware.specs.Packets.{Packet, LeavesOf}
 use Rattle.firmware.specs.BlockCalls.{deviceIn, LeavesWrite}
-use Rattle.firmware.proofs.KeptPlaces.{written-back}
-use Rattle.firmware.proofs.PacketLaws.{command-places}
+
+-- The front of a block is the command that was stored, with its operands
+command-front : (block : Block) (value : ℕ) → length block ≡ blockBytes
+    → take (1 + operandBytes (kindOf value)) (set block commandAt value) ≡ value ∷ take (operandBytes (kindOf value)) (operandsOf block)
+command-front [] value whole = absurd (omega (arith, whole))
+command-front (x ∷ xs) value whole =
+    let n : ℕ = operandBytes (kindOf value) in
+    let next : 1 + n ≡ suc n = omega arith in
+    ap (λ (m : ℕ). take m (value ∷ xs)) next ∙ ap (_∷_ value) (sym (take-take n operandCount xs (few-operands value)))
 
 module _ (before : Handed) (block : Block) (offset value : ℕ) where
   abbrev d : Device
@@ -36,19 +46,57 @@ module _ (before : Handed) (block : Block) (offset value : ℕ) where
         kept = λ other. refl;
       }
 
-  -- The command: the head that it hands back was written
-  pub command-leaves : length (before .passes) ≡ passNumbers → offset ≡ commandAt → {head : Head} → head ≡ headOf (before .fields) (before .passes)
-      → {after : Head} {lent : Lent} {block′ : Block}
-      → LeftBy (runFromBlock (record { store = record { head = head; lent = before .lent }; block = block }) value) after lent block′
-      → {fields : Fields} {passes : List ℕ} → fields ≡ fieldsOf after → passes ≡ overwrite (before .passes) 0 (numbersOf (take openLimit (after .passes)))
-      → LeavesWrite before block offset value (record { fields = fields; passes = passes; lent = lent }) block′
-  command-leaves long at of-head {after} {lent} {block′} ran fs ps =
-      let is : LeftBy (runFromBlock d value) after lent block′ =
-      subst (λ (h : Head). LeftBy (runFromBlock (record { store = record { head = h; lent = before .lent }; block = block }) value) after lent block′) of-head ran in
-      let new = command-places (storeIn before) (passes-length (before .passes) 0 openLimit) (operandsOf block) (kindOf value) in
-      let ran-it : runFromBlock d value ≡ writeDevice d offset value = ap written (sym (eq-eqb offset commandAt at)) in
-      record {
-        block-is = is .block-is ∙ ap (λ (x : Device). x .block) ran-it;
-        left = λ _. written-back before long (runFromBlock d value .store) new (is .head-is) (is .lent-is) fs ps ∙ ap (λ (x : Device). handedBack (x .store)) ran-it;
-        kept = λ other. absurd (other at);
-      }
+  -- The command, run as a packet of its own: the front of the block, with room for the longest answer
+  abbrev packet : List ℕ
+  packet = take (1 + operandBytes (kindOf value)) (set block commandAt value)
+
+  abbrev fed : Fed
+  fed = runPiece longestAnswer true (storeIn before) packet
+
+  abbrev ran : Ran
+  ran = runOne (storeIn before) value (operandsOf block)
+
+  module _ (whole : length block ≡ blockBytes) where
+    abbrev operands : List ℕ
+    operands = take (operandBytes (kindOf value)) (operandsOf block)
+
+    few : length operands ≤ operandBytes (kindOf value)
+    few = omega (arith, length-take (operandBytes (kindOf value)) (operandsOf block))
+
+    fed-store : fed .store ≡ ran .store
+    fed-store =
+        ap (λ (bytes : List ℕ). runPiece longestAnswer true (storeIn before) bytes .store) (command-front block value whole)
+        ∙ one-store (storeIn before) value operands few
+        ∙ ap (λ (r : Ran). r .store) (front-enough (storeIn before) value (operandsOf block))
+
+    fed-output : fed .output ≡ ran .output
+    fed-output =
+        ap (λ (bytes : List ℕ). runPiece longestAnswer true (storeIn before) bytes .output) (command-front block value whole)
+        ∙ one-output (storeIn before) value operands few
+        ∙ ap (λ (r : Ran). r .output) (front-enough (storeIn before) value (operandsOf block))
+
+    pub command-leaves : offset ≡ commandAt → {stored : Block} → stored ≡ set block commandAt value → {count : ℕ} → count ≡ 1 + operandBytes (kindOf value)
+        → {said : Packet} {after : Handed} → LeavesOf (runPiece longestAnswer true (storeIn before) (take count stored)) said (replicate longestAnswer 0) after
+        → {block′ : Block}
+        → block′
+        ≡ overwrite (set (set stored statusAt (getD (said .out) 0 0)) flagsAt (flagByte (flagsShown (getD (said .out) 0 0) (after .fields .count)))) resultAt
+        (take resultCount (drop 1 (said .out)))
+        → LeavesWrite before block offset value after block′
+    command-leaves at {stored} is {count} counts {said} {after} run shown =
+        let leaves : LeavesOf fed said (replicate longestAnswer 0) after =
+        subst (λ (bytes : List ℕ). LeavesOf (runPiece longestAnswer true (storeIn before) bytes) said (replicate longestAnswer 0) after) (ap₂ take counts is) run in
+        let operand-bytes : List ℕ = operandsOf block in
+        let left-is : after ≡ handedBack (ran .store) = leaves .left ∙ ap handedBack fed-store in
+        let ran-it : runFromBlock d value ≡ writeDevice d offset value = ap written (sym (eq-eqb offset commandAt at)) in
+        let shows =
+        answer-shown block value (ran .output) (after .fields .count) (output-begins (storeIn before) value operand-bytes) (output-fits (storeIn before) value operand-bytes)
+        (leaves .output ∙ ap (overwrite (replicate longestAnswer 0) 0) fed-output) is shown in
+        record {
+          block-is = shows ∙ ap (λ (h : Handed). showing block value (ran .output) (h .fields .count)) left-is ∙ ap (λ (x : Device). x .block) ran-it;
+          left = λ _. left-is ∙ ap (λ (x : Device). handedBack (x .store)) ran-it;
+          kept = λ other. absurd (other at);
+        }
+
+-- A block that was stored to is as long as before
+pub long-before : (block : Block) (value : ℕ) {stored : Block} → stored ≡ set block commandAt value → length stored ≡ blockBytes → length block ≡ blockBytes
+long-before block value is long = sym (length-set block commandAt value) ∙ sym (ap length is) ∙ long

@@ -1,12 +1,13 @@
 // The register block of the radio chip, for C: 40 lent bytes, any of which are a block.
-use block_command::run_from_block;
-use c_numbers::head_of;
-use c_numbers::put_head;
+use crate::commands::nimbleshale_commands;
+use framing::LONGEST_ANSWER;
 use registers::BLOCK_BYTES;
 use registers::RESET_MASK;
 use registers::line_high;
+use registers::put_command;
 use registers::read;
 use registers::reset;
+use registers::show_answer;
 use registers::write_register;
 use store::Head;
 ghost use mathlib.Core.Path.{_≡_};
@@ -42,7 +43,7 @@ pub extern "C" fn nimbleshale_block_line(block: &[u8; BLOCK_BYTES]) -> u8
     line_high(block) as u8
 }
 
-// The radio side writes a byte at an offset. A byte 0 runs a command; head and slices are then left as the stream's command leaves them.
+// The radio side writes a byte at an offset. Byte 0 runs a command, as a packet of its own: head and slices are left as the stream's command leaves them.
 #[no_mangle]
 pub extern "C" fn nimbleshale_block_write(
     last: &mut u32,
@@ -79,28 +80,12 @@ pub extern "C" fn nimbleshale_block_write(
         write_register(block, offset, value);
         return;
     }
-    let head = head_of(
-        *last,
-        *started,
-        *count_open,
-        *start_pages_used,
-        *start_roots_used,
-        *end_pages_used,
-        *end_roots_used,
-        passes,
-    );
-    let after = run_from_block(
-        head,
-        start_table,
-        start_roots,
-        end_table,
-        end_roots,
-        block,
-        value,
-    );
-    put_head(
-        after,
-        Head::PLACES,
+    let length = put_command(block, value);
+    let bytes = &block[..];
+    let mut answer = [0u8; LONGEST_ANSWER];
+    let mut taken: usize = 0;
+    let mut written: usize = 0;
+    nimbleshale_commands(
         last,
         started,
         count_open,
@@ -109,5 +94,15 @@ pub extern "C" fn nimbleshale_block_write(
         end_pages_used,
         end_roots_used,
         passes,
+        start_table,
+        start_roots,
+        end_table,
+        end_roots,
+        &bytes[..length],
+        1,
+        &mut answer,
+        &mut taken,
+        &mut written,
     );
+    show_answer(block, &answer, *count_open);
 }

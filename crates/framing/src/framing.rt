@@ -9,7 +9,7 @@ ghost use Rattle.command.specs.Pieces.{commandLength, isUnfinished, mustWait};
 pub const LONGEST_ANSWER: usize = 18;
 
 // How many operand bytes follow a command byte. An unknown command has none: nothing more is read after it.
-fn operand_count(code: u8) -> usize
+pub fn operand_count(code: u8) -> usize
     ensures { λ r. ⌜ r ≡ operandBytes (kindOf code) ⌝ }
 {
     if code == 3 {

@@ -5,3 +5,4 @@ pub use framing::LONGEST_ANSWER;
 pub use framing::command_length;
 pub use framing::goes_on;
 pub use framing::must_wait;
+pub use framing::operand_count;

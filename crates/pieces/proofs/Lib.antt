@@ -1,2 +1,3 @@
 -- Laws of pieces.
+pub mod AnswerLaws
 pub mod PieceRuns

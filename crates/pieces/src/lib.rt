@@ -1,4 +1,5 @@
 // Pieces of the command stream, run on lent slices.
+mod answers;
 mod pieces;
 
 pub use pieces::Fed;

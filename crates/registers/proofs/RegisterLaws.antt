@@ -1,20 +1,20 @@
 -- What the code of the registers tests and writes.
-use Prim.Native.Nat.{ℕ, zero, suc, _+_, _-_, _≤_, _%_}
+use Prim.Native.Nat.{ℕ, zero, suc, _+_, _-_, _≤_}
+use native.Mathlib.Nat.{zero-add}
 use native.Mathlib.Omega.{arith}
 use mathlib.Core.Path.{_≡_, refl, ap, ap₂, sym, _∙_}
 use mathlib.Core.Bool.{Bool, true, false, not, _&&_, _||_}
 use mathlib.Core.List.{List, [], _∷_, _++_}
-use lib.ListN.{length, set, replicate, length-append, length-set}
+use lib.ListN.{length, getD, set, take, drop, replicate, length-append, length-replicate}
+use lib.Seq.{take-all}
 use Rattle.words.specs.Overwrite.{overwrite}
-use Rattle.words.proofs.OverwriteLaws.{overwrite-all, overwrite-more}
-use Rattle.store.specs.declared.types.Answer.{Answer}
-use Rattle.store.specs.Answers.{refusalOf, valuesOf}
+use Rattle.words.proofs.OverwriteLaws.{overwrite-all}
 use Rattle.codec.specs.Bytes.{bytesOf}
 use Rattle.codec.proofs.ByteLaws.{bytes-length}
-use Rattle.command.specs.Stream.{widthsOf, spelled, written}
-use Rattle.command.proofs.AnswerLengths.{written-fits}
+use Rattle.command.specs.Stream.{longestAnswer}
 use Rattle.register_block.specs.declared.flags.Flags.{Flags}
-use Rattle.register_block.specs.Block.{Block, blockBytes, commandAt, statusAt, flagsAt, maskAt, resultAt, resultCount, registersEnd, flagByte, anyOfBoth, clearBlock, flagsShown, statusShown, resultShown, marked, showing}
+use Rattle.register_block.specs.Block.{Block, blockBytes, commandAt, statusAt, flagsAt, maskAt, resultAt, resultCount, flagByte, anyOfBoth, clearBlock, flagsShown, statusShown, zeroFilled, resultShown, marked, showing}
+use Rattle.register_block.proofs.BlockBytes.{filled-byte}
 
 -- A flag that a one is written to, and one that none is written to
 pub flag-cleared : (flag : Bool) {one : Bool} → one ≡ true → false ≡ flag && not one
@@ -56,31 +56,35 @@ pub all-cleared : (b : Block) (mask : ℕ) → length b ≡ blockBytes → {b′
 all-cleared b mask long e =
     ap (λ (x : Block). set x maskAt mask) (e ∙ overwrite-all b (bytesOf blockBytes 0) (bytes-length blockBytes 0 ∙ sym long) ∙ zero-bytes blockBytes)
 
--- A command's answer in the block
-module _ (a : Answer) where
-  abbrev values : List ℕ
-  values = spelled (widthsOf a) (valuesOf a)
+-- Bytes at the front of zeros are bytes that are zero filled
+fewer-zeros : (n k : ℕ) → drop {A = ℕ} k (replicate n 0) ≡ replicate (n - k) 0
+fewer-zeros n zero = let e : n ≡ n - 0 = omega arith in ap (λ (m : ℕ). replicate m 0) e
+fewer-zeros zero (suc k) = let e : 0 ≡ 0 - suc k = omega arith in ap (λ (m : ℕ). replicate m 0) e
+fewer-zeros (suc n) (suc k) = let e : n - k ≡ suc n - suc k = omega arith in fewer-zeros n k ∙ ap (λ (m : ℕ). replicate m 0) e
 
-  pub values-fit : length values ≤ resultCount
-  values-fit = omega (arith, written-fits a, length-append (bytesOf 1 (refusalOf a)) values, bytes-length 1 (refusalOf a))
+filled : (count : ℕ) (bytes : List ℕ) → overwrite (replicate count 0) 0 bytes ≡ zeroFilled count bytes
+unfolding overwrite
+filled count bytes = ap (λ (n : ℕ). bytes ++ drop n (replicate count 0)) (zero-add (length bytes)) ∙ ap (_++_ bytes) (fewer-zeros count (length bytes))
 
-  first-byte : {status : ℕ} → status ≡ refusalOf a → status ≤ 255 → statusShown (written a) ≡ status
-  unfolding bytesOf
-  first-byte is byte = omega (arith, is, byte)
+result-of : (output : List ℕ) → 1 ≤ length output → length output ≤ longestAnswer → take resultCount (drop 1 (zeroFilled longestAnswer output)) ≡ resultShown output
+result-of [] some short = absurd (omega (arith, some))
+result-of (x ∷ rest) some short =
+    let zeros : longestAnswer - suc (length rest) ≡ resultCount - length rest = omega (arith, short) in
+    ap (λ (n : ℕ). take resultCount (rest ++ replicate n 0)) zeros
+    ∙ take-all resultCount (zeroFilled resultCount rest)
+    (omega (arith, short, length-append rest (replicate (resultCount - length rest) 0), length-replicate {A = ℕ} (resultCount - length rest) 0))
 
-  what-follows : resultShown (written a) ≡ values ++ replicate (resultCount - length values) 0
-  unfolding bytesOf
-  what-follows = refl
-
-pub answer-shown : (b : Block) (command : ℕ) (a : Answer) (openCount : ℕ) {status : ℕ} → status ≡ refusalOf a → status ≤ 255
-    → {x : Block} → x ≡ marked b command status (flagByte (flagsShown status openCount)) → resultAt + resultCount ≤ length x
-    → {m : Block} → m ≡ overwrite x resultAt (values a) → {end : ℕ} → end ≡ resultAt + length (values a)
-    → {after : Block} → after ≡ overwrite m end (bytesOf (registersEnd - end) 0) → after ≡ showing b command (written a) openCount
-answer-shown b command a openCount {status} is byte {x} xs room {m} ms {end} ends last =
-    let rest : registersEnd - end ≡ resultCount - length (values a) = omega (arith, ends) in
-    let as-shown = xs ∙ ap (λ (n : ℕ). marked b command n (flagByte (flagsShown n openCount))) (sym (first-byte a is byte)) in
+-- A command that is stored, and its answer shown
+pub answer-shown : (b : Block) (command : ℕ) (output : List ℕ) (openCount : ℕ) → 1 ≤ length output → length output ≤ longestAnswer
+    → {answer : List ℕ} → answer ≡ overwrite (replicate longestAnswer 0) 0 output → {stored : Block} → stored ≡ set b commandAt command
+    → {after : Block}
+    → after ≡ overwrite (set (set stored statusAt (getD answer 0 0)) flagsAt (flagByte (flagsShown (getD answer 0 0) openCount))) resultAt (take resultCount (drop 1 answer))
+    → after ≡ showing b command output openCount
+unfolding marked
+answer-shown b command output openCount some short {answer} front {stored} cs last =
+    let is = front ∙ filled longestAnswer output in
+    let status : getD answer 0 0 ≡ statusShown output = ap (λ (l : List ℕ). getD l 0 0) is ∙ filled-byte longestAnswer output 0 (omega arith) in
+    let result : take resultCount (drop 1 answer) ≡ resultShown output = ap (λ (l : List ℕ). take resultCount (drop 1 l)) is ∙ result-of output some short in
     last
-    ∙ ap₂ (λ (l : Block) (n : ℕ). overwrite l end (bytesOf n 0)) ms rest
-    ∙ overwrite-more x resultAt (values a) (omega (arith, values-fit a, room)) end (bytesOf (resultCount - length (values a)) 0) ends
-    ∙ ap₂ (λ (l : Block) (zeros : List ℕ). overwrite l resultAt (values a ++ zeros)) as-shown (zero-bytes (resultCount - length (values a)))
-    ∙ ap (overwrite (marked b command (statusShown (written a)) (flagByte (flagsShown (statusShown (written a)) openCount))) resultAt) (sym (what-follows a))
+    ∙ ap₂ (λ (x : Block) (n : ℕ). overwrite (set (set x statusAt n) flagsAt (flagByte (flagsShown n openCount))) resultAt (take resultCount (drop 1 answer))) cs status
+    ∙ ap (overwrite (marked b command (statusShown output) (flagByte (flagsShown (statusShown output) openCount))) resultAt) result

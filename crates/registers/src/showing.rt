@@ -3,21 +3,21 @@ use crate::bits::flag_byte;
 use crate::layout::BLOCK_BYTES;
 use crate::layout::COMMAND;
 use crate::layout::FLAGS;
-use crate::layout::REGISTERS_END;
 use crate::layout::RESULT;
 use crate::layout::STATUS;
-use answers::put_values;
-use c_numbers::refusal_of;
-use codec::put_number;
+use codec::put_bytes;
+use framing::LONGEST_ANSWER;
+use framing::operand_count;
 use register_block::Flags;
-use store::Answer;
 use store::Head;
 ghost use mathlib.Core.Path.{_≡_};
 ghost use mathlib.Core.Bool.{not};
-ghost use lib.ListN.{set};
+ghost use Prim.Native.Nat.{ℕ, _+_, _≤_};
+ghost use lib.ListN.{getD, set, take, drop};
 ghost use lib.Dec.{eqb};
-ghost use Rattle.command.specs.Stream.{written};
-ghost use Rattle.register_block.specs.Block.{flagsAt, flagByte, flagsShown, showing};
+ghost use Rattle.words.specs.Overwrite.{overwrite};
+ghost use Rattle.command.specs.Stream.{kindOf, operandBytes};
+ghost use Rattle.register_block.specs.Block.{commandAt, operandsEnd, statusAt, flagsAt, resultAt, resultCount, flagByte, flagsShown};
 
 // Bit 1, "refused".
 fn is_refused(status: u8) -> bool
@@ -46,14 +46,26 @@ fn put_flags(block: &mut [u8; BLOCK_BYTES], status: u8, open_count: u32)
     block[FLAGS] = flags_after(status, open_count);
 }
 
-// "Status is the first output byte and the result what follows, zero filled."
-pub fn show_answer(block: &mut [u8; BLOCK_BYTES], command: u8, answer: Answer, open_count: u32)
-    ensures { λ _. ⌜ now (block .exit) ≡ showing (now (block .entry)) command (written answer) «open_count» ⌝ }
+// Stores a command byte and returns how many bytes at the front of the block are its command, as in the stream: its own and its operands.
+pub fn put_command(block: &mut [u8; BLOCK_BYTES], command: u8) -> usize
+    ensures { λ _. ⌜ now (block .exit) ≡ set (now (block .entry)) commandAt command ⌝ }
+    ensures { λ r. ⌜ r ≡ 1 + operandBytes (kindOf command) ⌝ }
+    ensures { λ r. ⌜ r ≤ operandsEnd ⌝ }
 {
-    let status = refusal_of(answer);
     block[COMMAND] = command;
+    1 + operand_count(command)
+}
+
+// "Status is the first output byte and the result what follows": of an answer that is zero filled.
+pub fn show_answer(block: &mut [u8; BLOCK_BYTES], answer: &[u8; LONGEST_ANSWER], open_count: u32)
+    ensures { λ _. do
+      let status : ℕ = getD (now (answer .entry)) 0 0
+      let flags : ℕ = flagByte (flagsShown status «open_count»)
+      ⌜ now (block .exit) ≡ overwrite (set (set (now (block .entry)) statusAt status) flagsAt flags) resultAt (take resultCount (drop 1 (now (answer .entry)))) ⌝ }
+{
+    let status = answer[0];
     block[STATUS] = status;
     put_flags(block, status, open_count);
-    let end = put_values(block, RESULT, answer);
-    put_number(block, end, REGISTERS_END - end, 0);
+    let bytes = &answer[..];
+    put_bytes(block, RESULT, &bytes[1..LONGEST_ANSWER]);
 }

@@ -1,9 +1,11 @@
-use mathlib.Core.Path.{_≡_}
+use native.Mathlib.Omega.{arith}
+use mathlib.Core.Path.{_≡_, sym}
 use lib.ListN.{length}
+use lib.Seq.{length-take-le}
 use Rattle.store.specs.Trees.{lentOf}
-use Rattle.c_numbers.specs.Heads.{passNumbers}
+use Rattle.register_block.specs.Block.{blockBytes}
 use Rattle.firmware.specs.Exported.{Handed}
-use Rattle.firmware.proofs.BlockLaws.{register-leaves, command-leaves}
+use Rattle.firmware.proofs.BlockLaws.{register-leaves, command-leaves, long-before}
 use borrow.Author.Needs.{needs}
 use Rattle.firmware.proofs.blocks.nimbleshale_block_write.Statement.{statement}
 use Rattle.firmware.proofs.blocks.nimbleshale_block_write.Tie as tie
@@ -29,14 +31,23 @@ returns c =
     } in
     register-leaves before (a .block .now) (a .offset) (a .value) (c .before .before .if1 .taken) (c .write-register .ensures)
 
-head-of-requires : tie.Need-head-of-requires
-head-of-requires c κs = search needs
+put-command-requires : tie.Need-put-command-requires
+put-command-requires c κs = search needs
 
-run-from-block-requires : tie.Need-run-from-block-requires
-run-from-block-requires c κs = search needs
+slice-aggregate-nimbleshale-commands : tie.Need-slice-aggregate-nimbleshale-commands
+slice-aggregate-nimbleshale-commands c =
+    let stored = c .before .before .before .before .before .before .before .before .before .before .before .before .before .before .before .put-command in
+    let long : length (stored .last .0) ≡ blockBytes = search needs in
+    sym (length-take-le (stored .result) (stored .last .0) (omega (arith, long, stored .ensures .1 .1)))
 
-put-head-requires : tie.Need-put-head-requires
-put-head-requires c κs = search needs
+slice-aggregate-nimbleshale-commands-2 : tie.Need-slice-aggregate-nimbleshale-commands-2
+slice-aggregate-nimbleshale-commands-2 c = search needs
+
+nimbleshale-commands-requires : tie.Need-nimbleshale-commands-requires
+nimbleshale-commands-requires c κs = search needs
+
+show-answer-requires : tie.Need-show-answer-requires
+show-answer-requires c κs = search needs
 
 same-length : tie.Need-same-length
 same-length c = search needs
@@ -52,7 +63,7 @@ same-length-4 c = search needs
 
 returns-2 : tie.Need-returns-2
 returns-2 c =
-    let a = c .before .before .before .before .before .before .before .before .before .before .before .before .before .before .before .before .before .before .before .before .before .before .before .before .before .before .before .before .before .before .before .before .before .before .before .before .before .before .args in
+    let a = c .before .before .before .before .before .before .before .before .before .before .before .before .before .before .before .before .before .before .before .before .before .before .before .before .before .before .before .before .before .before .before .before .before .before .before .before .before .before .before .args in
     let before : Handed =
     record {
       fields =
@@ -66,8 +77,9 @@ returns-2 c =
       passes = a .passes .now;
       lent = lentOf (a .start-table .now) (a .start-roots .now) (a .end-table .now) (a .end-roots .now);
     } in
-    let long : length (a .passes .now) ≡ passNumbers = search needs in
-    command-leaves before (a .block .now) (a .offset) (a .value) long (c .before .before .before .before .before .before .before .before .before .before .before .before .before .before .before .before .before .before .before .before .before .before .before .before .before .before .before .before .before .before .before .before .before .if1 .left) (c .before .before .before .before .before .before .before .before .before .before .before .before .before .before .before .before .before .before .before .before .before .before .before .head-of .ensures) (c .before .before .before .before .before .before .before .before .before .before .before .before .before .before .before .before .before .run-from-block .ensures) (c .put-head .ensures .0) (c .put-head .ensures .1)
+    let stored = c .before .before .before .before .before .before .before .before .before .before .before .before .before .before .before .before .before .before .before .before .before .before .before .before .before .before .before .before .before .before .before .before .put-command in
+    let long : length (stored .last .0) ≡ blockBytes = search (c .before .before .before .before .before .before .before .before .before .before .before .before .before .before .before .before .before .before .before .before .before .before .before .before .before .before .before .before .before .before .before .bytes, c .before .before .before .before .before .before .before .before .before .before .before .before .before .before .before .before .before .before .before .before .before .before .before .before .before .before .before .before .before .before .bytes2, needs) in
+    command-leaves before (a .block .now) (a .offset) (a .value) (long-before (a .block .now) (a .value) (stored .ensures .0) long) (c .before .before .before .before .before .before .before .before .before .before .before .before .before .before .before .before .before .before .before .before .before .before .before .before .before .before .before .before .before .before .before .before .before .before .if1 .left) (stored .ensures .0) (stored .ensures .1 .0) (c .before .before .before .before .before .before .before .before .before .before .before .before .before .nimbleshale-commands .ensures) (c .show-answer .ensures)
 
 pub nimbleshale-block-write-spec : {M : Type 1} → statement M
 nimbleshale-block-write-spec =
@@ -75,9 +87,11 @@ nimbleshale-block-write-spec =
     (tie.spec
     write-register-requires
     returns
-    head-of-requires
-    run-from-block-requires
-    put-head-requires
+    put-command-requires
+    slice-aggregate-nimbleshale-commands
+    slice-aggregate-nimbleshale-commands-2
+    nimbleshale-commands-requires
+    show-answer-requires
     same-length
     same-length-2
     same-length-3

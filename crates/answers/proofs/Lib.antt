@@ -1,2 +1,0 @@
--- Laws of answers as bytes.
-pub mod ValueBytes

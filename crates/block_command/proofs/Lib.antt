@@ -1,2 +1,0 @@
--- Laws of commands that run through the register block.
-pub mod RunningLaws
