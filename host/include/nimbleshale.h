@@ -268,7 +268,7 @@ uint8_t nimbleshale_lookup_ends(uint32_t last, uint32_t started, uint32_t count_
  * Refusals: none of its own.
  * *taken becomes how many bytes of the front of input were taken, *written how many bytes of answers stand at the front of out. Bytes of out
  * behind them are as they were, and input is. Head and slices are left as the starts, ends and questions leave them, one after the other.
- * Stack: 14,008 bytes.
+ * Stack: 14,184 bytes.
  */
 NIMBLESHALE_MUST_USE
 uint8_t nimbleshale_commands(uint32_t *last, uint32_t *started, uint32_t *count_open, uint32_t *start_pages_used, uint32_t *start_roots_used,
@@ -328,7 +328,7 @@ uint8_t nimbleshale_burst(uint32_t *last, uint32_t *started, uint32_t *count_ope
 /*
  * Resets a block: all 40 bytes become 0, so no flag is set, the mask is 0 and the line is low. The store is not touched.
  *
- * Stack: 0 bytes.
+ * Stack: 24 bytes.
  */
 void nimbleshale_block_reset(uint8_t block[NIMBLESHALE_BLOCK_BYTES]);
 
@@ -336,7 +336,7 @@ void nimbleshale_block_reset(uint8_t block[NIMBLESHALE_BLOCK_BYTES]);
  * What the radio side reads at an offset, which may be any number: of byte 14 the three flags, of any other byte below 33 the byte itself, and 0
  * from 33 on. No offset is taken modulo anything. Command, operands and mask read as last written. Nothing changes.
  *
- * Stack: 0 bytes.
+ * Stack: 24 bytes.
  */
 NIMBLESHALE_MUST_USE
 uint8_t nimbleshale_block_read(const uint8_t block[NIMBLESHALE_BLOCK_BYTES], size_t offset);
@@ -345,7 +345,7 @@ uint8_t nimbleshale_block_read(const uint8_t block[NIMBLESHALE_BLOCK_BYTES], siz
  * The interrupt line: 1, high, exactly if a flag and its mask bit are both set, and else 0. Mask bits above the three flags raise nothing. Nothing
  * changes.
  *
- * Stack: 0 bytes.
+ * Stack: 8 bytes.
  */
 NIMBLESHALE_MUST_USE
 uint8_t nimbleshale_block_line(const uint8_t block[NIMBLESHALE_BLOCK_BYTES]);
@@ -368,7 +368,7 @@ uint8_t nimbleshale_block_line(const uint8_t block[NIMBLESHALE_BLOCK_BYTES]);
  * command leaves them.
  *
  * Refusals: none of its own.
- * Stack: 0 bytes.
+ * Stack: 14,232 bytes, of which a question takes 6,592 and a write to another byte than 0 takes 184.
  */
 void nimbleshale_block_write(uint32_t *last, uint32_t *started, uint32_t *count_open, uint32_t *start_pages_used, uint32_t *start_roots_used,
                              uint32_t *end_pages_used, uint32_t *end_roots_used, uint32_t passes[NIMBLESHALE_PASS_NUMBERS],

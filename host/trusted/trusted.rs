@@ -14,20 +14,21 @@ use std::collections::{BTreeMap, BTreeSet};
 use std::process::ExitCode;
 
 /// The public contracts: what each is, and where it stands.
-const ROOTS: [(&str, &str); 14] = [
+const ROOTS: [(&str, &str); 15] = [
     ("the calls that only read", "queries"),
     ("opening a store", "opening"),
     ("the calls that write", "updates"),
     ("the calls for C", "firmware"),
     ("bursts of starts and ends on lent slices", "burst"),
-    ("lists of calls and bursts for C", "firmware/proofs/ExportedLists.antt:exported-list"),
+    ("the registers of a block on lent bytes", "registers"),
+    ("lists of calls, bursts and accesses to the block for C", "firmware/proofs/ExportedLists.antt:exported-list"),
     ("packets of commands for C, one after the other", "firmware/proofs/PacketLaws.antt:exported-packets"),
     ("a piece of the command stream on lent slices", "pieces"),
     ("the command program", "command/specs/Stream.antt:output"),
     ("any pieces of the stream", "command/proofs/AnyPieces.antt:any-pieces"),
     ("a run of the program", "turns/specs/Turns.antt:Served"),
     ("demand 3, of calls", "store/proofs/Main.antt:demand-3"),
-    ("demand 3, of calls and bursts", "demand/proofs/Main.antt:demand-3-with-bursts"),
+    ("demand 3, of calls, bursts and accesses to the block", "demand/proofs/Main.antt:demand-3-of-steps"),
     ("the table of trials", "trials_proved/proofs/Table.antt:table"),
 ];
 

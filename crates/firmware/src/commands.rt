@@ -72,9 +72,8 @@ pub extern "C" fn nimbleshale_commands(
     );
     *taken = fed.taken;
     *written = fed.written;
-    let after = fed.head;
     put_head(
-        after,
+        fed.head,
         Head::PLACES,
         last,
         started,
