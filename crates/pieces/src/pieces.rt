@@ -78,9 +78,8 @@ pub fn run_piece(
         let code = input[taken];
         let behind = taken + 1;
         let rest = &input[behind..];
-        let now = reply.head;
         reply = run_command(
-            now,
+            reply.head,
             start_table,
             start_roots,
             end_table,
