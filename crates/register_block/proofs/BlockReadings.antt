@@ -2,7 +2,7 @@
 use Prim.Native.Nat.{ℕ, zero, suc, _+_, _≤_, _<_}
 use native.Mathlib.Omega.{arith}
 use mathlib.Core.Path.{_≡_, refl, ap, ap₂, sym, _∙_}
-use mathlib.Core.Bool.{Bool, true, false, cond, not, _&&_}
+use mathlib.Core.Bool.{Bool, true, false, true≢false, cond, not, _&&_, _||_}
 use mathlib.Core.Logic.{_⊎_, inl, inr}
 use mathlib.Core.List.{List, [], _∷_, _++_, append-nil}
 use lib.ListN.{length, getD, set, take, drop, replicate, length-take, drop-of-length-le}
@@ -16,7 +16,7 @@ use Rattle.command.specs.Stream.{unknown, kindOf, operandBytes, longestAnswer, 
 use Rattle.command.proofs.AnswerLengths.{output-fits}
 use Rattle.command.proofs.StreamLaws.{front-enough}
 use Rattle.register_block.specs.declared.flags.Flags.{Flags}
-use Rattle.register_block.specs.Block.{Block, blockBytes, commandAt, operandsAt, operandCount, statusAt, flagsAt, maskAt, resultAt, resultCount, registersEnd, operandsOf, hasBit, flagsIn, flagByte, flagsOf, flagsCleared, flagsShown, clearBlock, readBlock, isOperand, registerWritten, statusShown}
+use Rattle.register_block.specs.Block.{Block, blockBytes, commandAt, operandsAt, operandCount, statusAt, flagsAt, maskAt, resultAt, resultCount, registersEnd, operandsOf, hasBit, flagsIn, flagByte, flagsOf, flagsCleared, flagsShown, clearBlock, readBlock, lineHigh, isOperand, registerWritten, statusShown}
 use Rattle.register_block.specs.Access.{Device, resetDevice, runFromBlock, writeDevice, Access, reset, read, write, accessed, accessedAll}
 use Rattle.register_block.proofs.WriteCases.{mask-written, operand-written, not-written}
 use Rattle.register_block.proofs.BlockLengths.{cleared-length, write-length}
@@ -97,6 +97,45 @@ clears d value long =
 
 pub clears-only : (d : Device) (value i : ℕ) → (i ≡ flagsAt → ⊥) → getD (writeDevice d flagsAt value .block) i 0 ≡ getD (d .block) i 0
 clears-only d value i n = others-stay (d .block) flagsAt value i n
+
+-- "The interrupt line is high exactly if a flag and its mask bit are both set."
+abbrev pub SetInBoth : (value : ℕ) → Block → Type 0
+SetInBoth value b = (hasBit value (getD b flagsAt 0) ≡ true) × (hasBit value (getD b maskAt 0) ≡ true)
+
+both-true : (x y : Bool) → x && y ≡ true → (x ≡ true) × (y ≡ true)
+both-true true y e = (refl, e)
+both-true false y e = absurd (true≢false (sym e))
+
+one-true : (x y : Bool) → x || y ≡ true → (x ≡ true) ⊎ (y ≡ true)
+one-true true y e = inl refl
+one-true false y e = inr e
+
+or-right : (x : Bool) {y : Bool} → y ≡ true → x || y ≡ true
+or-right true e = refl
+or-right false e = e
+
+module _ (b : Block) where
+  abbrev f : Flags
+  f = flagsOf b
+
+  abbrev m : Flags
+  m = flagsIn (getD b maskAt 0)
+
+  later : (f .refused && m .refused ≡ true) ⊎ (f .full && m .full ≡ true) → SetInBoth 2 b ⊎ SetInBoth 4 b
+  later (inl e) = inl (both-true (f .refused) (m .refused) e)
+  later (inr e) = inr (both-true (f .full) (m .full) e)
+
+  first : (f .done && m .done ≡ true) ⊎ ((f .refused && m .refused) || (f .full && m .full) ≡ true) → SetInBoth 1 b ⊎ (SetInBoth 2 b ⊎ SetInBoth 4 b)
+  first (inl e) = inl (both-true (f .done) (m .done) e)
+  first (inr e) = inr (later (one-true (f .refused && m .refused) (f .full && m .full) e))
+
+  pub high-for-a-flag : lineHigh b ≡ true → SetInBoth 1 b ⊎ (SetInBoth 2 b ⊎ SetInBoth 4 b)
+  high-for-a-flag high = first (one-true (f .done && m .done) ((f .refused && m .refused) || (f .full && m .full)) high)
+
+  pub high-with-a-flag : SetInBoth 1 b ⊎ (SetInBoth 2 b ⊎ SetInBoth 4 b) → lineHigh b ≡ true
+  high-with-a-flag (inl (e, h)) = ap₂ (λ (x y : Bool). (x && y) || ((f .refused && m .refused) || (f .full && m .full))) e h
+  high-with-a-flag (inr (inl (e, h))) = or-right (f .done && m .done) (ap₂ (λ (x y : Bool). (x && y) || (f .full && m .full)) e h)
+  high-with-a-flag (inr (inr (e, h))) = or-right (f .done && m .done) (or-right (f .refused && m .refused) (ap₂ _&&_ e h))
 
 -- A command that was written: status, flags and result, whatever they were before
 module _ (d : Device) (command : ℕ) (long : length (d .block) ≡ blockBytes) where
