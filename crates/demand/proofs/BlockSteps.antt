@@ -1,18 +1,16 @@
 -- Accesses to the register block in a list: the operands that they leave, and the call that a write to byte 0 stands for.
-use Prim.Native.Nat.{ℕ, suc, _+_, _-_, _≤_, _<_}
+use Prim.Native.Nat.{ℕ, _+_, _-_, _≤_, _<_}
 use native.Mathlib.Omega.{arith}
 use mathlib.Core.Path.{_≡_, refl, ap, sym, _∙_}
 use mathlib.Core.Bool.{Bool, true, false, cond, _&&_}
-use mathlib.Core.List.{List, [], _∷_}
-use lib.ListN.{length, getD, set, take, drop, replicate, length-drop}
+use mathlib.Core.List.{List}
+use lib.ListN.{length, set, take, drop, length-drop}
 use lib.Seq.{length-take-le, ext-getD, getD-take, getD-drop, take-set-le, take-set-lt, drop-set-add}
 use lib.Dec.{eqb, ltb}
 use borrow.Author.Tests.{eqb-true, ltb-true}
-use Rattle.words.specs.Lists.{All}
-use Rattle.tree.proofs.Lists.{all-set}
 use Rattle.store.specs.Trees.{Store}
 use Rattle.store.specs.Answers.{Answered}
-use Rattle.command.specs.Stream.{Kind, unknown, command, startCommand, endCommand, questionCommand, kindOf, written, answered, Ran, runOne}
+use Rattle.command.specs.Stream.{Kind, startCommand, endCommand, questionCommand, kindOf, written, answered, Ran, runOne}
 use Rattle.command.proofs.AnswerLengths.{output-fits}
 use Rattle.command.proofs.KindLaws.{by-kind, whole}
 use Rattle.register_block.specs.Block.{Block, blockBytes, commandAt, operandsAt, operandCount, operandsEnd, flagsAt, maskAt, flagsIn, flagByte, flagsOf, flagsCleared, operandsOf, isOperand, resetMask, registerWritten, showing}
@@ -20,8 +18,7 @@ use Rattle.register_block.specs.Access.{Device, runFromBlock, Access, reset, re
 use Rattle.register_block.proofs.BlockBytes.{rest-stays}
 use Rattle.register_block.proofs.BlockLengths.{run-length}
 use Rattle.demand.specs.Bursts.{askedBy, answerTo}
-use Rattle.demand.specs.Steps.{Step, single, burst, access, SentAccess, operandsAfterAccess, operandsAfter, deviceAfter}
-use Rattle.demand.proofs.SentEvents.{IsByte}
+use Rattle.demand.specs.Steps.{Step, single, burst, access, operandsAfterAccess, operandsAfter, deviceAfter}
 
 pub operands-length : (b : Block) → length b ≡ blockBytes → length (operandsOf b) ≡ operandCount
 operands-length b long = length-take-le operandCount (drop operandsAt b) (omega (arith, length-drop operandsAt b, long))

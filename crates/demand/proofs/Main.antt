@@ -2,7 +2,7 @@
 -- block answers what document 01's pass book answers (specs/Demand has the claim). It rests on the theorem about calls (store/proofs/Main).
 use Prim.Native.Nat.{ℕ}
 use mathlib.Core.Path.{_≡_, refl, ap, ap₂, sym, _∙_}
-use mathlib.Core.List.{List, [], _∷_, _++_, map}
+use mathlib.Core.List.{List, [], _∷_, map}
 use lib.ListN.{length, drop}
 use Rattle.words.specs.Lists.{All}
 use Rattle.tree.proofs.Lists.{all-append, all-take, all-drop}
@@ -12,10 +12,10 @@ use Rattle.store.specs.Performing.{perform, storeAfter}
 use Rattle.store.specs.Book.{Book, emptyBook}
 use Rattle.store.proofs.Main.{just-opened, demand-3}
 use Rattle.command.specs.Stream.{kindOf, written}
-use Rattle.register_block.specs.Block.{Block, blockBytes, commandAt, operandsAt, operandCount, operandsOf, showing}
-use Rattle.register_block.specs.Access.{Device, runFromBlock, writeDevice, Access, reset, read, write}
+use Rattle.register_block.specs.Block.{blockBytes, operandsAt, operandCount, operandsOf, showing}
+use Rattle.register_block.specs.Access.{Device, writeDevice, reset, read, write}
 use Rattle.demand.specs.Bursts.{askedBy, answerTo}
-use Rattle.demand.specs.Steps.{Step, single, burst, access, SentStep, refusalOfStep, askedIn, operandsAfter, performStep, deviceAfter, performSteps, deviceAfterSteps, callsTried, callsOf, bookParts, refusalsIn, bookSteps}
+use Rattle.demand.specs.Steps.{Step, single, burst, access, SentStep, refusalOfStep, askedIn, operandsAfter, deviceAfter, performSteps, deviceAfterSteps, callsTried, callsOf, bookParts, refusalsIn, bookSteps}
 use Rattle.demand.specs.Demand.{ShownIn, bookAfter, ShownAlong, Demand3OfSteps}
 use Rattle.demand.proofs.SentEvents.{IsByte}
 use Rattle.demand.proofs.CallsStand.{step-stands, after-both, tried-sent}

@@ -8,10 +8,10 @@ use lib.Dec.{eqb}
 use Rattle.words.specs.Lists.{All}
 use Rattle.words.specs.Words.{openEnd}
 use Rattle.tree.proofs.Lists.{all-take, all-drop}
-use Rattle.store.specs.Calls.{Call, Sent}
+use Rattle.store.specs.Calls.{Sent}
 use Rattle.codec.specs.Bytes.{numberOf}
-use Rattle.command.specs.Stream.{Kind, unknown, command, startCommand, endCommand, questionCommand, eventKind, kindOf}
-use Rattle.demand.specs.Bursts.{Asked, unknownKind, asked, askedBy, firstEvent, eventBytes, eventsFrom}
+use Rattle.command.specs.Stream.{unknown, command, startCommand, endCommand, questionCommand, eventKind, kindOf}
+use Rattle.demand.specs.Bursts.{Asked, unknownKind, asked, askedBy, eventBytes, eventsFrom}
 
 abbrev pub IsByte : ℕ → Type 0
 IsByte byte = byte ≤ 255

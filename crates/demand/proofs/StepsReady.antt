@@ -1,7 +1,7 @@
 -- What holds of a device and a book at each place of a list, and after each step.
 use Prim.Native.Nat.{ℕ, zero, suc, _-_}
 use native.Mathlib.Omega.{arith}
-use mathlib.Core.Path.{_≡_, refl, ap, sym, subst, _∙_}
+use mathlib.Core.Path.{_≡_, refl, sym, subst, _∙_}
 use mathlib.Core.Bool.{Bool, true, false, cond}
 use mathlib.Core.List.{List, [], _∷_}
 use lib.ListN.{length, set, replicate}
@@ -14,10 +14,10 @@ use Rattle.store.specs.Book.{Book, isOpen}
 use Rattle.store.proofs.Agreement.{Agrees}
 use Rattle.store.proofs.OpenPasses.{open-count}
 use Rattle.command.specs.Stream.{kindOf}
-use Rattle.register_block.specs.Block.{Block, blockBytes, commandAt, operandsAt, operandCount, operandsOf, isOperand, resetMask, registerWritten}
-use Rattle.register_block.specs.Access.{Device, runFromBlock, Access, reset, read, write}
+use Rattle.register_block.specs.Block.{blockBytes, commandAt, operandsAt, operandCount, operandsOf, isOperand, resetMask, registerWritten}
+use Rattle.register_block.specs.Access.{Device, runFromBlock, reset, read, write}
 use Rattle.register_block.proofs.BlockLengths.{accessed-length}
-use Rattle.demand.specs.Bursts.{Asked, askedBy, eventCount, storeBehind}
+use Rattle.demand.specs.Bursts.{askedBy, eventCount, storeBehind}
 use Rattle.demand.specs.Steps.{Step, single, burst, access, SentStep, refusalOfStep, askedIn, operandsAfter, performStep, deviceAfter, refusalsIn, bookStep}
 use Rattle.demand.specs.Demand.{bookAfter}
 use Rattle.demand.proofs.SentEvents.{IsByte, SentAsked, sent-events, sent-command}

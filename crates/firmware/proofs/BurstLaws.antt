@@ -17,7 +17,7 @@ use Rattle.c_numbers.proofs.HeadNumbers.{passes-length}
 use Rattle.firmware.proofs.ExportedLaws.{handed-again}
 use Rattle.firmware.proofs.ExportedLists.{tried-places}
 use Rattle.firmware.proofs.KeptPlaces.{written-back}
-use Rattle.firmware.specs.BurstCalls.{Lending, LeavesBurst}
+use Rattle.firmware.specs.BurstCalls.{LeavesBurst}
 
 -- A burst that is refused as a whole tries no event
 none-tried : (n : ℕ) (s : Store) (es : List Asked) → (unlessRefusedWhole n s es .refusal ≡ 0 → ⊥)

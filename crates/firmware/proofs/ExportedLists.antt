@@ -1,6 +1,6 @@
 -- A list of exported calls, bursts and accesses to the register block, each handed what the one before left, is such a list of the store: the numbers of the
 -- open passes carry the head over.
-use Prim.Native.Nat.{ℕ, zero, suc, _+_, _*_}
+use Prim.Native.Nat.{ℕ, zero, suc, _+_}
 use native.Mathlib.Omega.{arith}
 use mathlib.Core.Path.{_≡_, refl, ap, ap₂, sym, subst, _∙_}
 use mathlib.Core.List.{List, [], _∷_, _++_, append-assoc}

@@ -1,12 +1,11 @@
 -- The places of open passes that a call may change: a start the one behind the passes that were open, an end those of the passes that were open.
-use Prim.Native.Nat.{ℕ, zero, suc, _+_, _-_, _≤_, _<_}
+use Prim.Native.Nat.{ℕ, zero, suc, _+_, _-_, _≤_}
 use native.Mathlib.Omega.{arith}
 use mathlib.Core.Path.{_≡_, refl, ap, sym, subst, _∙_}
 use mathlib.Core.List.{List}
-use lib.ListN.{length, take, drop, length-set, length-replicate, drop-of-length-le}
+use lib.ListN.{length, take, drop, length-set, drop-of-length-le}
 use lib.Seq.{drop-set-lt}
 use Rattle.store.specs.declared.types.Head.{Head}
-use Rattle.store.specs.declared.types.OpenPass.{OpenPass}
 use Rattle.store.specs.declared.types.FoundPass.{FoundPass}
 use Rattle.store.specs.declared.types.FoundPass.the-variants.{Missing, At}
 use Rattle.store.specs.Trees.{Lent, Store}

@@ -20,7 +20,7 @@ use Rattle.pieces.specs.Fed.{FedAs}
 use Rattle.c_numbers.specs.Heads.{Fields, passNumbers, headOf, fieldsOf, numbersOf}
 use Rattle.c_numbers.proofs.HeadNumbers.{passes-length}
 use Rattle.firmware.specs.Exported.{Handed, storeIn, handedBack}
-use Rattle.firmware.specs.Packets.{Packet, LeavesOf, handedOn, exportPackets}
+use Rattle.firmware.specs.Packets.{LeavesOf, handedOn, exportPackets}
 use Rattle.firmware.proofs.ExportedLists.{store-back, places-stay, Places}
 use Rattle.firmware.proofs.KeptPlaces.{written-back}
 

@@ -2,4 +2,7 @@
 pub mod WriteCases
 pub mod BlockLengths
 pub mod BlockBytes
+pub mod ReadOffsets
+pub mod LineReadings
 pub mod BlockReadings
+pub mod LastWritten

@@ -1,6 +1,6 @@
 use mathlib.Core.Path.{ap, sym, _∙_}
 use Rattle.register_block.specs.Block.{flagByte, readBlock}
-use Rattle.register_block.proofs.BlockReadings.{read-register, others-read-zero}
+use Rattle.register_block.proofs.ReadOffsets.{read-register, others-read-zero}
 use borrow.Author.Needs.{needs}
 use Rattle.registers.proofs.registers.read.Statement.{statement}
 use Rattle.registers.proofs.registers.read.Tie as tie
