@@ -14,6 +14,7 @@ use Rattle.store.specs.declared.types.Head.{Head}
 use Rattle.store.specs.Trees.{Lent, Store}
 use Rattle.store.specs.Answers.{Answered}
 use Rattle.command.specs.Stream.{eventKind, answered}
+use Rattle.command.proofs.KindLaws.{few-event-operands}
 use Rattle.replies.specs.declared.types.Reply.{Reply}
 use Rattle.replies.specs.Replies.{RepliedAs}
 use Rattle.replies.proofs.RepliesAs.{replied}
@@ -21,7 +22,7 @@ use Rattle.events.specs.declared.reading.Event.{Event}
 use Rattle.events.specs.Events.{answerOf}
 use Rattle.demand.specs.Bursts.{mostEvents, eventBytes, eventWords, eventCount, burstRefusal, eventsFrom, eventsOf, firstEvent, answerTo, answersTo, storeBehind, resultWords, unlessRefusedWhole, enterBurst}
 use Rattle.demand.proofs.BurstReadings.{Fits, fits-or-31}
-use Rattle.demand.proofs.EventBytes.{event-answer}
+use Rattle.demand.proofs.WholeCommands.{whole-command}
 use Rattle.burst.specs.BurstReplies.{EventsEntered, BurstAs}
 
 -- The event of a place: its bytes are the first of those from there on
@@ -36,7 +37,8 @@ event-replies s bytes place inside operands is read same x =
     getD-drop (eventBytes * place) bytes 0 0 ∙ ap (λ (n : ℕ). getD bytes n 0) (add-zero (eventBytes * place)) in
     let eight : 8 ≤ length (take 8 (drop 1 rest)) = simp (length-take, length-drop) (omega (arith, inside)) in
     let whole : answered s operands (eventKind (getD bytes (eventBytes * place) 0)) ≡ answerTo s (firstEvent rest) =
-    ap₂ (λ (l : List ℕ) (kind : ℕ). answered s l (eventKind kind)) is (sym first) ∙ event-answer s (getD rest 0 0) (take 8 (drop 1 rest)) eight in
+    ap₂ (λ (l : List ℕ) (kind : ℕ). answered s l (eventKind kind)) is (sym first)
+    ∙ whole-command s (take 8 (drop 1 rest)) (eventKind (getD rest 0 0)) (omega (arith, few-event-operands (getD rest 0 0), eight)) in
     replied (sym whole ∙ sym (read s) ∙ ap (answerOf s) same) x
 
 -- A burst, by its refusal

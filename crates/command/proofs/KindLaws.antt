@@ -8,9 +8,10 @@ use lib.ListN.{length}
 use lib.Dec.{ltb, eqb}
 use borrow.Author.Tests.{eq-eqb, ne-eqb, lt-ltb, le-ltb}
 use Rattle.store.specs.Trees.{Store}
+use Rattle.store.specs.Answers.{refusedWith}
 use Rattle.store.specs.Calls.{Call}
 use Rattle.store.specs.Performing.{perform}
-use Rattle.command.specs.Stream.{Kind, unknown, command, startCommand, endCommand, questionCommand, eventKind, kindOf, operandBytes, refusedWith, answered}
+use Rattle.command.specs.Stream.{Kind, unknown, command, startCommand, endCommand, questionCommand, eventKind, kindOf, operandBytes, answered}
 
 abbrev events : Bool → Bool → Kind
 events x y = cond x (command 8 startCommand) (cond y (command 8 endCommand) unknown)
@@ -34,20 +35,30 @@ module _ (code : ℕ) where
   pub kind-event : (code ≡ 3 → ⊥) → kindOf code ≡ eventKind code
   kind-event n = ap (λ (x : Bool). cond x (command 12 questionCommand) (eventKind code)) (ne-eqb code 3 n)
 
--- What holds of the three commands and of an unknown byte holds of every byte
+-- What holds of a start, an end and an unknown byte holds of every event
+pub by-event : (P : Kind → Type 0) → P (command 8 startCommand) → P (command 8 endCommand) → P unknown → (code : ℕ) → P (eventKind code)
+by-event P s e u code = go (eqb code 1) (eqb code 2)
+  where
+    go : (x y : Bool) → P (events x y)
+    go true y = s
+    go false true = e
+    go false false = u
+
+-- And with a question, of every command
 pub by-kind : (P : Kind → Type 0) → P (command 8 startCommand) → P (command 8 endCommand) → P (command 12 questionCommand) → P unknown
     → (code : ℕ) → P (kindOf code)
-by-kind P s e q u code = go (eqb code 3) (eqb code 1) (eqb code 2)
+by-kind P s e q u code = go (eqb code 3)
   where
-    go : (x y z : Bool) → P (cond x (command 12 questionCommand) (events y z))
-    go true y z = q
-    go false true z = s
-    go false false true = e
-    go false false false = u
+    go : (x : Bool) → P (cond x (command 12 questionCommand) (eventKind code))
+    go true = q
+    go false = by-event P s e u code
 
--- No command has more operands than a question
+-- No command has more operands than a question, and no event more than a start
 pub few-operands : (code : ℕ) → operandBytes (kindOf code) ≤ 12
 few-operands = by-kind (λ (kind : Kind). operandBytes kind ≤ 12) (omega arith) (omega arith) (omega arith) (omega arith)
+
+pub few-event-operands : (code : ℕ) → operandBytes (eventKind code) ≤ 8
+few-event-operands = by-event (λ (kind : Kind). operandBytes kind ≤ 8) (omega arith) (omega arith) (omega arith)
 
 -- Too few operand bytes, or enough
 module _ (s : Store) (bytes : List ℕ) (n : ℕ) (call : List ℕ → Call) where

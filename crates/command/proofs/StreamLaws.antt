@@ -11,11 +11,11 @@ use lib.Seq.{take-take}
 use native.Mathlib.Decide.{decLe}
 use borrow.Author.Tests.{lt-ltb, le-ltb}
 use Rattle.store.specs.Trees.{Store}
-use Rattle.store.specs.Answers.{Answered}
+use Rattle.store.specs.Answers.{Answered, refusedWith}
 use Rattle.store.specs.Calls.{Call, start, end, question}
 use Rattle.store.specs.Performing.{perform}
 use Rattle.codec.specs.Bytes.{numberOf, operand}
-use Rattle.command.specs.Stream.{Kind, unknown, command, startCommand, endCommand, questionCommand, kindOf, operandBytes, written, refusedWith, Ran, runKind, runOne, thenRest, runFor}
+use Rattle.command.specs.Stream.{Kind, unknown, command, startCommand, endCommand, questionCommand, kindOf, operandBytes, written, Ran, runKind, runOne, thenRest, runFor}
 use Rattle.command.proofs.KindLaws.{by-kind}
 
 -- The rest of the input, where two ways to go on agree on it

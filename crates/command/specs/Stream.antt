@@ -9,7 +9,7 @@ use Rattle.store.specs.declared.types.Answer.{Answer}
 use Rattle.store.specs.declared.types.Answer.the-variants.{Refused, Opened, Started, Ended, Totals}
 use Rattle.store.specs.Trees.{LentTree, Lent, Store}
 use Rattle.store.specs.Head.{openedHead}
-use Rattle.store.specs.Answers.{refusalOf, valuesOf, Answered}
+use Rattle.store.specs.Answers.{refusalOf, valuesOf, Answered, refusedWith}
 use Rattle.store.specs.Calls.{Call, opening, start, end, question}
 use Rattle.store.specs.Performing.{perform}
 use Rattle.codec.specs.Bytes.{bytesOf, operand}
@@ -58,10 +58,6 @@ written a = bytesOf 1 (refusalOf a) ++ spelled (widthsOf a) (valuesOf a)
 -- No command writes more bytes than a question
 abbrev pub longestAnswer : ℕ
 longestAnswer = 18
-
--- "A refusal returns its number and no other field", "every lent word and the head are as before"
-abbrev pub refusedWith : ℕ → Store → Answered
-refusedWith n s = record { answer = Refused n; store = s }
 
 -- What a command answers and leaves, from the bytes that follow its byte: the operands, and more. "6 unknown command byte.", "7 command cut short."
 abbrev pub answered : Store → List ℕ → Kind → Answered

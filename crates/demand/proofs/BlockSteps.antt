@@ -10,15 +10,16 @@ use lib.Dec.{eqb, ltb}
 use borrow.Author.Tests.{eqb-true, ltb-true}
 use Rattle.store.specs.Trees.{Store}
 use Rattle.store.specs.Answers.{Answered}
-use Rattle.command.specs.Stream.{Kind, startCommand, endCommand, questionCommand, kindOf, written, answered, Ran, runOne}
+use Rattle.command.specs.Stream.{kindOf, written, answered, Ran, runOne}
 use Rattle.command.proofs.AnswerLengths.{output-fits}
-use Rattle.command.proofs.KindLaws.{by-kind, whole}
+use Rattle.command.proofs.KindLaws.{few-operands}
 use Rattle.register_block.specs.Block.{Block, blockBytes, commandAt, operandsAt, operandCount, operandsEnd, flagsAt, maskAt, flagsIn, flagByte, flagsOf, flagsCleared, operandsOf, isOperand, resetMask, registerWritten, showing}
 use Rattle.register_block.specs.Access.{Device, runFromBlock, Access, reset, read, write, accessed}
 use Rattle.register_block.proofs.BlockBytes.{rest-stays}
 use Rattle.register_block.proofs.BlockLengths.{run-length}
 use Rattle.demand.specs.Bursts.{askedBy, answerTo}
 use Rattle.demand.specs.Steps.{Step, single, burst, access, operandsAfterAccess, operandsAfter, deviceAfter}
+use Rattle.demand.proofs.WholeCommands.{whole-command}
 
 pub operands-length : (b : Block) → length b ≡ blockBytes → length (operandsOf b) ≡ operandCount
 operands-length b long = length-take-le operandCount (drop operandsAt b) (omega (arith, length-drop operandsAt b, long))
@@ -94,23 +95,13 @@ operands-follow d (single c) long = refl
 operands-follow d (burst bytes words) long = refl
 operands-follow d (access a) long = access-operands d a long
 
--- A command through the block is answered as the call that its operands spell: it has all of them, so that none is cut short
-pub answered-whole : (s : Store) (value : ℕ) (operands : List ℕ) → length operands ≡ operandCount
-    → answered s operands (kindOf value) ≡ answerTo s (askedBy (kindOf value) operands)
-answered-whole s value operands long =
-    by-kind (λ (kind : Kind). answered s operands kind ≡ answerTo s (askedBy kind operands))
-    (whole s operands 8 startCommand (omega (arith, long)))
-    (whole s operands 8 endCommand (omega (arith, long)))
-    (whole s operands 12 questionCommand (omega (arith, long)))
-    refl value
-
--- A command through the block shows the answer of that call, and leaves its store
+-- A command through the block has all its operands: it shows the answer of the call that they spell, and leaves its store
 module _ (d : Device) (value : ℕ) (long : length (d .block) ≡ blockBytes) where
   abbrev called : Answered
   called = answerTo (d .store) (askedBy (kindOf value) (operandsOf (d .block)))
 
   as-called : answered (d .store) (operandsOf (d .block)) (kindOf value) ≡ called
-  as-called = answered-whole (d .store) value (operandsOf (d .block)) (operands-length (d .block) long)
+  as-called = whole-command (d .store) (operandsOf (d .block)) (kindOf value) (omega (arith, few-operands value, operands-length (d .block) long))
 
   pub runs-the-call : runFromBlock d value .store ≡ called .store
   runs-the-call = ap (λ (a : Answered). a .store) as-called

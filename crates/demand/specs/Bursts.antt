@@ -8,9 +8,9 @@ use Rattle.store.specs.declared.types.Answer.the-variants.{Refused, Opened, Sta
 use Rattle.store.specs.Trees.{Store}
 use Rattle.store.specs.Refusals.{Ground, _gives_, firstMet}
 use Rattle.store.specs.Calls.{Call}
-use Rattle.store.specs.Answers.{refusalOf, Answered}
+use Rattle.store.specs.Answers.{refusalOf, Answered, refusedWith}
 use Rattle.store.specs.Performing.{perform}
-use Rattle.command.specs.Stream.{Kind, unknown, command, eventKind, refusedWith}
+use Rattle.command.specs.Stream.{Kind, unknown, command, eventKind}
 
 -- "firmware hands over up to 256 of them together, each as the 9 bytes of its command"
 abbrev pub mostEvents : ℕ

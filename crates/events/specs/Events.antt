@@ -1,9 +1,8 @@
 -- An event as the code takes it from its bytes.
 use Rattle.store.specs.Trees.{Store}
 use Rattle.store.specs.Calls.{start, end}
-use Rattle.store.specs.Answers.{Answered}
+use Rattle.store.specs.Answers.{Answered, refusedWith}
 use Rattle.store.specs.Performing.{perform}
-use Rattle.command.specs.Stream.{refusedWith}
 use Rattle.events.specs.declared.reading.Event.{Event}
 use Rattle.events.specs.declared.reading.Event.the-variants.{Start, End, Refused}
 

@@ -8,10 +8,11 @@ use lib.ListN.{length, take}
 use lib.Dec.{ltb}
 use Rattle.store.specs.declared.types.Head.{Head}
 use Rattle.store.specs.Trees.{Lent, Store}
+use Rattle.store.specs.Answers.{refusedWith}
 use Rattle.words.specs.Overwrite.{overwrite}
 use Rattle.store.specs.Head.{openLimit}
 use Rattle.store.specs.Performing.{perform}
-use Rattle.command.specs.Stream.{Kind, unknown, command, kindOf, refusedWith, runKind}
+use Rattle.command.specs.Stream.{Kind, unknown, command, kindOf, runKind}
 use Rattle.command.specs.Pieces as piece
 use Rattle.command.specs.Pieces.{takesNothing, runPiece, Piece, Feed, handedOver, fedWith, feedAfter, writtenAll}
 use Rattle.command.proofs.PieceSteps.{each-piece}

@@ -2,22 +2,18 @@
 use Prim.Native.Nat.{ℕ, zero, suc}
 use native.Mathlib.Omega.{arith}
 use mathlib.Core.Path.{_≡_, refl, ap, sym}
-use Rattle.store.specs.declared.types.Answer.the-variants.{Refused}
 use Rattle.store.specs.Trees.{Store}
-use Rattle.store.specs.Answers.{Answered, unlessRefused}
+use Rattle.store.specs.Answers.{Answered, refusedWith, unlessRefused}
 use Rattle.store.specs.Calls.{Call}
 use Rattle.store.specs.Performing.{refusal, served, perform}
 
-abbrev pub refusedAs : Store → ℕ → Answered
-refusedAs s r = record { answer = Refused r; store = s }
-
 module _ {r n : ℕ} (s : Store) (done : Answered) (is : r ≡ n) where
-  pub is-refused : (r ≡ 0 → ⊥) → unlessRefused n s done ≡ refusedAs s r
+  pub is-refused : (r ≡ 0 → ⊥) → unlessRefused n s done ≡ refusedWith r s
   is-refused some = go n is
     where
-      go : (m : ℕ) → r ≡ m → unlessRefused m s done ≡ refusedAs s r
+      go : (m : ℕ) → r ≡ m → unlessRefused m s done ≡ refusedWith r s
       go zero e = absurd (some e)
-      go (suc m) e = ap (refusedAs s) (sym e)
+      go (suc m) e = ap (λ (x : ℕ). refusedWith x s) (sym e)
 
   pub is-done : r ≡ 0 → unlessRefused n s done ≡ done
   is-done none = go n is
@@ -28,7 +24,7 @@ module _ {r n : ℕ} (s : Store) (done : Answered) (is : r ≡ n) where
 
 -- The same of the definition of a call
 module _ {r : ℕ} (s : Store) (c : Call) (is : r ≡ refusal s c) where
-  pub call-refused : (r ≡ 0 → ⊥) → perform s c ≡ refusedAs s r
+  pub call-refused : (r ≡ 0 → ⊥) → perform s c ≡ refusedWith r s
   call-refused some = is-refused s (served s c) is some
 
   pub call-served : r ≡ 0 → perform s c ≡ served s c

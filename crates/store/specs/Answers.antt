@@ -26,7 +26,11 @@ pub record Answered : Type 0 where
   pub answer : Answer
   pub store : Store
 
--- Refused, "every lent word and the head are as before", or else as the call does; 0 is no refusal
+-- "A refusal returns its number and no other field", "every lent word and the head are as before"
+abbrev pub refusedWith : ℕ → Store → Answered
+refusedWith n s = record { answer = Refused n; store = s }
+
+-- Refused, or else as the call does; 0 is no refusal
 abbrev pub unlessRefused : ℕ → Store → Answered → Answered
 unlessRefused zero s done = done
-unlessRefused (suc n) s done = record { answer = Refused (suc n); store = s }
+unlessRefused (suc n) s done = refusedWith (suc n) s

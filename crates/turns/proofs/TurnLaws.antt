@@ -10,6 +10,7 @@ use lib.Seq.{length-take-le, take-take}
 use lib.Dec.{eqb}
 use Rattle.words.specs.Overwrite.{overwrite}
 use Rattle.words.specs.Lists.{All}
+use Rattle.tree.proofs.Lists.{all-append}
 use Rattle.store.specs.Trees.{Lent, Store}
 use Rattle.command.specs.Stream.{longestAnswer}
 use Rattle.command.specs.Pieces as piece
@@ -95,10 +96,6 @@ unfolding feedAll
 feed-more f [] p = refl
 feed-more f (q ∷ pieces) p = feed-more (feedAfter f q) pieces p
 
-all-more : (P : Piece → Type 0) (pieces : List Piece) (p : Piece) → All P pieces → P p → All P (pieces ++ (p ∷ []))
-all-more P [] p h x = (x, tt)
-all-more P (q ∷ pieces) p h x = (h .0, all-more P pieces p (h .1) x)
-
 ends-open : (pieces : List Piece) → All (λ (p : Piece). p .ended ≡ false) pieces → EndsOnce pieces
 unfolding EndsOnce
 ends-open [] h = tt
@@ -126,8 +123,8 @@ module _ {before now after : Feed} {turns room : ℕ} (g : Going before now turn
       let same : record { store = after .store; waiting = after .waiting; over = false } ≡ after = λ i. record { store = after .store; waiting = after .waiting; over = off-so i } in
       record {
         pieces = g .pieces ++ (next ∷ []);
-        reads = all-more IsRead (g .pieces) next (g .reads) refl;
-        open-yet = all-more (λ (p : Piece). p .ended ≡ false) (g .pieces) next (g .open-yet) (t .goes-on off);
+        reads = all-append IsRead (g .pieces) (next ∷ []) (g .reads) (refl, tt);
+        open-yet = all-append (λ (p : Piece). p .ended ≡ false) (g .pieces) (next ∷ []) (g .open-yet) (t .goes-on off, tt);
         feeds = same ∙ fed-so-far;
         count = omega (arith, length-append (g .pieces) (next ∷ []), g .count, e);
       }
@@ -136,7 +133,7 @@ module _ {before now after : Feed} {turns room : ℕ} (g : Going before now turn
   last-turn e =
       record {
         pieces = g .pieces ++ (next ∷ []);
-        reads = all-more IsRead (g .pieces) next (g .reads) refl;
+        reads = all-append IsRead (g .pieces) (next ∷ []) (g .reads) (refl, tt);
         ends = ends-last (g .pieces) next (g .open-yet);
         store = ap (λ (f : Feed). f .store) fed-so-far;
         over-is = ap (λ (f : Feed). f .over) fed-so-far;
