@@ -3,7 +3,7 @@
 use Prim.Native.Nat.{ℕ, zero, suc, _+_, _≤_}
 use native.Mathlib.Omega.{arith}
 use mathlib.Core.Path.{_≡_, refl, ap, ap₂, sym, _∙_}
-use mathlib.Core.Bool.{Bool, true, false, cond, not}
+use mathlib.Core.Bool.{Bool, cond, not}
 use mathlib.Core.List.{List, [], _∷_, _++_}
 use lib.ListN.{length, take, drop, length-take, length-drop}
 use lib.Dec.{ltb}
@@ -15,7 +15,7 @@ use Rattle.store.specs.Answers.{Answered, refusedWith}
 use Rattle.store.specs.Calls.{Call, start, end, question}
 use Rattle.store.specs.Performing.{perform}
 use Rattle.codec.specs.Bytes.{numberOf, operand}
-use Rattle.command.specs.Stream.{Kind, unknown, command, startCommand, endCommand, questionCommand, kindOf, operandBytes, written, Ran, runKind, runOne, thenRest, runFor}
+use Rattle.command.specs.Stream.{Kind, command, startCommand, endCommand, questionCommand, kindOf, operandBytes, written, Ran, runKind, runOne, thenRest, runFor}
 use Rattle.command.proofs.KindLaws.{by-kind}
 
 -- The rest of the input, where two ways to go on agree on it

@@ -8,7 +8,6 @@ use lib.ListN.{length, set, take, drop, length-drop}
 use lib.Seq.{length-take-le, ext-getD, getD-take, getD-drop, take-set-le, take-set-lt, drop-set-add}
 use lib.Dec.{eqb, ltb}
 use borrow.Author.Tests.{eqb-true, ltb-true}
-use Rattle.store.specs.Trees.{Store}
 use Rattle.store.specs.Answers.{Answered}
 use Rattle.command.specs.Stream.{kindOf, written, answered, Ran, runOne}
 use Rattle.command.proofs.AnswerLengths.{output-fits}

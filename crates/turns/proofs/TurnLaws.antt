@@ -1,5 +1,5 @@
 -- A turn is a piece, and a run is a list of pieces.
-use Prim.Native.Nat.{ℕ, zero, suc, _+_, _-_, _*_, _≤_, _<_}
+use Prim.Native.Nat.{ℕ, _+_, _-_, _*_, _≤_}
 use native.Mathlib.Omega.{arith}
 use mathlib.Core.Path.{_≡_, refl, ap, ap₂, sym, _∙_}
 use mathlib.Core.Bool.{Bool, true, false, true≢false}
@@ -14,7 +14,7 @@ use Rattle.tree.proofs.Lists.{all-append}
 use Rattle.store.specs.Trees.{Lent, Store}
 use Rattle.command.specs.Stream.{longestAnswer}
 use Rattle.command.specs.Pieces as piece
-use Rattle.command.specs.Pieces.{runPiece, Piece, Feed, handedOver, fedWith, feedAfter, feedAll, inputOf, EndsOnce}
+use Rattle.command.specs.Pieces.{runPiece, Piece, Feed, fedWith, feedAfter, feedAll, inputOf, EndsOnce}
 use Rattle.command.proofs.PieceReadings.{takes-inside, room-enough, unfinished-short}
 use Rattle.pieces.specs.declared.pieces.Fed.{Fed}
 use Rattle.pieces.specs.Fed.{FedAs}
