@@ -1,4 +1,4 @@
--- Writes to the register block: what an exported call leaves, from what the registers and the packet of one command leave.
+-- Writes to the register block: what an exported call leaves, from what the registers, a question and the packet of one command leave.
 use Prim.Native.Nat.{ℕ, suc, _+_, _≤_}
 use native.Mathlib.Omega.{arith}
 use mathlib.Core.Path.{_≡_, refl, ap, ap₂, sym, subst, _∙_}
@@ -8,7 +8,10 @@ use lib.ListN.{length, getD, set, take, drop, replicate, length-take, length-set
 use lib.Seq.{take-take}
 use borrow.Author.Tests.{eq-eqb, ne-eqb}
 use Rattle.words.specs.Overwrite.{overwrite}
-use Rattle.command.specs.Stream.{kindOf, operandBytes, longestAnswer, Ran, runOne}
+use Rattle.store.specs.declared.types.Answer.{Answer}
+use Rattle.store.specs.declared.types.Head.{Head}
+use Rattle.command.specs.Stream as stream
+use Rattle.command.specs.Stream.{command, questionCommand, kindOf, operandBytes, longestAnswer, answered, Ran, runOne}
 use Rattle.command.specs.Pieces.{Fed, runPiece}
 use Rattle.command.proofs.AnswerLengths.{output-fits, output-begins}
 use Rattle.command.proofs.KindLaws.{few-operands}
@@ -16,10 +19,13 @@ use Rattle.command.proofs.StreamLaws.{front-enough}
 use Rattle.command.proofs.PieceSteps.{one-output, one-store}
 use Rattle.register_block.specs.Block.{Block, blockBytes, commandAt, operandCount, operandsOf, statusAt, flagsAt, resultAt, resultCount, flagByte, flagsShown, registerWritten, showing}
 use Rattle.register_block.specs.Access.{Device, runFromBlock, writeDevice}
+use Rattle.interpret.proofs.RunLaws.{question-stays}
 use Rattle.registers.proofs.RegisterLaws.{answer-shown}
+use Rattle.c_numbers.specs.Heads.{passNumbers, headOf}
 use Rattle.firmware.specs.Exported.{Handed, storeIn, handedBack}
 use Rattle.firmware.specs.Packets.{Packet, LeavesOf}
 use Rattle.firmware.specs.BlockCalls.{deviceIn, LeavesWrite}
+use Rattle.firmware.proofs.ExportedLaws.{handed-again}
 
 -- The front of a block is the command that was stored, with its operands
 command-front : (block : Block) (value : ℕ) → length block ≡ blockBytes
@@ -29,6 +35,21 @@ command-front (x ∷ xs) value whole =
     let n : ℕ = operandBytes (kindOf value) in
     let next : 1 + n ≡ suc n = omega arith in
     ap (λ (m : ℕ). take m (value ∷ xs)) next ∙ ap (_∷_ value) (sym (take-take n operandCount xs (few-operands value)))
+
+-- Storing a command leaves the operands
+operands-stay : (block : Block) (value : ℕ) → operandsOf (set block commandAt value) ≡ operandsOf block
+operands-stay [] value = refl
+operands-stay (x ∷ xs) value = refl
+
+-- The bytes of the answer to the question that the operands spell, from a head that the numbers make
+pub question-answers : (before : Handed) (block : Block) {head : Head} → head ≡ headOf (before .fields) (before .passes)
+    → {said : Answer} → said ≡ answered (record { head = head; lent = before .lent }) (operandsOf block) (command 12 questionCommand) .answer
+    → {bytes : List ℕ} → bytes ≡ overwrite (replicate longestAnswer 0) 0 (stream.written said)
+    → bytes ≡ overwrite (replicate longestAnswer 0) 0 (runOne (storeIn before) 3 (operandsOf block) .output)
+question-answers before block of-head says put =
+    put
+    ∙ ap (λ (x : Answer). overwrite (replicate longestAnswer 0) 0 (stream.written x))
+    (says ∙ ap (λ (h : Head). answered (record { head = h; lent = before .lent }) (operandsOf block) (command 12 questionCommand) .answer) of-head)
 
 module _ (before : Handed) (block : Block) (offset value : ℕ) where
   abbrev d : Device
@@ -46,15 +67,51 @@ module _ (before : Handed) (block : Block) (offset value : ℕ) where
         kept = λ other. refl;
       }
 
-  -- The command, run as a packet of its own: the front of the block, with room for the longest answer
+  abbrev ran : Ran
+  ran = runOne (storeIn before) value (operandsOf block)
+
+  -- A command that ran: its answer is shown, and the store that it left stands in the places
+  ran-leaves : offset ≡ commandAt → {stored : Block} → stored ≡ set block commandAt value
+      → {answer : List ℕ} → answer ≡ overwrite (replicate longestAnswer 0) 0 (ran .output) → {after : Handed} → after ≡ handedBack (ran .store)
+      → {block′ : Block}
+      → block′
+      ≡ overwrite (set (set stored statusAt (getD answer 0 0)) flagsAt (flagByte (flagsShown (getD answer 0 0) (after .fields .count)))) resultAt
+      (take resultCount (drop 1 answer))
+      → LeavesWrite before block offset value after block′
+  ran-leaves at is answers {after} left-is shown =
+      let operand-bytes : List ℕ = operandsOf block in
+      let ran-it : runFromBlock d value ≡ writeDevice d offset value = ap written (sym (eq-eqb offset commandAt at)) in
+      let shows =
+      answer-shown block value (ran .output) (after .fields .count) (output-begins (storeIn before) value operand-bytes) (output-fits (storeIn before) value operand-bytes)
+      answers is shown in
+      record {
+        block-is = shows ∙ ap (λ (h : Handed). showing block value (ran .output) (h .fields .count)) left-is ∙ ap (λ (x : Device). x .block) ran-it;
+        left = λ _. left-is ∙ ap (λ (x : Device). handedBack (x .store)) ran-it;
+        kept = λ other. absurd (other at);
+      }
+
+  -- A question, which leaves head and slices
+  pub question-leaves : offset ≡ commandAt → value ≡ 3 → length (before .passes) ≡ passNumbers → {stored : Block} → stored ≡ set block commandAt value
+      → {answer : List ℕ} → answer ≡ overwrite (replicate longestAnswer 0) 0 (runOne (storeIn before) 3 (operandsOf stored) .output)
+      → {block′ : Block}
+      → block′
+      ≡ overwrite (set (set stored statusAt (getD answer 0 0)) flagsAt (flagByte (flagsShown (getD answer 0 0) (before .fields .count)))) resultAt
+      (take resultCount (drop 1 answer))
+      → LeavesWrite before block offset value before block′
+  question-leaves at asks long {stored} is answers shown =
+      let from-block : operandsOf stored ≡ operandsOf block = ap operandsOf is ∙ operands-stay block value in
+      let same : runOne (storeIn before) 3 (operandsOf stored) ≡ ran = ap₂ (runOne (storeIn before)) (sym asks) from-block in
+      let stays : ran .store ≡ storeIn before =
+      ap (λ (v : ℕ). runOne (storeIn before) v (operandsOf block) .store) asks ∙ question-stays (storeIn before) (operandsOf block) in
+      ran-leaves at is (answers ∙ ap (λ (r : Ran). overwrite (replicate longestAnswer 0) 0 (r .output)) same)
+      (sym (ap handedBack stays ∙ handed-again before long)) shown
+
+  -- Any command, run as a packet of its own: the front of the block, with room for the longest answer
   abbrev packet : List ℕ
   packet = take (1 + operandBytes (kindOf value)) (set block commandAt value)
 
   abbrev fed : Fed
   fed = runPiece longestAnswer true (storeIn before) packet
-
-  abbrev ran : Ran
-  ran = runOne (storeIn before) value (operandsOf block)
 
   module _ (whole : length block ≡ blockBytes) where
     abbrev operands : List ℕ
@@ -82,20 +139,10 @@ module _ (before : Handed) (block : Block) (offset value : ℕ) where
         ≡ overwrite (set (set stored statusAt (getD (said .out) 0 0)) flagsAt (flagByte (flagsShown (getD (said .out) 0 0) (after .fields .count)))) resultAt
         (take resultCount (drop 1 (said .out)))
         → LeavesWrite before block offset value after block′
-    command-leaves at {stored} is {count} counts {said} {after} run shown =
+    command-leaves at is counts {said} {after} run shown =
         let leaves : LeavesOf fed said (replicate longestAnswer 0) after =
         subst (λ (bytes : List ℕ). LeavesOf (runPiece longestAnswer true (storeIn before) bytes) said (replicate longestAnswer 0) after) (ap₂ take counts is) run in
-        let operand-bytes : List ℕ = operandsOf block in
-        let left-is : after ≡ handedBack (ran .store) = leaves .left ∙ ap handedBack fed-store in
-        let ran-it : runFromBlock d value ≡ writeDevice d offset value = ap written (sym (eq-eqb offset commandAt at)) in
-        let shows =
-        answer-shown block value (ran .output) (after .fields .count) (output-begins (storeIn before) value operand-bytes) (output-fits (storeIn before) value operand-bytes)
-        (leaves .output ∙ ap (overwrite (replicate longestAnswer 0) 0) fed-output) is shown in
-        record {
-          block-is = shows ∙ ap (λ (h : Handed). showing block value (ran .output) (h .fields .count)) left-is ∙ ap (λ (x : Device). x .block) ran-it;
-          left = λ _. left-is ∙ ap (λ (x : Device). handedBack (x .store)) ran-it;
-          kept = λ other. absurd (other at);
-        }
+        ran-leaves at is (leaves .output ∙ ap (overwrite (replicate longestAnswer 0) 0) fed-output) (leaves .left ∙ ap handedBack fed-store) shown
 
 -- A block that was stored to is as long as before
 pub long-before : (block : Block) (value : ℕ) {stored : Block} → stored ≡ set block commandAt value → length stored ≡ blockBytes → length block ≡ blockBytes

@@ -1,8 +1,14 @@
 // The register block of the radio chip, for C: 40 lent bytes, any of which are a block.
 use crate::commands::nimbleshale_commands;
+use c_numbers::head_of;
 use framing::LONGEST_ANSWER;
+use interpret::QUESTION;
+use interpret::answer_question;
+use pieces::answer_bytes;
 use registers::BLOCK_BYTES;
+use registers::OPERANDS;
 use registers::RESET_MASK;
+use registers::STATUS;
 use registers::line_high;
 use registers::put_command;
 use registers::read;
@@ -12,11 +18,14 @@ use registers::write_register;
 use store::Head;
 ghost use mathlib.Core.Path.{_≡_};
 ghost use mathlib.Core.Bool.{cond};
+ghost use lib.ListN.{length, replicate};
+ghost use Rattle.words.specs.Overwrite.{overwrite};
 ghost use Rattle.tree.specs.declared.types.TreeUse.{TreeUse};
 ghost use Rattle.store.specs.Trees.{Lent, lentOf};
-ghost use Rattle.register_block.specs.Block.{resetMask, clearBlock, readBlock, lineHigh};
-ghost use Rattle.c_numbers.specs.Heads.{Fields};
-ghost use Rattle.firmware.specs.Exported.{Handed};
+ghost use Rattle.command.specs.Stream.{longestAnswer, runOne};
+ghost use Rattle.register_block.specs.Block.{operandsOf, resetMask, clearBlock, readBlock, lineHigh};
+ghost use Rattle.c_numbers.specs.Heads.{Fields, passNumbers};
+ghost use Rattle.firmware.specs.Exported.{Handed, storeIn};
 ghost use Rattle.firmware.specs.BlockCalls.{LeavesWrite};
 
 // "Reset clears the block": it is handed no store, so that it can change none.
@@ -43,7 +52,53 @@ pub extern "C" fn nimbleshale_block_line(block: &[u8; BLOCK_BYTES]) -> u8
     line_high(block) as u8
 }
 
-// The radio side writes a byte at an offset. Byte 0 runs a command, as a packet of its own: head and slices are left as the stream's command leaves them.
+// The answer to the question that the operands of a block spell, zero filled. It leaves head and slices.
+fn answer_in_block(
+    last: u32,
+    started: u32,
+    count_open: u32,
+    start_pages_used: u32,
+    start_roots_used: u32,
+    end_pages_used: u32,
+    end_roots_used: u32,
+    passes: &[u32],
+    start_table: &[u64],
+    start_roots: &[u64],
+    end_table: &[u64],
+    end_roots: &[u64],
+    block: &[u8; BLOCK_BYTES],
+) -> [u8; LONGEST_ANSWER]
+    requires { ⌜ length (now passes) ≡ passNumbers ⌝ }
+    ensures { λ r. do
+      let handedStarts : TreeUse = record { pages = «start_pages_used»; roots = «start_roots_used» }
+      let handedEnds : TreeUse = record { pages = «end_pages_used»; roots = «end_roots_used» }
+      let handedFields : Fields = record { last = last; started = started; count = «count_open»; starts = handedStarts; ends = handedEnds }
+      let handedLent : Lent = lentOf (now («start_table» .entry)) (now («start_roots» .entry)) (now («end_table» .entry)) (now («end_roots» .entry))
+      let handed : Handed = record { fields = handedFields; passes = now (passes .entry); lent = handedLent }
+      ⌜ r ≡ overwrite (replicate longestAnswer 0) 0 (runOne (storeIn handed) 3 (operandsOf (now (block .entry))) .output) ⌝ }
+{
+    let bytes = &block[..];
+    let answer = answer_question(
+        head_of(
+            last,
+            started,
+            count_open,
+            start_pages_used,
+            start_roots_used,
+            end_pages_used,
+            end_roots_used,
+            passes,
+        ),
+        start_table,
+        start_roots,
+        end_table,
+        end_roots,
+        &bytes[OPERANDS..STATUS],
+    );
+    answer_bytes(answer)
+}
+
+// The radio side writes a byte at an offset. Byte 0 runs a command: head and slices are left as the stream's command leaves them.
 #[no_mangle]
 pub extern "C" fn nimbleshale_block_write(
     last: &mut u32,
@@ -81,6 +136,27 @@ pub extern "C" fn nimbleshale_block_write(
         return;
     }
     let length = put_command(block, value);
+    // A question leaves the head, so that it needs no frame with a second one.
+    if value == QUESTION {
+        let answer = answer_in_block(
+            *last,
+            *started,
+            *count_open,
+            *start_pages_used,
+            *start_roots_used,
+            *end_pages_used,
+            *end_roots_used,
+            passes,
+            start_table,
+            start_roots,
+            end_table,
+            end_roots,
+            block,
+        );
+        show_answer(block, &answer, *count_open);
+        return;
+    }
+    // Any other command runs as a packet of its own.
     let bytes = &block[..];
     let mut answer = [0u8; LONGEST_ANSWER];
     let mut taken: usize = 0;

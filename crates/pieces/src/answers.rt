@@ -4,7 +4,7 @@ use framing::LONGEST_ANSWER;
 use store::Answer;
 ghost use mathlib.Core.Path.{_≡_};
 ghost use Prim.Native.Nat.{_+_, _≤_};
-ghost use lib.ListN.{length};
+ghost use lib.ListN.{length, replicate};
 ghost use Rattle.words.specs.Overwrite.{overwrite};
 ghost use Rattle.store.specs.declared.types.Answer.the-variants as said;
 ghost use Rattle.command.specs.Stream.{written, longestAnswer};
@@ -57,4 +57,13 @@ pub fn put_answer(out: &mut [u8], from: usize, answer: Answer) -> usize
             from + LONGEST_ANSWER
         }
     }
+}
+
+// An answer's bytes at the front of zeros, for a place that is as long as the longest answer.
+pub fn answer_bytes(answer: Answer) -> [u8; LONGEST_ANSWER]
+    ensures { λ r. ⌜ r ≡ overwrite (replicate longestAnswer 0) 0 (written answer) ⌝ }
+{
+    let mut bytes = [0u8; LONGEST_ANSWER];
+    put_answer(&mut bytes, 0, answer);
+    bytes
 }

@@ -2,5 +2,6 @@
 mod answers;
 mod pieces;
 
+pub use answers::answer_bytes;
 pub use pieces::Fed;
 pub use pieces::run_piece;

@@ -3,6 +3,8 @@ pub const BLOCK_BYTES: usize = 40;
 
 pub const COMMAND: usize = 0;
 
+pub const OPERANDS: usize = 1;
+
 pub const STATUS: usize = 13;
 
 pub const FLAGS: usize = 14;

@@ -5,7 +5,9 @@ mod registers;
 mod showing;
 
 pub use layout::BLOCK_BYTES;
+pub use layout::OPERANDS;
 pub use layout::RESET_MASK;
+pub use layout::STATUS;
 pub use registers::line_high;
 pub use registers::read;
 pub use registers::reset;

@@ -1,14 +1,14 @@
 use Rattle.command.specs.Stream.{eventKind}
 use Rattle.command.proofs.KindLaws.{kind-question, kind-event}
-use Rattle.interpret.proofs.RunLaws.{of-kind, event-replies}
+use Rattle.interpret.proofs.RunLaws.{question-replies, of-kind, event-replies}
 use Rattle.replies.proofs.RepliesAs.{refused-reply}
 use Rattle.store.specs.Trees.{storeOf}
 use borrow.Author.Needs.{needs}
 use Rattle.interpret.proofs.run.run_command.Statement.{statement}
 use Rattle.interpret.proofs.run.run_command.Tie as tie
 
-run-question-requires : tie.Need-run-question-requires
-run-question-requires c κs = search needs
+answer-question-requires : tie.Need-answer-question-requires
+answer-question-requires c κs = search needs
 
 same-length : tie.Need-same-length
 same-length c = search needs
@@ -25,7 +25,7 @@ same-length-4 c = search needs
 returns : tie.Need-returns
 returns c =
     let a = c .before .before .before .before .before .before .before .before .before .before .before .args in
-    of-kind (storeOf (a .head) (a .start-table .now) (a .start-roots .now) (a .end-table .now) (a .end-roots .now)) (a .operands .now) (kind-question (a .code) (c .before .before .before .before .before .if1 .taken)) (c .run-question .ensures)
+    of-kind (storeOf (a .head) (a .start-table .now) (a .start-roots .now) (a .end-table .now) (a .end-roots .now)) (a .operands .now) (kind-question (a .code) (c .before .before .before .before .before .if1 .taken)) (question-replies (storeOf (a .head) (a .start-table .now) (a .start-roots .now) (a .end-table .now) (a .end-roots .now)) (a .operands .now) (c .answer-question .ensures))
 
 read-event-requires : tie.Need-read-event-requires
 read-event-requires c κs = search needs
@@ -94,7 +94,7 @@ pub run-command-spec : {M : Type 1} → statement M
 run-command-spec =
     tie.close
     (tie.spec
-    run-question-requires
+    answer-question-requires
     same-length
     same-length-2
     same-length-3
