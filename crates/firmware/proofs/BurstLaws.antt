@@ -16,7 +16,7 @@ use Rattle.firmware.specs.Exported.{Handed, storeIn, handedBack}
 use Rattle.c_numbers.proofs.HeadNumbers.{passes-length}
 use Rattle.firmware.proofs.ExportedLaws.{handed-again}
 use Rattle.firmware.proofs.ExportedLists.{tried-places}
-use Rattle.firmware.proofs.KeptPlaces.{written-back}
+use Rattle.firmware.proofs.KeptPlaces.{all-places, written-back}
 use Rattle.firmware.specs.BurstCalls.{LeavesBurst}
 
 -- A burst that is refused as a whole tries no event
@@ -60,10 +60,11 @@ module _ (before : Handed) (events results : List ℕ) {head : Head} (of-head : 
       → LeavesBurst b 0 (record { handed = before; results = results })
       (record { handed = record { fields = fields; passes = passes; lent = lent }; results = results′ })
   burst-done long none fs ps =
-      let new = tried-places (burstRefusal events (length results)) (storeIn before) (passes-length (before .passes) 0 openLimit) (eventsOf events) in
+      let places = passes-length (before .passes) 0 openLimit in
+      let new = tried-places (burstRefusal events (length results)) (storeIn before) places (eventsOf events) in
       record {
         refusal = sym none ∙ is .refusal;
         words = is .words;
-        left = written-back before long (b .store) new (is .head) (is .lent-is) fs ps;
+        left = written-back before long (b .store) (all-places (storeIn before .head) (b .store .head) places new) (is .head) (is .lent-is) fs ps;
         kept = λ some. absurd (some refl);
       }

@@ -25,7 +25,7 @@ use Rattle.c_numbers.specs.Heads.{Fields, passNumbers, headOf, fieldsOf, number
 use Rattle.c_numbers.proofs.HeadNumbers.{passes-length, others-kept}
 use Rattle.firmware.specs.Exported.{Handed, storeIn, handedBack}
 use Rattle.firmware.proofs.ExportedLaws.{KeepsFrom, is}
-use Rattle.firmware.proofs.ExportedLists.{Places, places-stay}
+use Rattle.firmware.proofs.ExportedLists.{places-stay}
 
 -- All places are all that there are
 pub all-places : (before after : Head) → length (before .passes) ≡ openLimit → length (after .passes) ≡ openLimit → KeepsFrom openLimit before after
@@ -36,17 +36,17 @@ all-places before after old new =
       rest = drop-of-length-le (after .passes) {i = openLimit} (omega (arith, new)) ∙ sym (drop-of-length-le (before .passes) {i = openLimit} (omega (arith, old)));
     }
 
--- A head whose places are all written in the places of the one before it
-pub written-back : (before : Handed) → length (before .passes) ≡ passNumbers → (s : Store) → Places s → {head : Head} → head ≡ s .head → {lent : Lent} → lent ≡ s .lent
-    → {fields : Fields} {passes : List ℕ} → fields ≡ fieldsOf head → passes ≡ overwrite (before .passes) 0 (numbersOf (take openLimit (head .passes)))
+-- A head is written in the places of the one before it, its passes as far as they may have changed
+pub written-back : (before : Handed) → length (before .passes) ≡ passNumbers → (s : Store) {places : ℕ} → KeepsFrom places (storeIn before .head) (s .head)
+    → {head : Head} → head ≡ s .head → {lent : Lent} → lent ≡ s .lent
+    → {fields : Fields} {passes : List ℕ} → fields ≡ fieldsOf head → passes ≡ overwrite (before .passes) 0 (numbersOf (take places (head .passes)))
     → record { fields = fields; passes = passes; lent = lent } ≡ handedBack s
-written-back before long s new is lent-is fs ps =
-    let kept = all-places (storeIn before .head) (s .head) (passes-length (before .passes) 0 openLimit) new in
+written-back before long s {places} kept is lent-is fs ps =
     let fields-are = fs ∙ ap fieldsOf is in
     let passes-are =
     ps
-    ∙ ap (λ (h : Head). overwrite (before .passes) 0 (numbersOf (take openLimit (h .passes)))) is
-    ∙ others-kept (before .passes) (s .head .passes) openLimit long new (kept .few) (kept .rest) in
+    ∙ ap (λ (h : Head). overwrite (before .passes) 0 (numbersOf (take places (h .passes)))) is
+    ∙ others-kept (before .passes) (s .head .passes) places long (kept .full) (kept .few) (kept .rest) in
     λ i. record { fields = fields-are i; passes = passes-are i; lent = lent-is i }
 
 module _ (s : Store) (long : length (s .head .passes) ≡ openLimit) where
@@ -62,7 +62,7 @@ module _ (s : Store) (long : length (s .head .passes) ≡ openLimit) where
       go (suc n) r e = absurd (omega (arith, e))
 
   module _ (tick key weight : ℕ) where
-    started : refusal s (start tick key weight) ≡ 0
+    pub started : refusal s (start tick key weight) ≡ 0
         → KeepsFrom (served s (start tick key weight) .store .head .count) (s .head) (served s (start tick key weight) .store .head)
     unfolding served
     started e =
@@ -79,10 +79,10 @@ module _ (s : Store) (long : length (s .head .passes) ≡ openLimit) where
     start-keeps e = accepted (start tick key weight) (λ (x : Store). KeepsFrom (x .head .count) (s .head) (x .head)) e started
 
   module _ (tick number : ℕ) where
-    abbrev headAfter : FoundPass → Head
+    abbrev pub headAfter : FoundPass → Head
     headAfter found = endedHead (enterAll s (endEntries tick found) .head) tick found
 
-    by-place : refusal s (end tick number) ≡ 0 → (found : FoundPass) → passOf (s .head) number ≡ found
+    pub by-place : refusal s (end tick number) ≡ 0 → (found : FoundPass) → passOf (s .head) number ≡ found
         → KeepsFrom (headAfter found .count + 1) (s .head) (headAfter found)
     by-place e Missing f = let none = none-of s (end tick number) refl e in record { full = long; few = omega (arith, none .1 .count); rest = refl }
     by-place e (At place p) f =

@@ -5,47 +5,26 @@ use mathlib.Core.Bool.{Bool, true, false, cond}
 use mir.Val.{boolByte}
 use mathlib.Core.List.{List, [], _∷_, _++_}
 use lib.ListN.{length, take}
-use lib.Dec.{ltb}
 use Rattle.store.specs.declared.types.Head.{Head}
-use Rattle.store.specs.Trees.{Lent, Store}
-use Rattle.store.specs.Answers.{refusedWith}
+use Rattle.store.specs.Trees.{Lent}
 use Rattle.words.specs.Overwrite.{overwrite}
 use Rattle.store.specs.Head.{openLimit}
-use Rattle.store.specs.Performing.{perform}
-use Rattle.command.specs.Stream.{Kind, unknown, command, kindOf, runKind}
 use Rattle.command.specs.Pieces as piece
 use Rattle.command.specs.Pieces.{takesNothing, runPiece, Piece, Feed, handedOver, fedWith, feedAfter, writtenAll}
-use Rattle.command.proofs.PieceSteps.{each-piece}
 use Rattle.pieces.specs.declared.pieces.Fed.{Fed}
 use Rattle.pieces.specs.Fed.{FedAs}
 use Rattle.c_numbers.specs.Heads.{Fields, passNumbers, headOf, fieldsOf, numbersOf}
 use Rattle.c_numbers.proofs.HeadNumbers.{passes-length}
 use Rattle.firmware.specs.Exported.{Handed, storeIn, handedBack}
-use Rattle.firmware.specs.Packets.{LeavesOf, handedOn, exportPackets}
-use Rattle.firmware.proofs.ExportedLists.{store-back, places-stay, Places}
+use Rattle.firmware.specs.Packets.{changedPlaces, LeavesOf, handedOn, exportPackets}
+use Rattle.firmware.proofs.ExportedLists.{store-back, Places}
 use Rattle.firmware.proofs.KeptPlaces.{written-back}
+use Rattle.firmware.proofs.PacketPlaces.{packet-places, packet-keeps}
 
 -- A truth value as a byte
 pub as-byte : (b : Bool) → boolByte b ≡ cond b 1 0
 as-byte true = refl
 as-byte false = refl
-
--- Every command and every packet leave a head with as many places
-pub command-places : (s : Store) → Places s → (bytes : List ℕ) (kind : Kind) → Places (runKind s bytes kind .store)
-command-places s long bytes unknown = long
-command-places s long bytes (command n call) = go (ltb (length bytes) n)
-  where
-    go : (x : Bool) → Places (cond x (refusedWith 7 s) (perform s (call bytes)) .store)
-    go true = long
-    go false = places-stay s long (call bytes)
-
-packet-places : (room : ℕ) (ended : Bool) (s : Store) (bytes : List ℕ) → Places s → Places (runPiece room ended s bytes .store)
-packet-places =
-    each-piece (λ (room : ℕ) (ended : Bool) (s : Store) (bytes : List ℕ) (f : piece.Fed). Places s → Places (f .store))
-    (λ room ended s long. long)
-    (λ room ended s b bytes w long. long)
-    (λ room ended s b bytes w o long. command-places s long bytes (kindOf b))
-    (λ room ended s b bytes f w o h long. h (command-places s long bytes (kindOf b)))
 
 module _ (room : ℕ) (ended : Bool) (before : Handed) (input : List ℕ) {head : Head} (of-head : head ≡ headOf (before .fields) (before .passes)) {r : Fed} {out out′ : List ℕ}
     {lent : Lent} (fed : FedAs (runPiece room ended (record { head = head; lent = before .lent }) input) r out out′ lent) where
@@ -53,17 +32,21 @@ module _ (room : ℕ) (ended : Bool) (before : Handed) (input : List ℕ) {head 
   is = subst (λ (h : Head). FedAs (runPiece room ended (record { head = h; lent = before .lent }) input) r out out′ lent) of-head fed
 
   pub packet-leaves : length (before .passes) ≡ passNumbers → {over : ℕ} → over ≡ cond (r .over) 1 0 → {fields : Fields} {passes : List ℕ} → fields ≡ fieldsOf (r .head)
-      → passes ≡ overwrite (before .passes) 0 (numbersOf (take openLimit (r .head .passes)))
+      → {places : ℕ} → places ≡ changedPlaces (before .fields .count) (r .taken) → passes ≡ overwrite (before .passes) 0 (numbersOf (take places (r .head .passes)))
       → LeavesOf (runPiece room ended (storeIn before) input) (record { over = over; taken = r .taken; written = r .written; out = out′ }) out
       (record { fields = fields; passes = passes; lent = lent })
-  packet-leaves long e fs ps =
-      let new = packet-places room ended (storeIn before) input (passes-length (before .passes) 0 openLimit) in
+  packet-leaves long e fs {places} counted ps =
+      let f : piece.Fed = runPiece room ended (storeIn before) input in
+      let kept = packet-keeps room ended (storeIn before) input (passes-length (before .passes) 0 openLimit) in
+      let changed : places ≡ changedPlaces (before .fields .count) (f .taken) = counted ∙ ap (changedPlaces (before .fields .count)) (is .taken) in
       record {
         over = e ∙ ap (λ (x : Bool). cond x 1 0) (is .over);
         taken = is .taken;
         written = is .size;
         output = is .output;
-        left = written-back before long (runPiece room ended (storeIn before) input .store) new (is .head) (is .lent-is) fs ps;
+        left =
+            written-back before long (f .store) kept (is .head) (is .lent-is) fs
+            (ps ∙ ap (λ (n : ℕ). overwrite (before .passes) 0 (numbersOf (take n (r .head .passes)))) changed);
       }
 
 fed-places : (f : Feed) (p : Piece) → Places (f .store) → Places (feedAfter f p .store)

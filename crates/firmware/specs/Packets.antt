@@ -1,11 +1,13 @@
 -- What an exported call says of a packet of commands, and leaves.
-use Prim.Native.Nat.{ℕ}
+use Prim.Native.Nat.{ℕ, _+_, _/_, min}
 use mathlib.Core.Path.{_≡_}
-use mathlib.Core.Bool.{Bool, cond}
+use mathlib.Core.Bool.{cond}
 use mathlib.Core.List.{List, [], _∷_, _++_}
 use lib.ListN.{length}
 use Rattle.words.specs.Overwrite.{overwrite}
+use Rattle.store.specs.Head.{openLimit}
 use Rattle.command.specs.Pieces.{Fed, Piece, Feed, fedWith, feedAfter}
+use Rattle.demand.specs.Bursts.{eventBytes}
 use Rattle.firmware.specs.Exported.{Handed, storeIn, handedBack}
 
 -- The number returned, the lent numbers and the room for answers, afterwards
@@ -30,3 +32,8 @@ handedOn f = record { store = storeIn (handedBack (f .store)); waiting = f .wait
 unfoldable pub exportPackets : Feed → List Piece → List ℕ
 exportPackets f [] = []
 exportPackets f (p ∷ packets) = fedWith f p .output ++ exportPackets (handedOn (feedAfter f p)) packets
+
+-- For an inner promise alone: how many places of open passes a packet may change, by the passes that were open and the bytes that it took. A start takes the place
+-- behind the open passes, and its command has as many bytes as an event
+abbrev pub changedPlaces : (count taken : ℕ) → ℕ
+changedPlaces count taken = min (count + taken / eventBytes) openLimit

@@ -1,8 +1,10 @@
 // The command stream, for C: a packet of bytes with several commands.
+use burst_words::EVENT_BYTES;
 use c_numbers::head_of;
 use c_numbers::put_head;
 use pieces::run_piece;
 use store::Head;
+ghost use mathlib.Core.Path.{_≡_};
 ghost use mathlib.Core.Bool.{not};
 ghost use lib.ListN.{length};
 ghost use lib.Dec.{eqb};
@@ -11,7 +13,19 @@ ghost use Rattle.store.specs.Trees.{Lent, lentOf};
 ghost use Rattle.command.specs.Pieces.{runPiece};
 ghost use Rattle.c_numbers.specs.Heads.{Fields};
 ghost use Rattle.firmware.specs.Exported.{Handed, storeIn};
-ghost use Rattle.firmware.specs.Packets.{Packet, LeavesOf};
+ghost use Rattle.firmware.specs.Packets.{changedPlaces, Packet, LeavesOf};
+
+// How many places of open passes a packet may have changed, by the passes that were open and the bytes that it took. Packets are short, and the other places need not
+// be written.
+fn changed_places(count: u32, taken: usize) -> usize
+    ensures { λ r. ⌜ r ≡ changedPlaces count taken ⌝ }
+{
+    let places = count as usize + taken / EVENT_BYTES;
+    if places < Head::PLACES {
+        return places;
+    }
+    Head::PLACES
+}
 
 // Runs as many commands of a packet as have come whole and have room for their answers. Where `ended` is not 0 no byte comes after these, so that a
 // command that lacks operands is cut short. Says 1 where the run is over, and else 0.
@@ -71,9 +85,10 @@ pub extern "C" fn nimbleshale_commands(
     );
     *taken = fed.taken;
     *written = fed.written;
+    let places = changed_places(*count_open, fed.taken);
     put_head(
         fed.head,
-        Head::PLACES,
+        places,
         last,
         started,
         count_open,

@@ -9,7 +9,7 @@ use Rattle.store.specs.declared.types.Answer.{Answer}
 use Rattle.store.specs.Trees.{Lent, Store}
 use Rattle.store.specs.declared.types.Answer.the-variants.{Refused}
 use Rattle.store.specs.Answers.{Answered, refusedWith, unlessRefused}
-use Rattle.store.specs.Calls.{Call, question}
+use Rattle.store.specs.Calls.{question}
 use Rattle.store.specs.Performing.{refusal, served, perform}
 use Rattle.replies.specs.declared.types.Reply.{Reply}
 use Rattle.replies.specs.Replies.{RepliedAs}
