@@ -370,11 +370,11 @@ uint8_t nimbleshale_block_line(const uint8_t block[NIMBLESHALE_BLOCK_BYTES]);
  * Refusals: none of its own.
  * Stack: 14,232 bytes, of which a question takes 6,592 and a write to another byte than 0 takes 184.
  */
-void nimbleshale_block_write(uint32_t *last, uint32_t *started, uint32_t *count_open, uint32_t *start_pages_used, uint32_t *start_roots_used,
-                             uint32_t *end_pages_used, uint32_t *end_roots_used, uint32_t passes[NIMBLESHALE_PASS_NUMBERS],
-                             uint64_t *start_table, size_t start_table_length, uint64_t *start_roots, size_t start_roots_length,
-                             uint64_t *end_table, size_t end_table_length, uint64_t *end_roots, size_t end_roots_length,
-                             uint8_t block[NIMBLESHALE_BLOCK_BYTES], size_t offset, uint8_t value);
+void nimbleshale_block_write(uint8_t block[NIMBLESHALE_BLOCK_BYTES], size_t offset, uint8_t value, uint32_t *last, uint32_t *started,
+                             uint32_t *count_open, uint32_t *start_pages_used, uint32_t *start_roots_used, uint32_t *end_pages_used,
+                             uint32_t *end_roots_used, uint32_t passes[NIMBLESHALE_PASS_NUMBERS], uint64_t *start_table,
+                             size_t start_table_length, uint64_t *start_roots, size_t start_roots_length, uint64_t *end_table,
+                             size_t end_table_length, uint64_t *end_roots, size_t end_roots_length);
 
 #ifdef __cplusplus
 }
@@ -484,7 +484,7 @@ static inline uint8_t nimbleshale_store_burst(struct nimbleshale_store *store, c
 static inline void nimbleshale_store_block_write(struct nimbleshale_store *store, uint8_t block[NIMBLESHALE_BLOCK_BYTES], size_t offset,
                                                  uint8_t value)
 {
-    nimbleshale_block_write(NIMBLESHALE_LENT, block, offset, value);
+    nimbleshale_block_write(block, offset, value, NIMBLESHALE_LENT);
 }
 
 #undef NIMBLESHALE_LENT

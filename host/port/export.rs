@@ -19,14 +19,16 @@ unsafe fn seen<'a, T>(start: *const T, length: usize) -> &'a [T] {
     from_raw_parts(start, length)
 }
 
-/// Defines a call that may write: the seven numbers of the head are read and written back. A refused call has left them as they were. Where
-/// `first` answers, the call is done without the store: nothing of it is written, not even with what it held.
+/// Defines a call that may write: the seven numbers of the head are read and written back. A refused call has left them as they were. With
+/// `first` there are arguments before those of the store, and where the expression behind them answers, the call is done without the store: nothing of it
+/// is written, not even with what it held.
 macro_rules! writing {
-    ($name:ident -> $answer:ty, $call:path, ($($argument:ident: $type:ty),*), ($($passed:expr),*) $(, first $without:expr)?) => {
+    ($name:ident -> $answer:ty, $call:path, ($($argument:ident: $type:ty),*), ($($passed:expr),*) $(, first ($($first:ident: $first_type:ty),*) $without:expr)?) => {
         /// # Safety
         /// Every pointer is to memory of its length, and no two overlap.
         #[no_mangle]
         pub unsafe extern "C" fn $name(
+            $($($first: $first_type,)*)?
             last: &mut u32, started: &mut u32, count_open: &mut u32,
             start_pages_used: &mut u32, start_roots_used: &mut u32, end_pages_used: &mut u32, end_roots_used: &mut u32,
             passes: &mut [u32; PASS_NUMBERS],
@@ -72,8 +74,8 @@ writing!(
     (seen(events, events_length), lent(results, results_length))
 );
 writing!(
-    nimbleshale_block_write -> (), port::block_write,
-    (block: &mut Block, offset: usize, value: u8), (block, offset, value), first write_without_store(block, offset, value)
+    nimbleshale_block_write -> (), port::block_write, (), (block, offset, value),
+    first (block: &mut Block, offset: usize, value: u8) write_without_store(block, offset, value)
 );
 
 /// A write that runs no command. A handler may make it while a call on the store runs.

@@ -107,7 +107,7 @@ static int block_is_model(void)
 static void write_block(struct tried *t, size_t offset, uint8_t value)
 {
     struct nimbleshale_store *s = &t->store;
-    nimbleshale_block_write(LENT, block, offset, value);
+    nimbleshale_block_write(block, offset, value, LENT);
     accesses++;
 }
 

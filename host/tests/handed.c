@@ -94,7 +94,7 @@ uint8_t nimbleshale_burst(LENT(, ), const uint8_t *events, size_t events_length,
     return note(BURST, &handed);
 }
 
-void nimbleshale_block_write(LENT(, ), uint8_t block[NIMBLESHALE_BLOCK_BYTES], size_t offset, uint8_t value)
+void nimbleshale_block_write(uint8_t block[NIMBLESHALE_BLOCK_BYTES], size_t offset, uint8_t value, LENT(, ))
 {
     const struct handed handed = {.lent = NUMBERS, NOTED_SLICES, .arguments = {value}, .own_slices = {block}, .own_lengths = {offset}};
     note(BLOCK_WRITE, &handed);

@@ -24,7 +24,7 @@ int main(void)
     nimbleshale_block_read(block, 0);
     nimbleshale_block_line(block);
     nimbleshale_block_reset(block);
-    nimbleshale_block_write(LENT, block, 0, 0);
+    nimbleshale_block_write(block, 0, 0, LENT);
     nimbleshale_store_open(&store);
     nimbleshale_store_start(&store, 0, 0, 0, &number);
     nimbleshale_store_end(&store, 0, 0);

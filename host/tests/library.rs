@@ -70,12 +70,12 @@ extern "C" {
     fn nimbleshale_block_read(block: &Block, offset: usize) -> u8;
     fn nimbleshale_block_line(block: &Block) -> u8;
     fn nimbleshale_block_write(
+        block: &mut Block, offset: usize, value: u8,
         last: &mut u32, started: &mut u32, count_open: &mut u32,
         start_pages_used: &mut u32, start_roots_used: &mut u32, end_pages_used: &mut u32, end_roots_used: &mut u32,
         passes: &mut [u32; PASS_NUMBERS],
         start_table: *mut u64, start_table_length: usize, start_roots: *mut u64, start_roots_length: usize,
         end_table: *mut u64, end_table_length: usize, end_roots: *mut u64, end_roots_length: usize,
-        block: &mut Block, offset: usize, value: u8,
     );
 }
 
@@ -118,10 +118,11 @@ impl Answer {
 
 /// The seven numbers, the open passes and the four slices of a store, lent.
 macro_rules! lent {
-    ($function:ident, $store:ident $(, $more:expr)*) => {{
+    ($function:ident $(($($first:expr),*))?, $store:ident $(, $more:expr)*) => {{
         let Store { head, passes, start_table, start_roots, end_table, end_roots } = $store;
         unsafe {
             $function(
+                $($($first,)*)?
                 &mut head.last, &mut head.started, &mut head.count_open,
                 &mut head.start_pages_used, &mut head.start_roots_used, &mut head.end_pages_used, &mut head.end_roots_used,
                 passes,
@@ -214,7 +215,7 @@ pub fn burst_by_port(store: &mut Store, events: &[u8], results: &mut [u64]) -> u
 /// A write to a register block by the library.
 #[inline]
 pub fn write_by_library(store: &mut Store, block: &mut Block, offset: usize, value: u8) {
-    lent!(nimbleshale_block_write, store, block, offset, value)
+    lent!(nimbleshale_block_write (block, offset, value), store)
 }
 
 /// A write to a register block by the port.

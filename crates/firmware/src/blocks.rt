@@ -98,9 +98,13 @@ fn answer_in_block(
     answer_bytes(answer)
 }
 
-// The radio side writes a byte at an offset. Byte 0 runs a command: head and slices are left as the stream's command leaves them.
+// The radio side writes a byte at an offset. Byte 0 runs a command: head and slices are left as the stream's command leaves them. What every write looks at comes first,
+// in registers: so one that runs nothing, which a handler may make, needs no frame.
 #[no_mangle]
 pub extern "C" fn nimbleshale_block_write(
+    block: &mut [u8; BLOCK_BYTES],
+    offset: usize,
+    value: u8,
     last: &mut u32,
     started: &mut u32,
     count_open: &mut u32,
@@ -113,9 +117,6 @@ pub extern "C" fn nimbleshale_block_write(
     start_roots: &mut [u64],
     end_table: &mut [u64],
     end_roots: &mut [u64],
-    block: &mut [u8; BLOCK_BYTES],
-    offset: usize,
-    value: u8,
 )
     ensures { λ _. do
       let beforeStarts : TreeUse = record { pages = now («start_pages_used» .entry); roots = now («start_roots_used» .entry) }
