@@ -1,6 +1,5 @@
 -- Exported calls: what they say and leave, from what the calls of the store hand back.
-use Prim.Native.Nat.{ℕ, zero, suc, _≤_}
-use native.Mathlib.Omega.{arith}
+use Prim.Native.Nat.{ℕ, _≤_}
 use mathlib.Core.Path.{_≡_, refl, ap, sym, subst, _∙_}
 use mathlib.Core.List.{List}
 use lib.ListN.{length, take, drop}
@@ -10,9 +9,10 @@ use Rattle.store.specs.declared.types.Answer.the-variants.{Refused, Opened, Sta
 use Rattle.words.specs.Overwrite.{overwrite}
 use Rattle.store.specs.Trees.{Lent, Store}
 use Rattle.store.specs.Head.{openLimit}
-use Rattle.store.specs.Answers.{refusalOf, valuesOf, Answered, unlessRefused}
+use Rattle.store.specs.Answers.{refusalOf, valuesOf, Answered}
 use Rattle.store.specs.Calls.{Call}
-use Rattle.store.specs.Performing.{refusal, served, perform}
+use Rattle.store.specs.Performing.{perform}
+use Rattle.store.proofs.RefusedOrServed.{refused-or-served}
 use Rattle.store.proofs.Outcomes.{served-answers}
 use Rattle.replies.specs.declared.types.Reply.{Reply}
 use Rattle.replies.specs.Replies.{RepliedAs}
@@ -26,13 +26,9 @@ pub told : {a b : Answer} {r : ℕ} {before after : Told} → a ≡ b → Tells 
 told {r = r} {before = before} {after = after} e h = subst (λ (x : Answer). Tells x r before after) e h
 
 -- A call that refuses leaves the store as it was
-unchanged : (n : ℕ) (s : Store) (done : Answered) → refusalOf (done .answer) ≡ 0 → (refusalOf (unlessRefused n s done .answer) ≡ 0 → ⊥)
-    → unlessRefused n s done .store ≡ s
-unchanged zero s done e some = absurd (some e)
-unchanged (suc n) s done e some = refl
-
 call-unchanged : (s : Store) (c : Call) → (refusalOf (perform s c .answer) ≡ 0 → ⊥) → perform s c .store ≡ s
-call-unchanged s c = unchanged (refusal s c) s (served s c) (served-answers s c)
+call-unchanged s c =
+    refused-or-served (λ (a : Answered). (refusalOf (a .answer) ≡ 0 → ⊥) → a .store ≡ s) s c (λ n some. refl) (λ e some. absurd (some (served-answers s c)))
 
 -- A head that is written where it was read from
 pub handed-again : (h : Handed) → length (h .passes) ≡ passNumbers → handedBack (storeIn h) ≡ h

@@ -12,9 +12,10 @@ use Rattle.store.specs.declared.types.FoundPass.the-variants.{Missing, At}
 use Rattle.store.specs.Trees.{Store}
 use Rattle.store.specs.Head.{openLimit, noPass, passOf}
 use Rattle.store.specs.Calls.{Call, opening, start, end, question, lookupIn}
-use Rattle.store.specs.Answers.{unlessRefused}
+use Rattle.store.specs.Answers.{Answered}
 use Rattle.store.specs.Writing.{endEntries, enterAll, passesWithout}
 use Rattle.store.specs.Performing.{refusal, served, perform}
+use Rattle.store.proofs.RefusedOrServed.{refused-or-served}
 use Rattle.demand.specs.Bursts.{Asked, unknownKind, asked, answerTo, storeBehind, unlessRefusedWhole}
 use Rattle.register_block.specs.Block.{Block, blockBytes, operandsOf}
 use Rattle.register_block.specs.Access.{Device}
@@ -93,11 +94,7 @@ module _ (s : Store) (long : length (s .head .passes) ≡ openLimit) where
   served-places (lookupIn tree t k) e = long
 
   pub places-stay : (c : Call) → length (perform s c .store .head .passes) ≡ openLimit
-  places-stay c = go (refusal s c) refl
-    where
-      go : (n : ℕ) → refusal s c ≡ n → length (unlessRefused n s (served s c) .store .head .passes) ≡ openLimit
-      go zero e = served-places c e
-      go (suc n) e = long
+  places-stay c = refused-or-served (λ (a : Answered). length (a .store .head .passes) ≡ openLimit) s c (λ n. long) (served-places c)
 
 -- So does every list of events, tried or refused as a whole
 abbrev pub Places : Store → Type 0

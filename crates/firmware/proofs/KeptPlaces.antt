@@ -1,5 +1,5 @@
 -- The places of open passes that a call may change: a start the one behind the passes that were open, an end those of the passes that were open.
-use Prim.Native.Nat.{ℕ, zero, suc, _+_, _-_, _≤_}
+use Prim.Native.Nat.{ℕ, _+_, _-_, _≤_}
 use native.Mathlib.Omega.{arith}
 use mathlib.Core.Path.{_≡_, refl, ap, sym, subst, _∙_}
 use mathlib.Core.List.{List}
@@ -11,9 +11,10 @@ use Rattle.store.specs.declared.types.FoundPass.the-variants.{Missing, At}
 use Rattle.store.specs.Trees.{Lent, Store}
 use Rattle.store.specs.Head.{openLimit, passOf}
 use Rattle.store.specs.Calls.{Call, opening, start, end}
-use Rattle.store.specs.Answers.{refusalOf, unlessRefused}
+use Rattle.store.specs.Answers.{refusalOf, Answered}
 use Rattle.store.specs.Writing.{endEntries, enterAll, endedHead}
 use Rattle.store.specs.Performing.{headKnows, refusal, served, perform}
+use Rattle.store.proofs.RefusedOrServed.{refused-or-served}
 use Rattle.store.proofs.ArgumentFacts.{may-start}
 use Rattle.store.proofs.HeadLists.{closed-length, closed-rest}
 use Rattle.refusals.proofs.RefusalParts.{none-of}
@@ -55,11 +56,8 @@ module _ (s : Store) (long : length (s .head .passes) ≡ openLimit) where
 
   -- What an accepted call leaves is what is served
   accepted : (c : Call) (P : Store → Type 0) → refusalOf (perform s c .answer) ≡ 0 → (refusal s c ≡ 0 → P (served s c .store)) → P (perform s c .store)
-  accepted c P e h = go (refusal s c) refl e
-    where
-      go : (n : ℕ) → refusal s c ≡ n → refusalOf (unlessRefused n s (served s c) .answer) ≡ 0 → P (unlessRefused n s (served s c) .store)
-      go zero r e = h r
-      go (suc n) r e = absurd (omega (arith, e))
+  accepted c P e h =
+      refused-or-served (λ (a : Answered). refusalOf (a .answer) ≡ 0 → P (a .store)) s c (λ n z. absurd (omega (arith, z))) (λ r z. h r) e
 
   module _ (tick key weight : ℕ) where
     pub started : refusal s (start tick key weight) ≡ 0

@@ -1,5 +1,5 @@
 -- The places of open passes that a packet may change: each start takes the place behind the passes that are open, and its command has as many bytes as an event.
-use Prim.Native.Nat.{ℕ, zero, suc, _+_, _-_, _/_, _≤_, min}
+use Prim.Native.Nat.{ℕ, suc, _+_, _-_, _/_, _≤_, min}
 use native.Mathlib.Omega.{arith}
 use native.Mathlib.Decide.{decLe}
 use mathlib.Core.Path.{_≡_, refl, ap, sym, subst, _∙_}
@@ -14,9 +14,10 @@ use Rattle.store.specs.declared.types.FoundPass.{FoundPass}
 use Rattle.store.specs.declared.types.FoundPass.the-variants.{Missing, At}
 use Rattle.store.specs.Trees.{Store}
 use Rattle.store.specs.Head.{openLimit, passOf}
-use Rattle.store.specs.Answers.{unlessRefused, refusedWith}
-use Rattle.store.specs.Calls.{Call, start, end}
+use Rattle.store.specs.Answers.{Answered, refusedWith}
+use Rattle.store.specs.Calls.{start, end}
 use Rattle.store.specs.Performing.{refusal, served, perform}
+use Rattle.store.proofs.RefusedOrServed.{refused-or-served}
 use Rattle.refusals.proofs.RefusalParts.{none-of}
 use Rattle.refusals.proofs.FoundPasses.{found-facts}
 use Rattle.codec.specs.Bytes.{operand}
@@ -60,18 +61,10 @@ later {m} {a} {b} kept p less =
     ∙ ap (λ (i : ℕ). drop i (a .passes)) at
 
 module _ (s : Store) (long : Places s) where
-  -- A call leaves the store as it was, or what is served
-  either : (c : Call) (P : Store → Type 0) → P s → (refusal s c ≡ 0 → P (served s c .store)) → P (perform s c .store)
-  either c P old new = go (refusal s c) refl
-    where
-      go : (n : ℕ) → refusal s c ≡ n → P (unlessRefused n s (served s c) .store)
-      go zero e = new e
-      go (suc n) e = old
-
   start-grows : (tick key weight : ℕ) → Grows 1 (s .head) (perform s (start tick key weight) .store .head)
   unfolding served
   start-grows tick key weight =
-      either (start tick key weight) (λ (x : Store). Grows 1 (s .head) (x .head)) (grows-none 1 (s .head))
+      refused-or-served (λ (a : Answered). Grows 1 (s .head) (a .store .head)) s (start tick key weight) (λ n. grows-none 1 (s .head))
       (λ e. record { count = omega arith; rest = later (started s long tick key weight e) })
 
   ended : (tick number : ℕ) → refusal s (end tick number) ≡ 0 → (found : FoundPass) → passOf (s .head) number ≡ found
@@ -84,7 +77,8 @@ module _ (s : Store) (long : Places s) where
   end-grows : (tick number : ℕ) → Grows 0 (s .head) (perform s (end tick number) .store .head)
   unfolding served
   end-grows tick number =
-      either (end tick number) (λ (x : Store). Grows 0 (s .head) (x .head)) (grows-none 0 (s .head)) (λ e. ended tick number e (passOf (s .head) number) refl)
+      refused-or-served (λ (a : Answered). Grows 0 (s .head) (a .store .head)) s (end tick number) (λ n. grows-none 0 (s .head))
+      (λ e. ended tick number e (passOf (s .head) number) refl)
 
   module _ (bytes : List ℕ) where
     -- As many places as the bytes of a command have room for events

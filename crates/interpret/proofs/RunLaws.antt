@@ -1,5 +1,5 @@
 -- What one command hands back: refused for its bytes, or the store's reply to the call that they spell.
-use Prim.Native.Nat.{ℕ, zero, suc, _≤_, _<_}
+use Prim.Native.Nat.{ℕ, _≤_, _<_}
 use mathlib.Core.Path.{_≡_, refl, ap, sym, _∙_}
 use mathlib.Core.Bool.{Bool, true, false, cond}
 use mathlib.Core.List.{List}
@@ -8,9 +8,10 @@ use lib.Dec.{ltb}
 use Rattle.store.specs.declared.types.Answer.{Answer}
 use Rattle.store.specs.Trees.{Lent, Store}
 use Rattle.store.specs.declared.types.Answer.the-variants.{Refused}
-use Rattle.store.specs.Answers.{Answered, refusedWith, unlessRefused}
+use Rattle.store.specs.Answers.{Answered, refusedWith}
 use Rattle.store.specs.Calls.{question}
-use Rattle.store.specs.Performing.{refusal, served, perform}
+use Rattle.store.specs.Performing.{served, perform}
+use Rattle.store.proofs.RefusedOrServed.{refused-or-served}
 use Rattle.replies.specs.declared.types.Reply.{Reply}
 use Rattle.replies.specs.Replies.{RepliedAs}
 use Rattle.replies.proofs.RepliesAs.{replied}
@@ -23,11 +24,7 @@ use Rattle.events.specs.Events.{answerOf}
 -- A question leaves the store as it was
 question-keeps : (s : Store) (k1 k2 t1 t2 : ℕ) → perform s (question k1 k2 t1 t2) .store ≡ s
 unfolding served
-question-keeps s k1 k2 t1 t2 = go (refusal s (question k1 k2 t1 t2))
-  where
-    go : (n : ℕ) → unlessRefused n s (served s (question k1 k2 t1 t2)) .store ≡ s
-    go zero = refl
-    go (suc n) = refl
+question-keeps s k1 k2 t1 t2 = refused-or-served (λ (a : Answered). a .store ≡ s) s (question k1 k2 t1 t2) (λ n. refl) (λ e. refl)
 
 module _ (s : Store) (bytes : List ℕ) where
   -- So does its command, a cut one too

@@ -1,5 +1,5 @@
 -- Document 02, Paper 2, "The last tick is heard": what closed lives mean, of whole lists of calls and of any store. Of this crate's proofs about that paper open this first.
-use Prim.Native.Nat.{ℕ, zero, suc, _+_, _≤_, _<_}
+use Prim.Native.Nat.{ℕ, _+_, _≤_, _<_}
 use native.Mathlib.Omega.{arith}
 use mathlib.Core.Path.{_≡_, refl, _∙_}
 use mathlib.Core.Bool.{Bool, true, false, cond}
@@ -12,13 +12,14 @@ use Rattle.store.specs.Trees.{Store}
 use Rattle.store.specs.Calls.{Call, opening, start, end, question, lookupIn, Sent}
 use Rattle.store.specs.Refusals.{Ground}
 use Rattle.store.specs.Grounds.{Known, argumentGrounds, stateGrounds}
-use Rattle.store.specs.Answers.{unlessRefused}
+use Rattle.store.specs.Answers.{Answered}
 use Rattle.store.specs.Reading.{PointLookup, pointsBefore, nonePrecede, lookupBefore, lookupsOf}
 use Rattle.store.specs.Performing.{headKnows, pageGrounds, grounds, refusal, served, perform}
 use Rattle.store.specs.Passes.{Pass, meets}
 use Rattle.store.specs.Book.{Book, fedBy, emptyBook, neverStarted, isOpen, bookKnows, bookRefusal, bookDoes, bookTurn}
 use Rattle.store.specs.Demand.{pagesSaid}
 use Rattle.store.proofs.RefusalLaws.{first-has, first-both, first-passes}
+use Rattle.store.proofs.RefusedOrServed.{refused-or-served}
 use Rattle.store.proofs.NumberOrder.{Between, rises-between, arguments-rise, pages-rise}
 use Rattle.store.proofs.ArgumentFacts.{arguments-numbered, start-arguments, end-passes, end-may}
 use Rattle.store.proofs.Intersections.{InBand, Intersects, meets-intersects, intersects-meets}
@@ -94,11 +95,9 @@ two-lookups k1 k2 t2 = omega (arith, length-append (lookupBefore Starts t2 k2) (
 
 pages-from-0 : (s : Store) (k1 k2 t2 : ℕ) → pagesSaid (perform s (question k1 k2 0 t2) .answer) ≤ 8
 unfolding served
-pages-from-0 s k1 k2 t2 = go (refusal s (question k1 k2 0 t2))
-  where
-    go : (n : ℕ) → pagesSaid (unlessRefused n s (served s (question k1 k2 0 t2)) .answer) ≤ 8
-    go zero = omega (arith, pages-most s (lookupsOf (question k1 k2 0 t2)), two-lookups k1 k2 t2)
-    go (suc n) = omega arith
+pages-from-0 s k1 k2 t2 =
+    refused-or-served (λ (a : Answered). pagesSaid (a .answer) ≤ 8) s (question k1 k2 0 t2) (λ n. omega arith)
+    (λ e. omega (arith, pages-most s (lookupsOf (question k1 k2 0 t2)), two-lookups k1 k2 t2))
 
 -- No ground calls for 23
 abbrev Not23 : Ground → Type 0

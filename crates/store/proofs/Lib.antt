@@ -1,6 +1,7 @@
 -- Demand 3: a store from its opening on answers as the pass book does.
 pub mod SumLaws
 pub mod RefusalLaws
+pub mod RefusedOrServed
 pub mod TreeLaws
 pub mod NumberOrder
 pub mod ArgumentFacts
