@@ -4,7 +4,7 @@ use native.Mathlib.Omega.{arith}
 use mathlib.Core.Path.{_≡_, refl, ap, ap₂, sym, subst, _∙_}
 use mathlib.Core.Bool.{Bool, true, cond}
 use mathlib.Core.List.{List, [], _∷_}
-use lib.ListN.{length, getD, set, take, drop, replicate, length-take, length-set}
+use lib.ListN.{length, set, take, replicate, length-take, length-set}
 use lib.Seq.{take-take}
 use borrow.Author.Tests.{eq-eqb, ne-eqb}
 use Rattle.words.specs.Overwrite.{overwrite}
@@ -17,10 +17,10 @@ use Rattle.command.proofs.AnswerLengths.{output-fits, output-begins}
 use Rattle.command.proofs.KindLaws.{few-operands}
 use Rattle.command.proofs.StreamLaws.{front-enough}
 use Rattle.command.proofs.PieceSteps.{one-output, one-store}
-use Rattle.register_block.specs.Block.{Block, blockBytes, commandAt, operandCount, operandsOf, statusAt, flagsAt, resultAt, resultCount, flagByte, flagsShown, registerWritten, showing}
+use Rattle.register_block.specs.Block.{Block, blockBytes, commandAt, operandCount, operandsOf, registerWritten, showing}
 use Rattle.register_block.specs.Access.{Device, runFromBlock, writeDevice}
 use Rattle.interpret.proofs.RunLaws.{question-stays}
-use Rattle.registers.proofs.RegisterLaws.{answer-shown}
+use Rattle.registers.proofs.RegisterLaws.{shownFrom, answer-shown}
 use Rattle.c_numbers.specs.Heads.{passNumbers, headOf}
 use Rattle.firmware.specs.Exported.{Handed, storeIn, handedBack}
 use Rattle.firmware.specs.Packets.{Packet, LeavesOf}
@@ -73,11 +73,7 @@ module _ (before : Handed) (block : Block) (offset value : ℕ) where
   -- A command that ran: its answer is shown, and the store that it left stands in the places
   ran-leaves : offset ≡ commandAt → {stored : Block} → stored ≡ set block commandAt value
       → {answer : List ℕ} → answer ≡ overwrite (replicate longestAnswer 0) 0 (ran .output) → {after : Handed} → after ≡ handedBack (ran .store)
-      → {block′ : Block}
-      → block′
-      ≡ overwrite (set (set stored statusAt (getD answer 0 0)) flagsAt (flagByte (flagsShown (getD answer 0 0) (after .fields .count)))) resultAt
-      (take resultCount (drop 1 answer))
-      → LeavesWrite before block offset value after block′
+      → {block′ : Block} → block′ ≡ shownFrom stored answer (after .fields .count) → LeavesWrite before block offset value after block′
   ran-leaves at is answers {after} left-is shown =
       let operand-bytes : List ℕ = operandsOf block in
       let ran-it : runFromBlock d value ≡ writeDevice d offset value = ap written (sym (eq-eqb offset commandAt at)) in
@@ -93,11 +89,7 @@ module _ (before : Handed) (block : Block) (offset value : ℕ) where
   -- A question, which leaves head and slices
   pub question-leaves : offset ≡ commandAt → value ≡ 3 → length (before .passes) ≡ passNumbers → {stored : Block} → stored ≡ set block commandAt value
       → {answer : List ℕ} → answer ≡ overwrite (replicate longestAnswer 0) 0 (runOne (storeIn before) 3 (operandsOf stored) .output)
-      → {block′ : Block}
-      → block′
-      ≡ overwrite (set (set stored statusAt (getD answer 0 0)) flagsAt (flagByte (flagsShown (getD answer 0 0) (before .fields .count)))) resultAt
-      (take resultCount (drop 1 answer))
-      → LeavesWrite before block offset value before block′
+      → {block′ : Block} → block′ ≡ shownFrom stored answer (before .fields .count) → LeavesWrite before block offset value before block′
   question-leaves at asks long {stored} is answers shown =
       let from-block : operandsOf stored ≡ operandsOf block = ap operandsOf is ∙ operands-stay block value in
       let same : runOne (storeIn before) 3 (operandsOf stored) ≡ ran = ap₂ (runOne (storeIn before)) (sym asks) from-block in
@@ -134,11 +126,7 @@ module _ (before : Handed) (block : Block) (offset value : ℕ) where
 
     pub command-leaves : offset ≡ commandAt → {stored : Block} → stored ≡ set block commandAt value → {count : ℕ} → count ≡ 1 + operandBytes (kindOf value)
         → {said : Packet} {after : Handed} → LeavesOf (runPiece longestAnswer true (storeIn before) (take count stored)) said (replicate longestAnswer 0) after
-        → {block′ : Block}
-        → block′
-        ≡ overwrite (set (set stored statusAt (getD (said .out) 0 0)) flagsAt (flagByte (flagsShown (getD (said .out) 0 0) (after .fields .count)))) resultAt
-        (take resultCount (drop 1 (said .out)))
-        → LeavesWrite before block offset value after block′
+        → {block′ : Block} → block′ ≡ shownFrom stored (said .out) (after .fields .count) → LeavesWrite before block offset value after block′
     command-leaves at is counts {said} {after} run shown =
         let leaves : LeavesOf fed said (replicate longestAnswer 0) after =
         subst (λ (bytes : List ℕ). LeavesOf (runPiece longestAnswer true (storeIn before) bytes) said (replicate longestAnswer 0) after) (ap₂ take counts is) run in

@@ -32,7 +32,7 @@ use Rattle.firmware.proofs.ExportedLaws.{KeepsFrom}
 use Rattle.firmware.proofs.ExportedLists.{Places, places-stay}
 use Rattle.firmware.proofs.KeptPlaces.{all-places, started, headAfter, by-place}
 
--- At most so many passes more are open, and no place behind these was changed
+-- At most n passes more are open, and no place behind these was changed
 pub record Grows (n : ℕ) (a b : Head) : Type 0 where
   pub count : b .count ≤ a .count + n
   pub rest : (p : ℕ) → a .count + n ≤ p → drop p (b .passes) ≡ drop p (a .passes)
@@ -81,7 +81,7 @@ module _ (s : Store) (long : Places s) where
       (λ e. ended tick number e (passOf (s .head) number) refl)
 
   module _ (bytes : List ℕ) where
-    -- As many places as the bytes of a command have room for events
+    -- A command opens no more passes than whole events fit into its bytes
     abbrev OfKind : Kind → Type 0
     OfKind kind = Grows (suc (min (operandBytes kind) (length bytes)) / eventBytes) (s .head) (runKind s bytes kind .store .head)
 
@@ -108,7 +108,7 @@ module _ (s : Store) (long : Places s) where
     command-grows = by-kind OfKind start-kind end-kind question-kind (grows-none _ (s .head))
 
 -- Every command and every packet leave a head with as many places
-pub command-places : (s : Store) → Places s → (bytes : List ℕ) (kind : Kind) → Places (runKind s bytes kind .store)
+command-places : (s : Store) → Places s → (bytes : List ℕ) (kind : Kind) → Places (runKind s bytes kind .store)
 command-places s long bytes unknown = long
 command-places s long bytes (command n call) = go (ltb (length bytes) n)
   where
@@ -124,7 +124,7 @@ packet-places =
     (λ room ended s b bytes w o long. command-places s long bytes (kindOf b))
     (λ room ended s b bytes f w o h long. h (command-places s long bytes (kindOf b)))
 
--- A packet opens no more passes than the bytes that it took have room for events
+-- A packet opens no more passes than whole events fit into the bytes that it took
 packet-grows : (room : ℕ) (ended : Bool) (s : Store) (bytes : List ℕ) → Places s
     → Grows (runPiece room ended s bytes .taken / eventBytes) (s .head) (runPiece room ended s bytes .store .head)
 packet-grows =

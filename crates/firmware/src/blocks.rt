@@ -98,8 +98,8 @@ fn answer_in_block(
     answer_bytes(answer)
 }
 
-// The radio side writes a byte at an offset. Byte 0 runs a command: head and slices are left as the stream's command leaves them. What every write looks at comes first,
-// in registers: so one that runs nothing, which a handler may make, needs no frame.
+// The radio side writes a byte at an offset. Byte 0 runs a command: head and slices are left as the stream's command leaves them. What every write looks at comes first
+// among the parameters, so that the processor has it at hand: a write that runs nothing, which a handler may make, needs no stack frame.
 #[no_mangle]
 pub extern "C" fn nimbleshale_block_write(
     block: &mut [u8; BLOCK_BYTES],

@@ -74,12 +74,15 @@ result-of (x ∷ rest) some short =
     ∙ take-all resultCount (zeroFilled resultCount rest)
     (omega (arith, short, length-append rest (replicate (resultCount - length rest) 0), length-replicate {A = ℕ} (resultCount - length rest) 0))
 
+-- The block that showing an answer leaves, byte by byte as the code writes it
+abbrev pub shownFrom : (stored : Block) (answer : List ℕ) (openCount : ℕ) → Block
+shownFrom stored answer openCount =
+    overwrite (set (set stored statusAt (getD answer 0 0)) flagsAt (flagByte (flagsShown (getD answer 0 0) openCount))) resultAt (take resultCount (drop 1 answer))
+
 -- A command that is stored, and its answer shown
 pub answer-shown : (b : Block) (command : ℕ) (output : List ℕ) (openCount : ℕ) → 1 ≤ length output → length output ≤ longestAnswer
     → {answer : List ℕ} → answer ≡ overwrite (replicate longestAnswer 0) 0 output → {stored : Block} → stored ≡ set b commandAt command
-    → {after : Block}
-    → after ≡ overwrite (set (set stored statusAt (getD answer 0 0)) flagsAt (flagByte (flagsShown (getD answer 0 0) openCount))) resultAt (take resultCount (drop 1 answer))
-    → after ≡ showing b command output openCount
+    → {after : Block} → after ≡ shownFrom stored answer openCount → after ≡ showing b command output openCount
 unfolding marked
 answer-shown b command output openCount some short {answer} front {stored} cs last =
     let is = front ∙ filled longestAnswer output in
