@@ -4,7 +4,7 @@
 //! stays out of the figures; the mean and the slowest are over these. The time of reading the clock is subtracted. All of them must answer what
 //! the pass book answers, whose time is not taken.
 //!
-//! bench [LARGEST [RUNS]]: stores of up to so many passes; how often each contender makes the calls, 3 times where not said
+//! bench [LARGEST [RUNS]]: how many passes the largest store has; how often each contender makes the calls, 3 times where not said
 
 #[path = "../tests/book.rs"]
 mod book;
@@ -17,10 +17,11 @@ mod workload;
 
 use book::Book;
 use library::{
-    burst_by_library, burst_by_port, by_library, by_port, packet_by_library, packet_by_port, write_by_library, write_by_port, Answer, Call, Store,
+    burst_by_library, burst_by_port, by_library, by_port, packet_by_library, packet_by_port, write_by_library, write_by_port, Answer, Call, Slices,
+    Store,
 };
 use list::List;
-use port::{Block, Fed, Head, BLOCK_BYTES};
+use port::{Block, Fed, Head, BLOCK_BYTES, ENDS, STARTS, TIME};
 use std::hint::black_box;
 use std::time::Instant;
 use workload::{questions_from_zero, questions_past, questions_today, season, Question, SHAPES};
@@ -37,7 +38,10 @@ trait Contender {
     fn open(&mut self);
     fn start(&mut self, tick: u32, key: u32, weight: u32) -> u32;
     fn end(&mut self, tick: u32, number: u32);
+    /// Count, weight sum, pages opened
     fn question(&mut self, question: Question) -> (u64, u64, u32);
+    /// Total, pages opened
+    fn bat_time(&mut self, question: Question) -> (u64, u32);
 }
 
 struct Library(Store);
@@ -63,6 +67,11 @@ macro_rules! contender_by {
                 let totals = accepted($made_by(&mut self.0, Call::Question { k1, k2, t1, t2 })).totals;
                 (totals.count, totals.sum, totals.pages)
             }
+            #[inline]
+            fn bat_time(&mut self, (k1, k2, t1, t2): Question) -> (u64, u32) {
+                let time = accepted($made_by(&mut self.0, Call::BatTime { k1, k2, t1, t2 })).time;
+                (time.total, time.pages)
+            }
         }
     };
 }
@@ -87,6 +96,10 @@ impl Contender for List {
         let (count, sum) = List::question(self, k1, k2, t1, t2);
         (count, sum, 0)
     }
+    #[inline]
+    fn bat_time(&mut self, (k1, k2, t1, t2): Question) -> (u64, u32) {
+        (List::bat_time(self, k1, k2, t1, t2), 0)
+    }
 }
 
 #[inline]
@@ -110,20 +123,25 @@ impl Time {
     }
 }
 
-/// Kinds of questions: on today's ticks, on past ticks, and from tick 0 on, which look up no ends.
+/// Kinds of questions: on today's ticks, on past ticks, and from tick 0 on, which look up no ends. Each is also asked as a bat-time.
 const KINDS: usize = 3;
-const OPERATIONS: [&str; 2 + KINDS] = ["start", "end", "question today", "question past", "from tick 0"];
+const READS: usize = 2 * KINDS;
+const OPERATIONS: [&str; 2 + READS] =
+    ["start", "end", "question today", "question past", "question from 0", "bat-time today", "bat-time past", "bat-time from 0"];
 
 /// Questions of each kind.
 type Asked<'a> = [&'a [Question]; KINDS];
 
+/// What a question answers, count and weight sum; or what a bat-time does, its total and nothing.
+type Answered = (u64, u64);
+
 /// What one contender took and answered.
 struct Figures {
-    /// The best time of each start, each end, and each question of each kind
-    best: [Vec<u32>; 2 + KINDS],
-    answers: Vec<(u64, u64)>,
-    /// Pages opened by all questions of each kind
-    pages: [u64; KINDS],
+    /// The best time of each start, each end, and each question and bat-time of each kind
+    best: [Vec<u32>; 2 + READS],
+    answers: Vec<Answered>,
+    /// Pages opened by all questions and by all bat-times of each kind
+    pages: [u64; READS],
 }
 
 #[inline]
@@ -145,11 +163,11 @@ fn clock_time() -> f64 {
 
 impl Figures {
     fn new(starts: usize, ends: usize, questions: usize) -> Figures {
-        let best = [starts, ends, questions, questions, questions].map(|count| vec![u32::MAX; count]);
-        Figures { best, answers: Vec::new(), pages: [0; KINDS] }
+        let counts: [usize; 2 + READS] = std::array::from_fn(|at| [starts, ends, questions][at.min(2)]);
+        Figures { best: counts.map(|count| vec![u32::MAX; count]), answers: Vec::new(), pages: [0; READS] }
     }
 
-    fn times(&self, clock: f64) -> [Time; 2 + KINDS] {
+    fn times(&self, clock: f64) -> [Time; 2 + READS] {
         self.best.each_ref().map(|best| Time::of(best, clock))
     }
 
@@ -168,11 +186,17 @@ impl Figures {
             }
         }
         self.answers.clear();
-        self.pages = [0; KINDS];
+        self.pages = [0; READS];
         for (at, times) in asked.iter_mut().enumerate() {
-            for (&question, time) in questions[at].iter().zip(times) {
+            for (&question, time) in questions[at % KINDS].iter().zip(times) {
                 let mut answer = (0, 0, 0);
-                take_time(time, || answer = black_box(contender.question(black_box(question))));
+                if at < KINDS {
+                    take_time(time, || answer = black_box(contender.question(black_box(question))));
+                } else {
+                    let mut answered = (0, 0);
+                    take_time(time, || answered = black_box(contender.bat_time(black_box(question))));
+                    answer = (answered.0, 0, answered.1);
+                }
                 self.answers.push((answer.0, answer.1));
                 self.pages[at] += answer.2 as u64;
             }
@@ -188,14 +212,16 @@ fn shown(nanoseconds: f64) -> String {
     }
 }
 
-/// An empty store with as many pages as a tree of so many points may use: at most 4 + 4n/9.
+/// An empty store with as many pages as its trees may use, which is at most 4 + 4n/9 for n points. The tree of time takes a start and an end of each pass.
 fn roomy_store(passes: u32) -> Store {
-    let pages = 4 + 4 * passes as usize / 9;
-    Store::lent(pages, pages)
+    let pages = |points: u32| 4 + 4 * points as usize / 9;
+    let mut store = Store::lent(pages(passes), pages(passes));
+    store.trees[TIME] = Slices::lent(pages(2 * passes), pages(2 * passes));
+    store
 }
 
-/// What the pass book answers to the questions after the calls.
-fn by_book(calls: &[Call], questions: Asked) -> Vec<(u64, u64)> {
+/// What the pass book answers to the questions after the calls, and then to the bat-times.
+fn by_book(calls: &[Call], questions: Asked) -> Vec<Answered> {
     let mut book = Book::default();
     let mut turn = |call| {
         assert!(book.refusal(call) == 0, "the book refuses a call of the benchmark: {call:?}");
@@ -204,8 +230,16 @@ fn by_book(calls: &[Call], questions: Asked) -> Vec<(u64, u64)> {
     for &call in calls {
         turn(call);
     }
-    let answers = questions.concat().into_iter().map(|(k1, k2, t1, t2)| turn(Call::Question { k1, k2, t1, t2 }).totals);
-    answers.map(|totals| (totals.count, totals.sum)).collect()
+    let asked = questions.concat();
+    let mut answers = Vec::new();
+    for &(k1, k2, t1, t2) in &asked {
+        let totals = turn(Call::Question { k1, k2, t1, t2 }).totals;
+        answers.push((totals.count, totals.sum));
+    }
+    for &(k1, k2, t1, t2) in &asked {
+        answers.push((turn(Call::BatTime { k1, k2, t1, t2 }).time.total, 0));
+    }
+    answers
 }
 
 /// The last tick of a season.
@@ -214,7 +248,7 @@ fn last_tick(calls: &[Call]) -> u32 {
 }
 
 /// One shape at one size. Returns the library's times.
-fn compare(shape: workload::Shape, name: &str, passes: u32, runs: u32, clock: f64) -> [Time; 2 + KINDS] {
+fn compare(shape: workload::Shape, name: &str, passes: u32, runs: u32, clock: f64) -> [Time; 2 + READS] {
     let calls = season(shape, passes);
     let last = last_tick(&calls);
     let drawn = [questions_today, questions_past, questions_from_zero].map(|of_kind| of_kind(shape, last, QUESTIONS));
@@ -232,7 +266,7 @@ fn compare(shape: workload::Shape, name: &str, passes: u32, runs: u32, clock: f6
     let wanted = by_book(&calls, some);
     assert!(by_list.answers == wanted, "the list's answers are not the book's");
     assert!(by_library.answers == by_port.answers, "the library's answers are not the port's");
-    let by_kind: Vec<(u64, u64)> = by_library.answers.chunks(QUESTIONS).flat_map(|answers| &answers[..few]).copied().collect();
+    let by_kind: Vec<Answered> = by_library.answers.chunks(QUESTIONS).flat_map(|answers| &answers[..few]).copied().collect();
     assert!(by_kind == wanted, "the library's answers are not the book's");
     report(name, passes, &library.0.head, [&by_library, &by_port, &by_list], clock);
     by_library.times(clock)
@@ -240,9 +274,11 @@ fn compare(shape: workload::Shape, name: &str, passes: u32, runs: u32, clock: f6
 
 /// The figures of one shape at one size, by the library, the port and the list.
 fn report(name: &str, passes: u32, head: &Head, [by_library, by_port, by_list]: [&Figures; 3], clock: f64) {
-    let pages = head.start_pages_used + head.end_pages_used;
-    let bytes = (2_080 * pages as u64 + 8 * (head.start_roots_used + head.end_roots_used) as u64) as f64 / passes as f64;
-    println!("\n{name}, {passes} passes: {bytes:.0} bytes a pass; {} pages and {} roots of starts", head.start_pages_used, head.start_roots_used);
+    let bytes = head.uses.map(|used| (2_080 * used.pages as u64 + 8 * used.roots as u64) as f64 / passes as f64);
+    println!(
+        "\n{name}, {passes} passes: {:.0} bytes a pass, {:.0} of them of starts, {:.0} of ends and {:.0} of time; {} pages and {} roots of time",
+        bytes.iter().sum::<f64>(), bytes[STARTS], bytes[ENDS], bytes[TIME], head.uses[TIME].pages, head.uses[TIME].roots
+    );
     println!(
         "{:16}{:>10}{:>10}{:>12}{:>10}{:>12}{:>10}{:>10}{:>10}{:>8}",
         "", "lib mean", "slowest", "port mean", "slowest", "list mean", "slowest", "lib/port", "list/lib", "pages"
@@ -304,6 +340,7 @@ fn bytes_of(call: Call) -> Vec<u8> {
         Call::Start { tick, key, weight } => commands::start(tick, key, weight),
         Call::End { tick, number } => commands::end(tick, number),
         Call::Question { k1, k2, t1, t2 } => commands::question(k1, k2, t1, t2),
+        Call::BatTime { k1, k2, t1, t2 } => commands::bat_time(k1, k2, t1, t2),
         _ => Vec::new(),
     }
 }
@@ -342,8 +379,8 @@ enum Through {
     Registers,
 }
 
-/// The kinds of calls that are commands: start, end, question.
-const COMMANDS: [&str; 3] = ["start", "end", "question"];
+/// The kinds of calls that are commands, in the order of their first bytes.
+const COMMANDS: [&str; 4] = ["start", "end", "question", "bat-time"];
 
 /// One such way: its store and its block, and the best time of each call of each kind.
 struct Accessed {
@@ -403,10 +440,12 @@ impl Accessed {
     }
 }
 
-/// The starts and ends of a season, and questions about its last day, by direct calls and through a register block. The ways take turns.
+/// The starts and ends of a season, and questions and bat-times of its last day, by direct calls and through a register block. The ways take turns.
 fn compare_block(maker: &Maker, shape: workload::Shape, name: &str, calls: &[Call], runs: u32, clock: f64) {
     let last = last_tick(calls);
-    let asked = questions_today(shape, last, QUESTIONS).into_iter().map(|(k1, k2, t1, t2)| Call::Question { k1, k2, t1, t2 });
+    let asked = questions_today(shape, last, QUESTIONS)
+        .into_iter()
+        .flat_map(|(k1, k2, t1, t2)| [Call::Question { k1, k2, t1, t2 }, Call::BatTime { k1, k2, t1, t2 }]);
     let made: Vec<(Call, Vec<u8>)> = calls.iter().copied().chain(asked).map(|call| (call, bytes_of(call))).collect();
     let ways = [Through::Call, Through::Command, Through::Registers];
     let mut accessed = ways.map(|_| Accessed::new());
@@ -433,7 +472,7 @@ fn main() {
     let clock = clock_time();
     println!("Reading the clock takes {clock:.0} ns, which is subtracted. Of each call the best of {runs} runs counts.");
     for (shape, name) in SHAPES {
-        let times: Vec<[Time; 2 + KINDS]> = sizes.iter().map(|&size| compare(shape, name, size, runs, clock)).collect();
+        let times: Vec<[Time; 2 + READS]> = sizes.iter().map(|&size| compare(shape, name, size, runs, clock)).collect();
         if sizes.len() < 2 {
             continue;
         }

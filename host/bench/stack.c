@@ -12,16 +12,20 @@
 #include <stdio.h>
 
 #define PAGES 8000
+#define TIME_PAGES 16000
 #define PASSES 29000u
 #define PAINTED 65536
 #define PATTERN 0xa5a5a5a5a5a5a5a5u
 
 static uint64_t start_table[NIMBLESHALE_TABLE_WORDS(PAGES)], end_table[NIMBLESHALE_TABLE_WORDS(PAGES)];
 static uint64_t start_roots[PAGES], end_roots[PAGES];
+static uint64_t time_table[NIMBLESHALE_TABLE_WORDS(TIME_PAGES)], time_roots[TIME_PAGES];
 static uint64_t stack_memory[131072 / 4];
 
 static struct nimbleshale_store store;
 static struct nimbleshale_totals totals;
+static struct nimbleshale_time bat_time;
+static struct nimbleshale_line line;
 static uint32_t tick, key, first_key, number;
 
 /* The packet that is measured next, and the answer to it. */
@@ -67,6 +71,11 @@ static FRAMED uint8_t call_question(void)
     return nimbleshale_store_question(&store, first_key, key + 2, tick / 2, tick + 1, &totals);
 }
 
+static FRAMED uint8_t call_bat_time(void)
+{
+    return nimbleshale_store_bat_time(&store, first_key, key + 2, tick / 2, tick + 1, &bat_time);
+}
+
 static FRAMED uint8_t call_lookup_starts(void)
 {
     return nimbleshale_store_lookup_starts(&store, tick, key, &totals);
@@ -75,6 +84,11 @@ static FRAMED uint8_t call_lookup_starts(void)
 static FRAMED uint8_t call_lookup_ends(void)
 {
     return nimbleshale_store_lookup_ends(&store, tick, key, &totals);
+}
+
+static FRAMED uint8_t call_lookup_time(void)
+{
+    return nimbleshale_store_lookup_time(&store, tick, key, &line);
 }
 
 /* A packet of one command. It is refused where the command is, or where not all of it is taken. */
@@ -117,8 +131,9 @@ static FRAMED uint8_t call_block_write(void)
 }
 
 enum {
-    FIND_CALLER, OPEN, START, END, QUESTION, LOOKUP_STARTS, LOOKUP_ENDS, PACKET_START, PACKET_END, PACKET_QUESTION, BURST_START, BURST_END,
-    BLOCK_RESET, BLOCK_READ, BLOCK_LINE, BLOCK_OPERAND, BLOCK_START, BLOCK_END, BLOCK_QUESTION, CALLS
+    FIND_CALLER, OPEN, START, END, QUESTION, BAT_TIME, LOOKUP_STARTS, LOOKUP_ENDS, LOOKUP_TIME, PACKET_START, PACKET_END, PACKET_QUESTION,
+    PACKET_BAT_TIME, BURST_START, BURST_END, BLOCK_RESET, BLOCK_READ, BLOCK_LINE, BLOCK_OPERAND, BLOCK_START, BLOCK_END, BLOCK_QUESTION, BLOCK_BAT_TIME,
+    CALLS
 };
 
 static const struct {
@@ -130,11 +145,14 @@ static const struct {
     {"nimbleshale_start", call_start},
     {"nimbleshale_end", call_end},
     {"nimbleshale_question", call_question},
+    {"nimbleshale_bat_time", call_bat_time},
     {"nimbleshale_lookup_starts", call_lookup_starts},
     {"nimbleshale_lookup_ends", call_lookup_ends},
+    {"nimbleshale_lookup_time", call_lookup_time},
     {"nimbleshale_commands, start", call_commands},
     {"nimbleshale_commands, end", call_commands},
     {"nimbleshale_commands, question", call_commands},
+    {"nimbleshale_commands, bat-time", call_commands},
     {"nimbleshale_burst, start", call_burst},
     {"nimbleshale_burst, end", call_burst},
     {"nimbleshale_block_reset", call_block_reset},
@@ -144,6 +162,7 @@ static const struct {
     {"nimbleshale_block_write, start", call_block_write},
     {"nimbleshale_block_write, end", call_block_write},
     {"nimbleshale_block_write, question", call_block_write},
+    {"nimbleshale_block_write, bat-time", call_block_write},
 };
 
 static size_t deepest[CALLS];
@@ -168,15 +187,19 @@ static FRAMED void measure(int which)
         deepest[which] = depth;
 }
 
-/* Questions at the tick that has come. One from key 0 on makes one lookup a tree, any other two at once: other functions, of other depth. */
+/* Questions and bat-times at the tick that has come. One from key 0 on makes half of the lookups, any other both of a pair at once: other functions, of
+ * other depth. */
 static void measure_questions(void)
 {
     first_key = 0;
     measure(QUESTION);
+    measure(BAT_TIME);
     first_key = 1 + key / 2;
     measure(QUESTION);
+    measure(BAT_TIME);
     measure(LOOKUP_STARTS);
     measure(LOOKUP_ENDS);
+    measure(LOOKUP_TIME);
 }
 
 static void put(uint32_t operand, int bytes)
@@ -210,7 +233,7 @@ static void measure_block(int which)
     measure(which);
 }
 
-/* A start, an end or a question whose bytes are in the packet. */
+/* A command whose bytes are in the packet. */
 static void measure_command(int which, enum way way)
 {
     if (way == BY_BLOCK)
@@ -219,13 +242,20 @@ static void measure_command(int which, enum way way)
         measure(which);
 }
 
-static void measure_packet_question(uint32_t from_key, enum way way)
+static void put_band(uint32_t command, uint32_t from_key)
 {
-    begin_packet(3, from_key, 2);
+    begin_packet(command, from_key, 2);
     put(key + 2, 2);
     put(tick / 2, 4);
     put(tick + 1, 4);
+}
+
+static void measure_packet_questions(uint32_t from_key, enum way way)
+{
+    put_band(NIMBLESHALE_COMMAND_QUESTION, from_key);
     measure_command(way == BY_BLOCK ? BLOCK_QUESTION : PACKET_QUESTION, way);
+    put_band(NIMBLESHALE_COMMAND_BAT_TIME, from_key);
+    measure_command(way == BY_BLOCK ? BLOCK_BAT_TIME : PACKET_BAT_TIME, way);
 }
 
 /* A pass starts and ends. */
@@ -259,12 +289,18 @@ static void *run(void *unused)
             if (way == BY_CALLS)
                 measure_questions();
             if (way == BY_PACKETS || way == BY_BLOCK) {
-                measure_packet_question(0, (enum way)way);
-                measure_packet_question(1 + key / 2, (enum way)way);
+                measure_packet_questions(0, (enum way)way);
+                measure_packet_questions(1 + key / 2, (enum way)way);
             }
         }
     }
     return NULL;
+}
+
+/* How many pages high a tree is, of which the head has the roots used in a place. */
+static unsigned height(const uint64_t *table, const uint64_t *roots, size_t place)
+{
+    return (unsigned)table[NIMBLESHALE_PAGE_WORDS * (size_t)(roots[store.head[place] - 1] >> 32)] + 1;
 }
 
 int main(void)
@@ -274,17 +310,22 @@ int main(void)
     int call;
     store.start_table = start_table;
     store.end_table = end_table;
+    store.time_table = time_table;
     store.start_table_length = store.end_table_length = NIMBLESHALE_TABLE_WORDS(PAGES);
+    store.time_table_length = NIMBLESHALE_TABLE_WORDS(TIME_PAGES);
     store.start_roots = start_roots;
     store.end_roots = end_roots;
     store.start_roots_length = store.end_roots_length = PAGES;
+    store.time_roots = time_roots;
+    store.time_roots_length = TIME_PAGES;
     if (pthread_attr_init(&attributes) != 0 || pthread_attr_setstack(&attributes, stack_memory, sizeof stack_memory) != 0 ||
         pthread_create(&thread, &attributes, run, NULL) != 0 || pthread_join(thread, NULL) != 0) {
         perror("thread");
         return 2;
     }
-    printf("\nStack below the caller, arguments included; deepest of %u starts and ends each way, trees %u pages high:\n", 2 * PASSES,
-           (unsigned)start_table[NIMBLESHALE_PAGE_WORDS * (size_t)(start_roots[store.start_roots_used - 1] >> 32)] + 1);
+    printf("\nStack below the caller, arguments included; deepest of %u starts and ends each way, trees %u, %u and %u pages high:\n", 2 * PASSES,
+           height(start_table, start_roots, NIMBLESHALE_HEAD_START_ROOTS), height(end_table, end_roots, NIMBLESHALE_HEAD_END_ROOTS),
+           height(time_table, time_roots, NIMBLESHALE_HEAD_TIME_ROOTS));
     for (call = OPEN; call < CALLS; call++)
         printf("%-36s%6lu bytes\n", calls[call].name, (unsigned long)deepest[call]);
     return refused != 0;

@@ -32,7 +32,7 @@ impl Shape {
     }
 }
 
-/// A season of so many passes as starts and ends in order of time. Most come in bursts, some 2,000 a day, so that a million of them take the
+/// A season of passes as starts and ends in order of time. Most come in bursts, some 2,000 a day, so that a million of them take the
 /// 497 days that ticks last; each goes on for some seconds, down to a click of one tick.
 pub fn season(shape: Shape, passes: u32) -> Vec<Call> {
     let mut random = Random(passes as u64);

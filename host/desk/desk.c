@@ -3,7 +3,8 @@
  *
  *     start TICK KEY WEIGHT        a pass starts
  *     end TICK NUMBER              the pass of that number ends
- *     question K1 K2 T1 T2         keys K1 up to but not K2, ticks T1 up to but not T2
+ *     question K1 K2 T1 T2         which passes: keys K1 up to but not K2, ticks T1 up to but not T2
+ *     battime K1 K2 T1 T2          their weight times the ticks at which they live there
  *
  * Where the library is linked in, there is a register block too, and the desk is its radio chip:
  *
@@ -53,11 +54,21 @@ static const struct command commands[] = {
     {"start", NIMBLESHALE_COMMAND_START, {4, 2, 2, 0}},
     {"end", NIMBLESHALE_COMMAND_END, {4, 4, 0}},
     {"question", NIMBLESHALE_COMMAND_QUESTION, {2, 2, 4, 4, 0}},
+    {"battime", NIMBLESHALE_COMMAND_BAT_TIME, {2, 2, 4, 4, 0}},
 };
 
 static uint64_t number_in(const uint8_t *bytes, int count)
 {
     return count == 0 ? 0 : bytes[0] + 256 * number_in(bytes + 1, count - 1);
+}
+
+/* Weight is in hundredths and a tick is a hundredth of a second: 10,000 are weight 1 for one second. */
+#define WEIGHT_SECOND 10000u
+
+static void say_bat_time(uint64_t total, unsigned pages)
+{
+    printf("bat-time %llu (weight 1 for %llu.%04u seconds), %u pages opened\n", (unsigned long long)total,
+           (unsigned long long)(total / WEIGHT_SECOND), (unsigned)(total % WEIGHT_SECOND), pages);
 }
 
 static void say_answer(const struct command *command, const uint8_t *answer)
@@ -70,6 +81,7 @@ static void say_answer(const struct command *command, const uint8_t *answer)
     switch (command->code) {
     case NIMBLESHALE_COMMAND_START: printf("pass %lu started\n", (unsigned long)number_in(answer + 1, 4)); break;
     case NIMBLESHALE_COMMAND_END: printf("ended\n"); break;
+    case NIMBLESHALE_COMMAND_BAT_TIME: say_bat_time(number_in(answer + 1, 8), answer[9]); break;
     default:
         printf("%llu pass%s, weight sum %llu, %u pages opened\n", (unsigned long long)count, count == 1 ? "" : "es",
                (unsigned long long)number_in(answer + 9, 8), (unsigned)answer[17]);
@@ -102,7 +114,7 @@ static const char *line_now(void)
     return registers->line() ? "high" : "low";
 }
 
-/* So many bytes from an offset on, as the radio side reads them. */
+/* The bytes from an offset on, as the radio side reads them. */
 static void say_bytes(const char *name, size_t from, size_t count)
 {
     char place[32];
@@ -216,7 +228,7 @@ static void obey(char *line)
             return;
     if (access_block(word, &words))
         return;
-    printf("no such command: start TICK KEY WEIGHT, end TICK NUMBER, question K1 K2 T1 T2; keys and weights up to 65535");
+    printf("no such command: start TICK KEY WEIGHT, end TICK NUMBER, question K1 K2 T1 T2, battime K1 K2 T1 T2; keys and weights up to 65535");
     if (registers != NULL)
         printf("; poke OFFSET VALUE.., values up to 255, peek OFFSET, block, reset");
     printf("\n");

@@ -3,11 +3,12 @@
 #include <stdio.h>
 #include <stdlib.h>
 
-/* "the program's own tables hold 12 pages a tree and 12 roots" */
-#define PAGES 12
-#define ROOTS 12
+/* "the program's tables shrink to 10 pages and 10 roots a tree" (document 02, Paper 4) */
+#define PAGES 10
+#define ROOTS 10
 
 static uint64_t start_table[NIMBLESHALE_TABLE_WORDS(PAGES)], start_roots[ROOTS], end_table[NIMBLESHALE_TABLE_WORDS(PAGES)], end_roots[ROOTS];
+static uint64_t time_table[NIMBLESHALE_TABLE_WORDS(PAGES)], time_roots[ROOTS];
 static struct nimbleshale_store store;
 static uint8_t block[NIMBLESHALE_BLOCK_BYTES];
 
@@ -18,10 +19,12 @@ int begin_detector(int count, char **arguments)
         return 0;
     store.start_table = start_table;
     store.end_table = end_table;
-    store.start_table_length = store.end_table_length = NIMBLESHALE_TABLE_WORDS(PAGES);
+    store.time_table = time_table;
+    store.start_table_length = store.end_table_length = store.time_table_length = NIMBLESHALE_TABLE_WORDS(PAGES);
     store.start_roots = start_roots;
     store.end_roots = end_roots;
-    store.start_roots_length = store.end_roots_length = ROOTS;
+    store.time_roots = time_roots;
+    store.start_roots_length = store.end_roots_length = store.time_roots_length = ROOTS;
     if (nimbleshale_store_open(&store) != NIMBLESHALE_ACCEPTED) {
         fprintf(stderr, "desk: the library opens no store\n");
         exit(2);

@@ -54,6 +54,8 @@ void answer_command(const uint8_t *command, size_t length, uint8_t answer[NIMBLE
         hear(answer + 1, 4);
     if (command[0] == NIMBLESHALE_COMMAND_QUESTION)
         hear(answer + 1, NIMBLESHALE_LONGEST_ANSWER - 1);
+    if (command[0] == NIMBLESHALE_COMMAND_BAT_TIME)
+        hear(answer + 1, 9);
 }
 
 int end_detector(void)

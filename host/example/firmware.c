@@ -1,8 +1,8 @@
 /*
- * An example of firmware around the pass index: it lends static memory, records what the ear hears, answers the radio, keeps the store over
- * a power cycle, runs the radio's packets of commands, enters in one burst what it heard while the radio talked, serves a radio chip that has a
- * register block, and shows what a detector can do about each refusal. The memory is small, so that it runs full within the example; a detector
- * lends thousands of pages.
+ * An example of firmware around the pass index: it lends static memory, records what the ear hears, answers the radio, tells the bat-time of a band,
+ * keeps the store over a power cycle, runs the radio's packets of commands, enters in one burst what it heard while the radio talked, serves a radio
+ * chip that has a register block, and shows what a detector can do about each refusal. The memory is small, so that it runs full within the example;
+ * a detector lends thousands of pages.
  */
 #include <nimbleshale.h>
 #include <stdio.h>
@@ -12,6 +12,10 @@
 #define END_PAGES 1
 #define ROOTS 8
 
+/* The tree of time takes the points of both others. */
+#define TIME_PAGES 16
+#define TIME_ROOTS 16
+
 /* How often one event is tried. Each refusal that can be mended is mended once; an event that then meets yet another is dropped. */
 #define TRIES 3
 
@@ -19,6 +23,8 @@ static uint64_t start_table[NIMBLESHALE_TABLE_WORDS(START_PAGES)];
 static uint64_t start_roots[ROOTS];
 static uint64_t end_table[NIMBLESHALE_TABLE_WORDS(END_PAGES)];
 static uint64_t end_roots[ROOTS];
+static uint64_t time_table[NIMBLESHALE_TABLE_WORDS(TIME_PAGES)];
+static uint64_t time_roots[TIME_ROOTS];
 
 static struct nimbleshale_store store;
 
@@ -35,6 +41,10 @@ static void lend_memory(size_t length_of_start_roots)
     store.end_table_length = sizeof end_table / sizeof *end_table;
     store.end_roots = end_roots;
     store.end_roots_length = ROOTS;
+    store.time_table = time_table;
+    store.time_table_length = sizeof time_table / sizeof *time_table;
+    store.time_roots = time_roots;
+    store.time_roots_length = TIME_ROOTS;
 }
 
 static void say(const char *what, uint8_t refusal)
@@ -42,19 +52,44 @@ static void say(const char *what, uint8_t refusal)
     printf("%s: refusal %u, %s\n", what, (unsigned)refusal, nimbleshale_refusal_text(refusal));
 }
 
+static void say_band(uint32_t k1, uint32_t k2, uint32_t t1, uint32_t t2)
+{
+    printf("keys %lu to %lu, ticks %lu to %lu: ", (unsigned long)k1, (unsigned long)k2, (unsigned long)t1, (unsigned long)t2);
+}
+
+static void count_fault(uint8_t refusal)
+{
+    if (refusal == NIMBLESHALE_REFUSED_HEAD || refusal == NIMBLESHALE_REFUSED_SPOILED)
+        memory_faults++;
+}
+
 /* The radio asks. A refusal goes back to it as it is. The store is kept even where memory is damaged: other pages may still be sound. */
 static void on_question(uint32_t k1, uint32_t k2, uint32_t t1, uint32_t t2)
 {
     struct nimbleshale_totals totals;
     uint8_t refusal = nimbleshale_store_question(&store, k1, k2, t1, t2, &totals);
-    if (refusal == NIMBLESHALE_ACCEPTED)
-        printf("keys %lu to %lu, ticks %lu to %lu: %llu passes, weight %llu, %lu pages opened\n", (unsigned long)k1, (unsigned long)k2,
-               (unsigned long)t1, (unsigned long)t2, (unsigned long long)totals.count, (unsigned long long)totals.sum,
+    if (refusal == NIMBLESHALE_ACCEPTED) {
+        say_band(k1, k2, t1, t2);
+        printf("%llu passes, weight %llu, %lu pages opened\n", (unsigned long long)totals.count, (unsigned long long)totals.sum,
                (unsigned long)totals.pages);
-    else
+    } else {
         say("question", refusal);
-    if (refusal == NIMBLESHALE_REFUSED_HEAD || refusal == NIMBLESHALE_REFUSED_SPOILED)
-        memory_faults++;
+    }
+    count_fault(refusal);
+}
+
+/* The consultancy asks for the bat-time of a band: weight in hundredths times ticks of 10 ms. */
+static void on_bat_time(uint32_t k1, uint32_t k2, uint32_t t1, uint32_t t2)
+{
+    struct nimbleshale_time time;
+    uint8_t refusal = nimbleshale_store_bat_time(&store, k1, k2, t1, t2, &time);
+    if (refusal == NIMBLESHALE_ACCEPTED) {
+        say_band(k1, k2, t1, t2);
+        printf("bat-time %llu, %lu pages opened\n", (unsigned long long)time.total, (unsigned long)time.pages);
+    } else {
+        say("bat-time", refusal);
+    }
+    count_fault(refusal);
 }
 
 /* Makes an empty store. Returns 0 where the memory lent is too small, which no later call can mend. */
@@ -86,7 +121,7 @@ static int mend(uint8_t refusal, uint32_t *tick)
     switch (refusal) {
     case NIMBLESHALE_REFUSED_EARLIER:
         /* The clock was set back. Ticks must not fall, so the event is taken to be at the last tick. */
-        *tick = store.last;
+        *tick = store.head[NIMBLESHALE_HEAD_LAST];
         return 1;
     case NIMBLESHALE_REFUSED_ALL_OPEN:
         /* The oldest pass has lost its end, so it ends now, be it at the tick at which it started. */
@@ -154,17 +189,16 @@ static void on_end(uint32_t tick, uint32_t number)
 }
 
 /*
- * Over a power cycle. The library keeps nothing, so what the firmware keeps is the whole store: the head's seven numbers and its open passes,
- * and the words of the four slices. Addresses are not kept; memory is lent anew, of the same lengths. (Of a table only the pages used matter,
- * of a root list only the roots used: a detector with large tables keeps those alone.)
+ * Over a power cycle. The library keeps nothing, so what the firmware keeps is the whole store: the numbers of the head and the words of the six
+ * slices. Addresses are not kept; memory is lent anew, of the same lengths. (Of a table only the pages used matter, of a root list only the roots
+ * used: a detector with large tables keeps those alone.)
  *
  * A buffer stands for flash. Numbers go into it byte by byte, so that neither the order of bytes nor the layout of a struct matters. Behind them
  * stands a sum of them all: the library refuses a head or a page that cannot be, but a weight that flash has spoilt looks like any other. A
  * detector writes two such images in turn, so that one of them is whole whenever the power goes.
  */
-#define HEAD_NUMBERS (7 + NIMBLESHALE_PASS_NUMBERS)
-#define SLICE_WORDS (NIMBLESHALE_TABLE_WORDS(START_PAGES) + ROOTS + NIMBLESHALE_TABLE_WORDS(END_PAGES) + ROOTS)
-#define IMAGE_BYTES (4 * HEAD_NUMBERS + 8 * SLICE_WORDS)
+#define SLICE_WORDS (NIMBLESHALE_TABLE_WORDS(START_PAGES + END_PAGES + TIME_PAGES) + 2 * ROOTS + TIME_ROOTS)
+#define IMAGE_BYTES (4 * NIMBLESHALE_HEAD_NUMBERS + 8 * SLICE_WORDS)
 
 static unsigned char flash[IMAGE_BYTES + 4];
 
@@ -196,20 +230,19 @@ static void each_word(void (*take)(uint64_t *, int), uint64_t *slice, size_t len
 /* Writes or reads all that is kept, in one order for both. */
 static void each_number(void (*take)(uint64_t *, int))
 {
-    uint32_t *const numbers[7] = {&store.last, &store.started, &store.count_open, &store.start_pages_used, &store.start_roots_used,
-                                  &store.end_pages_used, &store.end_roots_used};
     size_t at;
     flash_at = 0;
-    for (at = 0; at < HEAD_NUMBERS; at++) {
-        uint32_t *number = at < 7 ? numbers[at] : &store.passes[at - 7];
-        uint64_t wide = *number;
+    for (at = 0; at < NIMBLESHALE_HEAD_NUMBERS; at++) {
+        uint64_t wide = store.head[at];
         take(&wide, 4);
-        *number = nimbleshale_narrowed(wide);
+        store.head[at] = nimbleshale_narrowed(wide);
     }
     each_word(take, start_table, NIMBLESHALE_TABLE_WORDS(START_PAGES));
     each_word(take, start_roots, ROOTS);
     each_word(take, end_table, NIMBLESHALE_TABLE_WORDS(END_PAGES));
     each_word(take, end_roots, ROOTS);
+    each_word(take, time_table, NIMBLESHALE_TABLE_WORDS(TIME_PAGES));
+    each_word(take, time_roots, TIME_ROOTS);
 }
 
 /* The sum of an image (32-bit FNV-1a). */
@@ -238,6 +271,8 @@ static void lose_power(void)
     memset(start_roots, 0x5a, sizeof start_roots);
     memset(end_table, 0x5a, sizeof end_table);
     memset(end_roots, 0x5a, sizeof end_roots);
+    memset(time_table, 0x5a, sizeof time_table);
+    memset(time_roots, 0x5a, sizeof time_roots);
 }
 
 /* Memory is lent anew, and the store comes back from flash. Where flash does not hold one, a new store begins. */
@@ -291,6 +326,9 @@ static size_t say_answer(uint8_t command, const uint8_t *answer)
         printf("answer: question, %llu passes, weight %llu, %u pages opened\n", (unsigned long long)number_in(answer + 1, 8),
                (unsigned long long)number_in(answer + 9, 8), (unsigned)answer[17]);
         return NIMBLESHALE_LONGEST_ANSWER;
+    case NIMBLESHALE_COMMAND_BAT_TIME:
+        printf("answer: bat-time %llu, %u pages opened\n", (unsigned long long)number_in(answer + 1, 8), (unsigned)answer[9]);
+        return 10;
     default:
         printf("answer: end\n");
         return 1;
@@ -304,7 +342,7 @@ static void send_answers(size_t taken, size_t written)
     while (at < taken && from < written) {
         uint8_t command = waiting[at];
         from += say_answer(command, answers + from);
-        at += command == NIMBLESHALE_COMMAND_QUESTION ? NIMBLESHALE_LONGEST_COMMAND : 9;
+        at += command == NIMBLESHALE_COMMAND_QUESTION || command == NIMBLESHALE_COMMAND_BAT_TIME ? NIMBLESHALE_LONGEST_COMMAND : NIMBLESHALE_EVENT_BYTES;
     }
 }
 
@@ -575,7 +613,7 @@ static uint32_t starts_until(int (*come_about)(void), const char *what, uint32_t
 
 static int all_are_open(void)
 {
-    return store.count_open >= NIMBLESHALE_OPEN_PASSES;
+    return store.head[NIMBLESHALE_HEAD_OPEN] >= NIMBLESHALE_OPEN_PASSES;
 }
 
 static int fourth_store_is_open(void)
@@ -596,6 +634,8 @@ static void events(void)
     on_question(0, NIMBLESHALE_KEYS, 160, 170);
     on_question(0, NIMBLESHALE_KEYS, 161, 170);
     on_question(5000, 4000, 100, 200);
+    /* Weight 80 at ticks 150 to 160: the first pass, of which the interval has its last 11 ticks. */
+    on_bat_time(4000, 5000, 150, 170);
 
     printf("\nThe clock is set back: what was heard becomes a click at the last tick\n");
     on_start(150, 4600, 70, &number);
@@ -737,11 +777,11 @@ static void damaged_memory(void)
     on_start(2000, 4500, 80, &number);
 
     printf("\nA damaged head\n");
-    store.count_open = 65;
+    store.head[NIMBLESHALE_HEAD_OPEN] = 65;
     on_start(2100, 4500, 80, &number);
 
     printf("\nA million passes\n");
-    store.started = NIMBLESHALE_PASSES;
+    store.head[NIMBLESHALE_HEAD_STARTED] = NIMBLESHALE_PASSES;
     on_start(2200, 4500, 80, &number);
 
     printf("\nDamaged flash\n");

@@ -1,5 +1,6 @@
 //! Entering a planned point into one tree: document 01, "Entering a point", steps 2 to 8.
 
+use crate::head::TreeUse;
 use crate::page::{row_start, value_at, Entry, Order};
 use crate::plan::{Plan, Step};
 use crate::words::{
@@ -34,9 +35,10 @@ enum Became {
 /// The words of a page, and room for the rows that one entry may append.
 const COPY_WORDS: usize = PAGE_WORDS + ROW_WORDS * APPENDED;
 
-/// Enters a point that was planned, and for which there are pages and a root entry left. `pages` and `used` are the pages and the root
-/// entries in use, before the call and after it.
-pub fn enter(table: &mut [u64], roots: &mut [u64], pages: &mut u32, used: &mut u32, plan: &Plan, point: Point) {
+/// Enters a point that was planned, and for which there are pages and a root entry left. `used` are the pages and the root entries in use, before
+/// the call and after it.
+pub fn enter(table: &mut [u64], roots: &mut [u64], used: &mut TreeUse, plan: &Plan, point: Point) {
+    let TreeUse { pages, roots: roots_used } = used;
     let mut below = Became::Stays;
     for step in plan.steps().iter().rev() {
         if step.parts == 0 {
@@ -55,7 +57,7 @@ pub fn enter(table: &mut [u64], roots: &mut [u64], pages: &mut u32, used: &mut u
         Became::Copied(child) => child.page,
         Became::Halved(lower, upper) => put_two_row_root(table, pages, plan.steps()[0].level + 1, lower, upper, point.tick),
     };
-    put_root(roots, used, root, point.tick);
+    put_root(roots, roots_used, root, point.tick);
 }
 
 /// The rows of one page: step 2, or else step 3, and step 7 above a page whose rows went to new pages.

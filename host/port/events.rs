@@ -1,7 +1,7 @@
 //! Starts and ends as the bytes of their commands: one of them, which the command stream runs too, and a burst of up to 256.
 
 use crate::calls::{end, start};
-use crate::head::{Head, Lent};
+use crate::head::{lent_on, Head, Lent};
 
 /// The bytes of a start or an end, its kind before them included.
 pub const EVENT_BYTES: usize = 9;
@@ -39,7 +39,7 @@ pub fn burst(head: &mut Head, mut lent: Lent, events: &[u8], results: &mut [u64]
     }
     for (event, result) in events.chunks_exact(EVENT_BYTES).zip(results.chunks_exact_mut(RESULT_WORDS)) {
         let mut number = 0;
-        result[0] = run_event(head, lent.lent_on(), event, &mut number) as u64;
+        result[0] = run_event(head, lent_on(&mut lent), event, &mut number) as u64;
         result[1] = number as u64;
     }
     0

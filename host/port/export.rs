@@ -1,7 +1,8 @@
 //! The port under the names of the library, as an archive for C: it stands in where the proved library is not at hand, and shows that the
-//! tests need no more than the twelve functions of the header. `host/include/nimbleshale.h` says what each does.
+//! tests need no more than the fourteen functions of the header. `host/include/nimbleshale.h` says what each does. Where the header has an array of
+//! numbers for the head, here is the port's head, which is the same memory.
 
-use port::{Block, Fed, Head, Lent, Seen, Totals, PASS_NUMBERS};
+use port::{BatTime, Block, Fed, Head, Lent, Memory, Shown, Totals, ENDS, STARTS, TIME};
 use std::slice::{from_raw_parts, from_raw_parts_mut};
 
 /// A lent slice. C may hand in any address with a length of zero.
@@ -19,9 +20,8 @@ unsafe fn seen<'a, T>(start: *const T, length: usize) -> &'a [T] {
     from_raw_parts(start, length)
 }
 
-/// Defines a call that may write: the seven numbers of the head are read and written back. A refused call has left them as they were. With
-/// `first` there are arguments before those of the store, and where the expression behind them answers, the call is done without the store: nothing of it
-/// is written, not even with what it held.
+/// Defines a call that may write. With `first` there are arguments before those of the store, and where the expression behind them answers, the call is
+/// done without the store: nothing of it is written, not even with what it held.
 macro_rules! writing {
     ($name:ident -> $answer:ty, $call:path, ($($argument:ident: $type:ty),*), ($($passed:expr),*) $(, first ($($first:ident: $first_type:ty),*) $without:expr)?) => {
         /// # Safety
@@ -29,33 +29,21 @@ macro_rules! writing {
         #[no_mangle]
         pub unsafe extern "C" fn $name(
             $($($first: $first_type,)*)?
-            last: &mut u32, started: &mut u32, count_open: &mut u32,
-            start_pages_used: &mut u32, start_roots_used: &mut u32, end_pages_used: &mut u32, end_roots_used: &mut u32,
-            passes: &mut [u32; PASS_NUMBERS],
+            head: &mut Head,
             start_table: *mut u64, start_table_length: usize, start_roots: *mut u64, start_roots_length: usize,
             end_table: *mut u64, end_table_length: usize, end_roots: *mut u64, end_roots_length: usize,
+            time_table: *mut u64, time_table_length: usize, time_roots: *mut u64, time_roots_length: usize,
             $($argument: $type),*
         ) -> $answer {
             $(if let Some(answer) = $without {
                 return answer;
             })?
-            let mut head = Head {
-                last: *last, started: *started, count_open: *count_open,
-                start_pages_used: *start_pages_used, start_roots_used: *start_roots_used,
-                end_pages_used: *end_pages_used, end_roots_used: *end_roots_used,
-            };
-            let memory = Lent {
-                passes,
-                start_table: lent(start_table, start_table_length),
-                start_roots: lent(start_roots, start_roots_length),
-                end_table: lent(end_table, end_table_length),
-                end_roots: lent(end_roots, end_roots_length),
-            };
-            let answer = $call(&mut head, memory $(, $passed)*);
-            (*last, *started, *count_open) = (head.last, head.started, head.count_open);
-            (*start_pages_used, *start_roots_used) = (head.start_pages_used, head.start_roots_used);
-            (*end_pages_used, *end_roots_used) = (head.end_pages_used, head.end_roots_used);
-            answer
+            let memory = [
+                Memory { table: lent(start_table, start_table_length), roots: lent(start_roots, start_roots_length) },
+                Memory { table: lent(end_table, end_table_length), roots: lent(end_roots, end_roots_length) },
+                Memory { table: lent(time_table, time_table_length), roots: lent(time_roots, time_roots_length) },
+            ];
+            $call(head, memory $(, $passed)*)
         }
     };
 }
@@ -105,37 +93,36 @@ fn packet(head: &mut Head, memory: Lent, input: &[u8], ended: bool, out: &mut [u
     u8::from(fed.over)
 }
 
-/// Defines a call that only reads.
+/// Defines a call that only reads: its own arguments, and its results with what each becomes of the answer. A refused call writes no result.
 macro_rules! reading {
-    ($name:ident, $call:path, ($($argument:ident),*)) => {
+    ($name:ident, $call:path, $answer:ident, ($($fixed:expr),*), ($($argument:ident),*), ($($result:ident: $type:ty = $field:ident),*)) => {
         /// # Safety
         /// Every pointer is to memory of its length, and no two overlap.
         #[no_mangle]
         pub unsafe extern "C" fn $name(
-            last: u32, started: u32, count_open: u32, start_pages_used: u32, start_roots_used: u32, end_pages_used: u32, end_roots_used: u32,
-            passes: &[u32; PASS_NUMBERS],
+            head: &Head,
             start_table: *const u64, start_table_length: usize, start_roots: *const u64, start_roots_length: usize,
             end_table: *const u64, end_table_length: usize, end_roots: *const u64, end_roots_length: usize,
-            $($argument: u32,)* count: &mut u64, sum: &mut u64, pages: &mut u32
+            time_table: *const u64, time_table_length: usize, time_roots: *const u64, time_roots_length: usize,
+            $($argument: u32,)* $($result: &mut $type),*
         ) -> u8 {
-            let head = Head { last, started, count_open, start_pages_used, start_roots_used, end_pages_used, end_roots_used };
-            let memory = Seen {
-                passes,
-                start_table: seen(start_table, start_table_length),
-                start_roots: seen(start_roots, start_roots_length),
-                end_table: seen(end_table, end_table_length),
-                end_roots: seen(end_roots, end_roots_length),
-            };
-            let mut totals = Totals::default();
-            let refused = $call(&head, memory, $($argument,)* &mut totals);
+            let memory = [
+                Shown { table: seen(start_table, start_table_length), roots: seen(start_roots, start_roots_length) },
+                Shown { table: seen(end_table, end_table_length), roots: seen(end_roots, end_roots_length) },
+                Shown { table: seen(time_table, time_table_length), roots: seen(time_roots, time_roots_length) },
+            ];
+            let mut answer = $answer::default();
+            let refused = $call(head, memory, $($fixed,)* $($argument,)* &mut answer);
             if refused == 0 {
-                (*count, *sum, *pages) = (totals.count, totals.sum, totals.pages);
+                $(*$result = answer.$field;)*
             }
             refused
         }
     };
 }
 
-reading!(nimbleshale_question, port::question, (k1, k2, t1, t2));
-reading!(nimbleshale_lookup_starts, port::lookup_starts, (t, k));
-reading!(nimbleshale_lookup_ends, port::lookup_ends, (t, k));
+reading!(nimbleshale_question, port::question, Totals, (), (k1, k2, t1, t2), (count: u64 = count, sum: u64 = sum, pages: u32 = pages));
+reading!(nimbleshale_bat_time, port::bat_time, BatTime, (), (k1, k2, t1, t2), (total: u64 = total, pages: u32 = pages));
+reading!(nimbleshale_lookup_starts, port::look_up, Totals, (STARTS), (t, k), (count: u64 = count, sum: u64 = sum, pages: u32 = pages));
+reading!(nimbleshale_lookup_ends, port::look_up, Totals, (ENDS), (t, k), (count: u64 = count, sum: u64 = sum, pages: u32 = pages));
+reading!(nimbleshale_lookup_time, port::look_up, Totals, (TIME), (t, k), (factor: u64 = count, constant: u64 = sum, pages: u32 = pages));

@@ -1,8 +1,8 @@
 //! The command stream of document 01, "Commands", as much of it as has come in a packet.
 
-use crate::calls::{question, Totals};
+use crate::calls::{bat_time, question, BatTime, Totals};
 use crate::events::{four, run_event, two, EVENT_BYTES};
-use crate::head::{Head, Lent};
+use crate::head::{lent_on, seen, Head, Lent};
 
 /// What a packet came to: how many bytes of its front were taken and how many bytes of answers written, and whether the run is over.
 #[derive(Clone, Copy, PartialEq, Eq, Debug)]
@@ -15,7 +15,7 @@ pub struct Fed {
 /// Bytes of the longest answer, that to a question.
 pub const LONGEST_ANSWER: usize = 18;
 
-/// Bytes of the longest command, a question.
+/// Bytes of the longest command, a question or bat-time.
 pub const LONGEST_COMMAND: usize = 13;
 
 /// Runs the commands at the front of a packet, as long as an answer of any length has room and the command has come whole. Only where no byte
@@ -37,7 +37,7 @@ pub fn commands(head: &mut Head, mut lent: Lent, input: &[u8], ended: bool, out:
             out[written] = 7;
             return Fed { taken: input.len(), written: written + 1, over: true };
         }
-        written += run(head, lent.lent_on(), &rest[..length], &mut out[written..]);
+        written += run(head, lent_on(&mut lent), &rest[..length], &mut out[written..]);
         taken += length;
     }
     Fed { taken, written, over: ended }
@@ -47,30 +47,41 @@ pub fn commands(head: &mut Head, mut lent: Lent, input: &[u8], ended: bool, out:
 pub fn length_of(byte: u8) -> Option<usize> {
     match byte {
         1 | 2 => Some(EVENT_BYTES),
-        3 => Some(LONGEST_COMMAND),
+        3 | 4 => Some(LONGEST_COMMAND),
         _ => None,
     }
 }
 
 /// Runs a whole command and writes its answer. Returns how many bytes that has.
 pub fn run(head: &mut Head, lent: Lent, command: &[u8], out: &mut [u8]) -> usize {
-    let (mut number, mut totals) = (0, Totals::default());
+    let (mut number, mut totals, mut time) = (0, Totals::default(), BatTime::default());
+    let band = || (two(command, 1), two(command, 3), four(command, 5), four(command, 9));
     out[0] = match command[0] {
-        3 => question(head, lent.seen(), two(command, 1), two(command, 3), four(command, 5), four(command, 9), &mut totals),
+        3 => {
+            let (k1, k2, t1, t2) = band();
+            question(head, seen(&lent), k1, k2, t1, t2, &mut totals)
+        }
+        4 => {
+            let (k1, k2, t1, t2) = band();
+            bat_time(head, seen(&lent), k1, k2, t1, t2, &mut time)
+        }
         _ => run_event(head, lent, command, &mut number),
     };
+    // The pages of a question and of bat-time are at most 16, so that a byte holds them.
     match (out[0], command[0]) {
-        (0, 1) => {
-            out[1..5].copy_from_slice(&number.to_le_bytes());
-            5
-        }
-        (0, 3) => {
-            out[1..9].copy_from_slice(&totals.count.to_le_bytes());
-            out[9..17].copy_from_slice(&totals.sum.to_le_bytes());
-            // At most 16.
-            out[17] = totals.pages as u8;
-            18
-        }
+        (0, 1) => put(out, [&number.to_le_bytes()]),
+        (0, 3) => put(out, [&totals.count.to_le_bytes()[..], &totals.sum.to_le_bytes(), &[totals.pages as u8]]),
+        (0, 4) => put(out, [&time.total.to_le_bytes()[..], &[time.pages as u8]]),
         _ => 1,
     }
+}
+
+/// Writes what follows the first byte of an answer. Returns how many bytes the answer has.
+fn put<const PARTS: usize>(out: &mut [u8], parts: [&[u8]; PARTS]) -> usize {
+    let mut at = 1;
+    for part in parts {
+        out[at..at + part.len()].copy_from_slice(part);
+        at += part.len();
+    }
+    at
 }

@@ -29,7 +29,8 @@ pub const PAGE_LIMIT: usize = 1_000_000;
 /// The words of one page.
 pub type Page = [u64; PAGE_WORDS];
 
-/// A count and a weight sum, each modulo 2^64.
+/// What a row or a point carries in its last two words, each modulo 2^64: a count and a weight sum. In the tree of time they are a line over ticks: the
+/// factor of the tick, in the place of the count, and the constant.
 #[derive(Clone, Copy, Default)]
 pub struct Value {
     pub count: u64,
@@ -37,6 +38,28 @@ pub struct Value {
 }
 
 impl Value {
+    /// What a pass gives to the trees of starts and of ends.
+    pub fn of_pass(weight: u32) -> Value {
+        Value { count: 1, sum: weight as u64 }
+    }
+
+    /// What a start gives to the tree of time: from its tick on the weight counts for each tick, that tick included.
+    pub fn of_start(tick: u32, weight: u32) -> Value {
+        let weight = weight as u64;
+        Value { count: weight, sum: weight.wrapping_sub(weight * tick as u64) }
+    }
+
+    /// What an end gives to it: after its tick the weight counts no more.
+    pub fn of_end(tick: u32, weight: u32) -> Value {
+        let weight = weight as u64;
+        Value { count: weight.wrapping_neg(), sum: weight * tick as u64 }
+    }
+
+    /// The line at a tick.
+    pub fn at(self, t: u32) -> u64 {
+        self.count.wrapping_mul(t as u64).wrapping_add(self.sum)
+    }
+
     pub fn plus(self, other: Value) -> Value {
         Value { count: self.count.wrapping_add(other.count), sum: self.sum.wrapping_add(other.sum) }
     }

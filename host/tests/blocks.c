@@ -7,7 +7,7 @@
 #include "cases.h"
 
 #define BYTES NIMBLESHALE_BLOCK_BYTES
-#define PAGES 12
+#define PAGES 10
 
 static unsigned long compared, differed, accesses, commands, accepted, refused, unknown;
 
@@ -72,11 +72,11 @@ static void model_write(uint8_t *bytes, size_t offset, uint8_t value)
 }
 
 /* A command of which the answer is known, and how many passes are open after it. */
-static void model_command(uint8_t *bytes, uint8_t value, const uint8_t *answer, size_t length, uint32_t count_open)
+static void model_command(uint8_t *bytes, uint8_t value, const uint8_t *answer, size_t length, uint32_t open)
 {
     bytes[0] = value;
     bytes[13] = answer[0];
-    bytes[14] = (uint8_t)(1 + (answer[0] != 0 ? 2 : 0) + (count_open == 64 ? 4 : 0));
+    bytes[14] = (uint8_t)(1 + (answer[0] != 0 ? 2 : 0) + (open == 64 ? 4 : 0));
     for (size_t at = 0; at < 17; at++)
         bytes[16 + at] = at + 1 < length ? answer[at + 1] : 0;
 }
@@ -119,12 +119,23 @@ static void write_register(struct tried *tried, size_t offset, uint8_t value, co
     judge(block_is_model(), what, offset, value);
 }
 
-/* A store just opened, with its passes in a slice of their own. */
+/* How many passes are open, and the number of the one in a place. */
+static uint32_t count_open(const struct tried *tried)
+{
+    return tried->head[NIMBLESHALE_HEAD_OPEN];
+}
+
+static uint32_t open_number(const struct tried *tried, uint32_t place)
+{
+    return tried->head[NIMBLESHALE_HEAD_PASSES + 4 * place];
+}
+
+/* A store just opened, with its head in a slice of its own. */
 static void open_tried(struct tried *t, size_t pages)
 {
     struct nimbleshale_store *s = &t->store;
-    lend_store(s, NIMBLESHALE_TABLE_WORDS(pages), pages, NIMBLESHALE_TABLE_WORDS(pages), pages);
-    t->passes = lend(PASSES_BYTES);
+    lend_pages(s, pages, pages);
+    t->head = lend(HEAD_BYTES);
     judge(nimbleshale_open(LENT) == 0, "opening", 0, 0);
 }
 
@@ -149,7 +160,7 @@ static void end_pair(struct pair *pair)
 static size_t answer_in_stream(struct tried *t, const uint8_t *bytes, uint8_t *answer)
 {
     struct nimbleshale_store *s = &t->store;
-    const size_t length = bytes[0] == 1 || bytes[0] == 2 ? 9 : bytes[0] == 3 ? 13 : 1;
+    const size_t length = bytes[0] == 1 || bytes[0] == 2 ? 9 : bytes[0] == 3 || bytes[0] == 4 ? 13 : 1;
     size_t taken = 0, written = 0;
     uint8_t over = nimbleshale_commands(LENT, bytes, length, 0, answer, NIMBLESHALE_LONGEST_ANSWER, &taken, &written);
     judge(taken == length && written >= 1 && over == (answer[0] == 6), "the stream's own answer", 0, bytes[0]);
@@ -168,11 +179,11 @@ static uint8_t run_command(struct pair *pair, uint8_t value, const char *what)
     bytes[0] = value;
     length = answer_in_stream(&pair->stream, bytes, answer);
     write_block(&pair->through, 0, value);
-    model_command(model, value, answer, length, pair->stream.store.count_open);
+    model_command(model, value, answer, length, count_open(&pair->stream));
     after = digest_tried(&pair->through);
     judge(block_is_model(), what, 0, value);
     judge(after == digest_tried(&pair->stream), what, 0, value);
-    judge((answer[0] == 0 && value != 3) || after == before, "a store that may not change", 0, value);
+    judge((answer[0] == 0 && value < 3) || after == before, "a store that may not change", 0, value);
     commands++;
     accepted += answer[0] == 0;
     refused += answer[0] != 0 && answer[0] != 6;
@@ -188,7 +199,7 @@ static void write_operands(struct pair *pair, const uint8_t *operands, size_t co
         write_register(&pair->through, 1 + at, operands[at], "an operand");
 }
 
-/* The operands of a question. */
+/* The operands of a question or a bat-time. */
 static void put_question(uint8_t *operands, const struct asked *asked)
 {
     nimbleshale_event_number(operands, asked->k1, 2);
@@ -213,13 +224,24 @@ static uint8_t run_end(struct pair *pair, uint32_t tick, uint32_t number)
     return run_command(pair, NIMBLESHALE_COMMAND_END, "an end");
 }
 
-static uint8_t run_question(struct pair *pair, uint32_t k1, uint32_t k2, uint32_t t1, uint32_t t2)
+static void write_asked(struct pair *pair, uint32_t k1, uint32_t k2, uint32_t t1, uint32_t t2)
 {
     const struct asked asked = {k1, k2, t1, t2};
     uint8_t operands[NIMBLESHALE_BLOCK_OPERAND_BYTES];
     put_question(operands, &asked);
     write_operands(pair, operands, sizeof operands);
+}
+
+static uint8_t run_question(struct pair *pair, uint32_t k1, uint32_t k2, uint32_t t1, uint32_t t2)
+{
+    write_asked(pair, k1, k2, t1, t2);
     return run_command(pair, NIMBLESHALE_COMMAND_QUESTION, "a question");
+}
+
+static uint8_t run_bat_time(struct pair *pair, uint32_t k1, uint32_t k2, uint32_t t1, uint32_t t2)
+{
+    write_asked(pair, k1, k2, t1, t2);
+    return run_command(pair, NIMBLESHALE_COMMAND_BAT_TIME, "a bat-time");
 }
 
 /* What a command left: its status and its flags. */
@@ -283,10 +305,10 @@ static void try_lines(void)
 static void protect(struct tried *tried, int protection)
 {
     struct nimbleshale_store *s = &tried->store;
-    void *const slices[6] = {s->start_table, s->start_roots, s->end_table, s->end_roots, tried->passes, tried};
-    const size_t bytes[6] = {8 * s->start_table_length, 8 * s->start_roots_length, 8 * s->end_table_length, 8 * s->end_roots_length, PASSES_BYTES,
-                             sizeof *tried};
-    for (size_t at = 0; at < 6; at++)
+    void *const slices[8] = {s->start_table, s->start_roots, s->end_table, s->end_roots, s->time_table, s->time_roots, tried->head, tried};
+    const size_t bytes[8] = {8 * s->start_table_length, 8 * s->start_roots_length, 8 * s->end_table_length, 8 * s->end_roots_length,
+                             8 * s->time_table_length, 8 * s->time_roots_length, HEAD_BYTES, sizeof *tried};
+    for (size_t at = 0; at < 8; at++)
         if (mprotect((unsigned char *)slices[at] + bytes[at] - lent_room(bytes[at]), lent_room(bytes[at]), protection) != 0) {
             perror("protect");
             exit(2);
@@ -336,12 +358,12 @@ static void try_resets(void)
         if (turn < 64)
             expect(run_start(&pair, 10, 4500, 100), 0, turn == 63 ? 5 : 1, "a start after a reset");
     }
-    judge(pair.through.store.count_open == 64, "the passes that are open after resets", 0, 64);
+    judge(count_open(&pair.through) == 64, "the passes that are open after resets", 0, 64);
     end_pair(&pair);
 }
 
-/* Every first byte, on operands that are good for a start: 1 starts a pass, 2 ends none, 3 asks for a band that cannot be, and any other gets 6. After
- * each the block goes on. */
+/* Every first byte, on operands that are good for a start: 1 starts a pass, 2 ends none, 3 and 4 ask for a band that cannot be, and any other gets 6.
+ * After each the block goes on. */
 static void try_command_bytes(void)
 {
     struct pair pair;
@@ -351,11 +373,12 @@ static void try_command_bytes(void)
         spoil_block();
         run_start(&pair, 70000, 4500, 100);
         status = run_command(&pair, (uint8_t)value, "a command byte");
-        expect(status, value == 1 ? 0 : value == 2 ? 22 : value == 3 ? 2 : 6, value == 1 ? 1 : 3, "a command byte");
+        expect(status, value == 1 ? 0 : value == 2 ? 22 : value == 3 || value == 4 ? 2 : 6, value == 1 ? 1 : 3, "a command byte");
         judge(block[0] == value, "the command reads as written", 0, value);
         expect(run_question(&pair, 0, 30000, 0, 4294967295u), 0, 1, "a question behind it");
-        while (pair.through.store.count_open > 0)
-            run_end(&pair, 70000, pair.through.passes[0]);
+        expect(run_bat_time(&pair, 0, 30000, 0, 4294967295u), 0, 1, "a bat-time behind it");
+        while (count_open(&pair.through) > 0)
+            run_end(&pair, 70000, open_number(&pair.through, 0));
     }
     end_pair(&pair);
 }
@@ -366,8 +389,8 @@ static void try_flags_anew(void)
     struct pair pair;
     open_pair(&pair, PAGES);
     for (unsigned flags = 0; flags < 256; flags++) {
-        for (unsigned command = 0; command < 8; command++) {
-            const uint32_t number = pair.through.store.started;
+        for (unsigned command = 0; command < 10; command++) {
+            const uint32_t number = pair.through.head[NIMBLESHALE_HEAD_STARTED];
             uint8_t bytes[BYTES];
             memset(bytes, 0xff, BYTES);
             bytes[14] = (uint8_t)flags;
@@ -379,8 +402,10 @@ static void try_flags_anew(void)
             case 2: expect(run_question(&pair, 0, 30000, 0, 10), 0, 1, "a question"); break;
             case 3: expect(run_end(&pair, 5, number), 22, 3, "an end that is refused"); break;
             case 4: expect(run_question(&pair, 0, 30001, 0, 10), 1, 3, "a question that is refused"); break;
-            case 5: expect(run_end(&pair, 5, number - 1), 0, 1, "an end"); break;
-            case 6: expect(run_command(&pair, 0, "an unknown command"), 6, 3, "an unknown command"); break;
+            case 5: expect(run_bat_time(&pair, 0, 30000, 0, 10), 0, 1, "a bat-time"); break;
+            case 6: expect(run_bat_time(&pair, 0, 30000, 10, 10), 5, 3, "a bat-time that is refused"); break;
+            case 7: expect(run_end(&pair, 5, number - 1), 0, 1, "an end"); break;
+            case 8: expect(run_command(&pair, 0, "an unknown command"), 6, 3, "an unknown command"); break;
             default: expect(run_command(&pair, 255, "an unknown command"), 6, 3, "an unknown command");
             }
             judge(nimbleshale_block_read(block, 15) == bytes[15], "the mask stays", 15, bytes[15]);
@@ -393,7 +418,7 @@ static void try_flags_anew(void)
 static void try_all_open(void)
 {
     static const struct {
-        uint32_t count_open;
+        uint32_t open;
         unsigned flags;
     } heads[] = {{65, 3}, {64, 7}, {63, 3}, {0, 3}, {64 + 256, 3}, {64 + 65536, 3}, {128, 3}, {4294967295u, 3}};
     struct pair pair;
@@ -407,59 +432,66 @@ static void try_all_open(void)
     expect(run_start(&pair, 10, 4500, 100), 0, 5, "the start of the 64th");
     expect(run_start(&pair, 10, 4500, 100), 24, 7, "a start with 64 open");
     expect(run_question(&pair, 0, 30000, 0, 11), 0, 5, "a question with 64 open");
+    expect(run_bat_time(&pair, 0, 30000, 0, 11), 0, 5, "a bat-time with 64 open");
     expect(run_question(&pair, 5, 5, 0, 11), 2, 7, "a refused question with 64 open");
+    expect(run_bat_time(&pair, 5, 5, 0, 11), 2, 7, "a refused bat-time with 64 open");
     expect(run_end(&pair, 11, 99), 22, 7, "a refused end with 64 open");
     expect(run_command(&pair, 9, "an unknown command with 64 open"), 6, 7, "an unknown command with 64 open");
     expect(run_end(&pair, 11, 17), 0, 1, "an end with 64 open");
     expect(run_end(&pair, 11, 17), 22, 3, "a refused end with 63 open");
     expect(run_start(&pair, 11, 4500, 100), 0, 5, "a start with 63 open");
     for (size_t at = 0; at < sizeof heads / sizeof *heads; at++) {
-        pair.through.store.count_open = pair.stream.store.count_open = heads[at].count_open;
-        pair.through.passes[1] = pair.stream.passes[1] = 30000;
-        pair.through.store.end_roots_used = pair.stream.store.end_roots_used = 0;
+        pair.through.head[NIMBLESHALE_HEAD_OPEN] = pair.stream.head[NIMBLESHALE_HEAD_OPEN] = heads[at].open;
+        pair.through.head[NIMBLESHALE_HEAD_PASSES + 1] = pair.stream.head[NIMBLESHALE_HEAD_PASSES + 1] = 30000;
+        pair.through.head[NIMBLESHALE_HEAD_TIME_ROOTS] = pair.stream.head[NIMBLESHALE_HEAD_TIME_ROOTS] = 0;
         expect(run_question(&pair, 0, 30000, 0, 11), 20, heads[at].flags, "a question of a head that doesn't fit");
+        expect(run_bat_time(&pair, 0, 30000, 0, 11), 20, heads[at].flags, "a bat-time of a head that doesn't fit");
         expect(run_start(&pair, 11, 4500, 100), 20, heads[at].flags, "a start of a head that doesn't fit");
         expect(run_end(&pair, 11, 3), 20, heads[at].flags, "an end of a head that doesn't fit");
-        expect(run_command(&pair, 4, "an unknown command"), 6, heads[at].flags, "an unknown command to a head that doesn't fit");
+        expect(run_command(&pair, 5, "an unknown command"), 6, heads[at].flags, "an unknown command to a head that doesn't fit");
     }
     end_pair(&pair);
 }
 
-/* A question whose answer has no zero byte but in its pages: the only row of starts is given such a value. */
-static void ask_for_ones(struct pair *pair)
+/* A question or a bat-time whose answer has no zero byte: the only row of its tree is given such a value. */
+static void ask_for_ones(struct pair *pair, int of_time)
 {
     for (int of_stream = 0; of_stream < 2; of_stream++) {
-        uint64_t *table = (of_stream ? &pair->stream : &pair->through)->store.start_table;
-        table[6] = 0x0102030405060708u;
+        struct nimbleshale_store *store = &(of_stream ? &pair->stream : &pair->through)->store;
+        uint64_t *table = of_time ? store->time_table : store->start_table;
+        table[6] = of_time ? 0 : 0x0102030405060708u;
         table[7] = 0xf1f2f3f4f5f6f7f8u;
     }
-    expect(run_question(pair, 0, 30000, 0, 5), 0, 1, "a question for ones");
-    for (size_t at = 16; at < 33; at++)
-        judge(nimbleshale_block_read(block, at) != 0, "a byte of a long result", at, 0);
+    expect((of_time ? run_bat_time : run_question)(pair, 0, 30000, 0, 5), 0, 1, "a question or a bat-time for ones");
+    for (size_t at = 16; at < (of_time ? 25 : 33); at++)
+        judge(nimbleshale_block_read(block, at) != 0, "a byte of a long result", at, (unsigned)of_time);
 }
 
-/* After such an answer, what each shorter one leaves of it: nothing. */
-static void try_zero_fill(void)
+/* After such an answer, what each shorter one leaves of it: nothing. The other of the two has an answer too: zeros and one page. */
+static void try_zero_fill(int of_time)
 {
     struct pair pair;
-    for (unsigned command = 0; command < 6; command++) {
+    for (unsigned command = 0; command < 8; command++) {
         unsigned left = 0;
         open_pair(&pair, 1);
         if (command == 1)
             run_start(&pair, 0, 0, 1);
-        ask_for_ones(&pair);
+        ask_for_ones(&pair, of_time);
         switch (command) {
         case 0: expect(run_start(&pair, 0x01020304, 0, 1), 0, 1, "a start after a long answer"); break;
         case 1: expect(run_end(&pair, 2, 0), 0, 1, "an end after a long answer"); break;
         case 2: expect(run_start(&pair, 2, 0, 0), 3, 3, "a refused start after a long answer"); break;
         case 3: expect(run_end(&pair, 2, 0), 22, 3, "a refused end after a long answer"); break;
         case 4: expect(run_question(&pair, 0, 30000, 5, 5), 5, 3, "a refused question after a long answer"); break;
+        case 5: expect(run_bat_time(&pair, 0, 30000, 5, 5), 5, 3, "a refused bat-time after a long answer"); break;
+        case 6: expect((of_time ? run_question : run_bat_time)(&pair, 0, 30000, 0, 5), 0, 1, "the other after a long answer"); break;
         default: expect(run_command(&pair, 200, "an unknown command"), 6, 3, "an unknown command after a long answer");
         }
         /* The number of the first pass is 0, too. */
         for (size_t at = 16; at < 33; at++)
             left += nimbleshale_block_read(block, at);
-        judge(left == 0, "zero filled", 16, command);
+        judge(left == (command == 6 ? 1 : 0), "zero filled", 16, command);
+        judge(command != 6 || nimbleshale_block_read(block, of_time ? 32 : 24) == 1, "the pages of the other", 16, command);
         end_pair(&pair);
     }
 }
@@ -467,15 +499,16 @@ static void try_zero_fill(void)
 /* A command that is mostly accepted, by what the store holds; its operands are put. */
 static uint8_t draw_command(const struct tried *tried, uint8_t *operands)
 {
-    const struct nimbleshale_store *store = &tried->store;
-    const uint32_t tick = store->last + below(3), open = store->count_open == 0 ? 0 : tried->passes[4 * below(store->count_open)];
+    const uint32_t tick = tried->head[NIMBLESHALE_HEAD_LAST] + below(3);
+    const uint32_t open = count_open(tried) == 0 ? 0 : open_number(tried, below(count_open(tried)));
     const struct asked asked = {below(20000), 10000 + below(20001), below(tick + 1), below(tick + 2)};
     uint8_t event[NIMBLESHALE_EVENT_BYTES];
     memset(operands, 0, NIMBLESHALE_BLOCK_OPERAND_BYTES);
-    switch (below(16)) {
+    switch (below(17)) {
     case 0: put_question(operands, &asked); return NIMBLESHALE_COMMAND_QUESTION;
-    case 1: put_question(operands, &asked); return any_byte();
-    case 2: case 3: case 4: case 5: case 6: case 7:
+    case 1: put_question(operands, &asked); return NIMBLESHALE_COMMAND_BAT_TIME;
+    case 2: put_question(operands, &asked); return any_byte();
+    case 3: case 4: case 5: case 6: case 7: case 8:
         nimbleshale_event_end(event, tick, below(16) == 0 ? open + 65536 : open);
         break;
     default:
@@ -504,7 +537,7 @@ static void try_grown(size_t pages, unsigned turns)
             judge(nimbleshale_block_read(block, offset) == model_read(model, offset), "a read of a grown store's block", offset, turn);
         }
     }
-    judge(pair.through.store.start_pages_used > pages / 2, "a store that grows", pages, turns);
+    judge(pair.through.head[NIMBLESHALE_HEAD_TIME_PAGES] > pages / 2, "a store that grows", pages, turns);
     end_pair(&pair);
 }
 
@@ -518,19 +551,21 @@ static void try_spoiled(void)
         if (below(4) == 0)
             spoil_block();
         if (offset == 0)
-            run_command(&pair, (uint8_t)below(5), "a command of spoiled bytes");
+            run_command(&pair, (uint8_t)below(6), "a command of spoiled bytes");
         else
             write_register(&pair.through, offset, any_byte(), "a write to spoiled bytes");
     }
     end_pair(&pair);
 }
 
-/* Every case of a start, an end and a question (tests/cases.h): the status is the first refusal, and a refused command leaves everything as it was. */
+/* Every case of a start, an end, a question and a bat-time (tests/cases.h): the status is the first refusal, and a refused command leaves everything
+ * as it was. */
 static void try_case(enum call call, unsigned conditions, enum way way)
 {
     const struct arguments a = arguments_of(call, conditions, way);
-    const struct asked asked = asked_of(conditions, way);
-    const uint8_t wanted = first_refusal(call, conditions), value = (uint8_t)(call == START ? 1 : call == END ? 2 : 3);
+    const struct asked asked = asked_of(call, conditions, way);
+    const uint8_t wanted = first_refusal(call, conditions), value = (uint8_t)(call == START ? 1 : call == END ? 2 : call == QUESTION ? 3 : 4);
+    const int writes = call == START || call == END;
     uint8_t bytes[NIMBLESHALE_LONGEST_COMMAND] = {0};
     struct tried tried;
     uint64_t before;
@@ -540,19 +575,19 @@ static void try_case(enum call call, unsigned conditions, enum way way)
         nimbleshale_event_start(bytes, a.tick, a.key, a.weight);
     if (call == END)
         nimbleshale_event_end(bytes, a.tick, a.number);
-    if (call == QUESTION)
+    if (!writes)
         put_question(bytes + 1, &asked);
     for (size_t at = 1; at < sizeof bytes; at++)
         write_register(&tried, at, bytes[at], "an operand of a case");
     before = digest_tried(&tried);
-    open = tried.store.count_open;
-    if (wanted == 0 && call != QUESTION)
+    open = count_open(&tried);
+    if (wanted == 0 && writes)
         open += call == START ? 1u : 4294967295u;
     write_block(&tried, 0, value);
     commands++;
     judge(block[13] == wanted, "the status of a case", way, conditions);
     judge(block[14] == 1 + (wanted != 0 ? 2 : 0) + (open == 64 ? 4 : 0), "the flags of a case", way, conditions);
-    judge((wanted == 0 && call != QUESTION) || digest_tried(&tried) == before, "what a refused case leaves", way, conditions);
+    judge((wanted == 0 && writes) || digest_tried(&tried) == before, "what a refused case leaves", way, conditions);
     if (wanted != 0)
         model_command(model, value, &wanted, 1, open);
     else
@@ -563,7 +598,7 @@ static void try_case(enum call call, unsigned conditions, enum way way)
 
 int main(void)
 {
-    static const enum call calls[3] = {START, END, QUESTION};
+    static const enum call calls[4] = {START, END, QUESTION, BAT_TIME};
     /* What was found shall be seen even if a call crashes. */
     setvbuf(stdout, NULL, _IOLBF, 0);
     block = lend(BYTES);
@@ -575,11 +610,12 @@ int main(void)
     try_command_bytes();
     try_flags_anew();
     try_all_open();
-    try_zero_fill();
+    try_zero_fill(0);
+    try_zero_fill(1);
     try_grown(PAGES, 4000);
     try_grown(60, 4000);
     try_spoiled();
-    for (int call = 0; call < 3; call++)
+    for (int call = 0; call < 4; call++)
         for (unsigned conditions = 0; conditions < sets_of(calls[call]); conditions++)
             for (int way = 0; way < WAYS; way++)
                 try_case(calls[call], conditions, (enum way)way);

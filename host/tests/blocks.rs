@@ -78,6 +78,7 @@ impl Model {
 pub fn command_of(call: Call) -> Option<Vec<u8>> {
     match call {
         Call::Question { k1, k2, t1, t2 } => Some(commands::question(k1.min(65_535), k2.min(65_535), t1, t2)),
+        Call::BatTime { k1, k2, t1, t2 } => Some(commands::bat_time(k1.min(65_535), k2.min(65_535), t1, t2)),
         _ => bursts::event_of(call),
     }
 }
@@ -85,13 +86,10 @@ pub fn command_of(call: Call) -> Option<Vec<u8>> {
 /// The call that a command byte is on 12 operands; nothing where it begins no command.
 pub fn call_of(command: u8, operands: &[u8; 12]) -> Option<Call> {
     let number = |bytes: &[u8]| bytes.iter().rev().fold(0, |sum, &byte| sum << 8 | byte as u32);
+    let (k1, k2, t1, t2) = (number(&operands[..2]), number(&operands[2..4]), number(&operands[4..8]), number(&operands[8..]));
     match command {
-        3 => Some(Call::Question {
-            k1: number(&operands[..2]),
-            k2: number(&operands[2..4]),
-            t1: number(&operands[4..8]),
-            t2: number(&operands[8..]),
-        }),
+        3 => Some(Call::Question { k1, k2, t1, t2 }),
+        4 => Some(Call::BatTime { k1, k2, t1, t2 }),
         _ => bursts::call_of(&[&[command], &operands[..8]].concat()),
     }
 }
@@ -103,6 +101,7 @@ pub fn answer_of(call: Call, answer: &Answer) -> Vec<u8> {
         _ if answer.refusal != 0 => vec![answer.refusal],
         Call::Start { .. } => [&[0], &answer.number.to_le_bytes()[..]].concat(),
         Call::Question { .. } => [&[0], &totals.count.to_le_bytes()[..], &totals.sum.to_le_bytes(), &[totals.pages as u8]].concat(),
+        Call::BatTime { .. } => [&[0], &answer.time.total.to_le_bytes()[..], &[answer.time.pages as u8]].concat(),
         _ => vec![0],
     }
 }
@@ -110,7 +109,7 @@ pub fn answer_of(call: Call, answer: &Answer) -> Vec<u8> {
 /// A byte that begins no command: close to one that does, or any.
 pub fn unknown_byte(random: &mut Random) -> u8 {
     let any = random.word() as u8;
-    *random.pick(&[0, 4, 0x81, 0x82, 0x83, 0x10, 255, if (1..=3).contains(&any) { 5 } else { any }])
+    *random.pick(&[0, 5, 0x81, 0x82, 0x83, 0x84, 0x10, 255, if (1..=4).contains(&any) { 6 } else { any }])
 }
 
 /// An offset at which no command is run: a register, one behind them, or one far past the block.
@@ -129,6 +128,7 @@ pub struct Accessed {
     starts: u64,
     ends: u64,
     questions: u64,
+    bat_times: u64,
     refused: u64,
     unknown: u64,
     /// Commands refused with 27, and with 28
@@ -162,6 +162,7 @@ impl Accessed {
                 self.all_open += accepted * u64::from(open == OPEN_PASSES);
             }
             Some(Call::End { .. }) => self.ends += accepted,
+            Some(Call::BatTime { .. }) => self.bat_times += accepted,
             Some(_) => self.questions += accepted,
             None => self.unknown += 1,
         }
@@ -181,11 +182,12 @@ impl Accessed {
     }
 
     /// Each with its name. One that never came about is a test that was not made.
-    pub fn named(&self) -> [(u64, &'static str); 17] {
+    pub fn named(&self) -> [(u64, &'static str); 18] {
         [
             (self.starts, "starts accepted through a register block"),
             (self.ends, "ends"),
             (self.questions, "questions"),
+            (self.bat_times, "bat-times"),
             (self.refused, "commands refused"),
             (self.unknown, "unknown"),
             (self.no_pages, "refused with 27"),

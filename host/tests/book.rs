@@ -1,13 +1,38 @@
 //! The pass book of document 01: a plain list of passes, added up on demand. A pass lives at its start tick to its end tick, both included (document
-//! 02, Paper 2). It is the one book on the host, for the random histories and for what the benchmark checks.
+//! 02, Paper 2), and its bat-time is its weight for each tick of the interval at which it lives (Paper 4). It is the one book on the host, for the random
+//! histories and for what the benchmark checks.
 
 use crate::library::{Answer, Call};
+use port::{ENDS, STARTS};
 
 pub struct Pass {
     pub key: u32,
     pub weight: u32,
     pub start: u32,
     pub end: Option<u32>,
+}
+
+impl Pass {
+    /// How many ticks from t1 up to but not t2 the pass lives at; an open one runs on.
+    fn shared_ticks(&self, t1: u32, t2: u32) -> u32 {
+        let after = self.end.map_or(t2, |end| t2.min(end + 1));
+        after.saturating_sub(t1.max(self.start))
+    }
+
+    /// What the pass gives to a lookup of the tree of time at a tick: the factors and the constants of its points up to there, modulo 2^64.
+    fn line(&self, t: u32) -> (u64, u64) {
+        let weight = self.weight as u64;
+        let (mut factor, mut constant) = (0u64, 0u64);
+        if self.start <= t {
+            factor = factor.wrapping_add(weight);
+            constant = constant.wrapping_add(weight).wrapping_sub(weight * self.start as u64);
+        }
+        if let Some(end) = self.end.filter(|&end| end <= t) {
+            factor = factor.wrapping_sub(weight);
+            constant = constant.wrapping_add(weight * end as u64);
+        }
+        (factor, constant)
+    }
 }
 
 #[derive(Default)]
@@ -36,8 +61,10 @@ impl Book {
                 let pass = self.passes.get(number as usize).filter(|pass| pass.end.is_none());
                 of(&[(tick == u32::MAX, 4), (tick < self.last, 21), (pass.is_none(), 22)])
             }
-            Call::Question { k1, k2, t1, t2 } => of(&[(k1 > 29_999 || k2 > 30_000, 1), (k1 >= k2, 2), (t1 >= t2, 5)]),
-            Call::LookupStarts { t, k } | Call::LookupEnds { t, k } => of(&[(k > 29_999, 1), (t == u32::MAX, 4)]),
+            Call::Question { k1, k2, t1, t2 } | Call::BatTime { k1, k2, t1, t2 } => {
+                of(&[(k1 > 29_999 || k2 > 30_000, 1), (k1 >= k2, 2), (t1 >= t2, 5)])
+            }
+            Call::Lookup { t, k, .. } => of(&[(k > 29_999, 1), (t == u32::MAX, 4)]),
         }
     }
 
@@ -67,9 +94,24 @@ impl Book {
             Call::Question { k1, k2, t1, t2 } => {
                 add(&self.passes, &|pass| k1 <= pass.key && pass.key < k2 && pass.start < t2 && pass.end.is_none_or(|end| end >= t1))
             }
-            Call::LookupStarts { t, k } => add(&self.passes, &|pass| pass.start <= t && pass.key <= k),
-            Call::LookupEnds { t, k } => add(&self.passes, &|pass| pass.end.is_some_and(|end| end <= t) && pass.key <= k),
+            Call::BatTime { k1, k2, t1, t2 } => answer.time.total = self.bat_time(k1, k2, t1, t2),
+            Call::Lookup { tree: STARTS, t, k } => add(&self.passes, &|pass| pass.start <= t && pass.key <= k),
+            Call::Lookup { tree: ENDS, t, k } => add(&self.passes, &|pass| pass.end.is_some_and(|end| end <= t) && pass.key <= k),
+            Call::Lookup { t, k, .. } => (answer.totals.count, answer.totals.sum) = self.line(t, k),
         }
         answer
+    }
+
+    /// Bat-time as the number that it is: it is added up in more bits than it can have, and must fit in those of the answer.
+    fn bat_time(&self, k1: u32, k2: u32, t1: u32, t2: u32) -> u64 {
+        let band = self.passes.iter().filter(|pass| k1 <= pass.key && pass.key < k2);
+        let total: u128 = band.map(|pass| pass.weight as u128 * pass.shared_ticks(t1, t2) as u128).sum();
+        total.try_into().expect("a bat-time has at most 64 bits")
+    }
+
+    /// What a lookup of the tree of time gives, modulo 2^64.
+    pub fn line(&self, t: u32, k: u32) -> (u64, u64) {
+        let lines = self.passes.iter().filter(|pass| pass.key <= k).map(|pass| pass.line(t));
+        lines.fold((0, 0), |sum: (u64, u64), line| (sum.0.wrapping_add(line.0), sum.1.wrapping_add(line.1)))
     }
 }

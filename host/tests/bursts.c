@@ -116,7 +116,7 @@ static void put_event(uint8_t *event, enum call call, const struct arguments *a)
         nimbleshale_event_end(event, a->tick, a->number);
 }
 
-/* As many events of one kind as are needed, and so many bytes and words that just the conditions of a set hold. Which lengths these are is told
+/* As many events of one kind as are needed, and lengths in bytes and words of which just the conditions of a set hold. Which lengths these are is told
  * by a number. */
 static void put_refused(struct burst *burst, enum call call, const struct arguments *a, unsigned set, unsigned which)
 {

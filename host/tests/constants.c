@@ -32,7 +32,6 @@ static const struct {
     STATED(PASSES, 1000000),
     STATED(PAGES, 1000000),
     STATED(PAGE_WORDS, 260),
-    STATED(PASS_NUMBERS, 256),
     STATED(LOOKUP_PAGES, 4),
     STATED(QUESTION_PAGES, 16),
     STATED(ENTRY_PAGES, 7),
@@ -42,9 +41,21 @@ static const struct {
     STATED(EVENT_BYTES, 9),
     STATED(RESULT_WORDS, 2),
     STATED(BLOCK_BYTES, 40),
+    STATED(HEAD_LAST, 0),
+    STATED(HEAD_STARTED, 1),
+    STATED(HEAD_OPEN, 2),
+    STATED(HEAD_START_PAGES, 3),
+    STATED(HEAD_START_ROOTS, 4),
+    STATED(HEAD_END_PAGES, 5),
+    STATED(HEAD_END_ROOTS, 6),
+    STATED(HEAD_TIME_PAGES, 7),
+    STATED(HEAD_TIME_ROOTS, 8),
+    STATED(HEAD_PASSES, 9),
+    STATED(HEAD_NUMBERS, 265),
     STATED(COMMAND_START, 1),
     STATED(COMMAND_END, 2),
     STATED(COMMAND_QUESTION, 3),
+    STATED(COMMAND_BAT_TIME, 4),
     STATED(BLOCK_COMMAND, 0),
     STATED(BLOCK_OPERANDS, 1),
     STATED(BLOCK_OPERAND_BYTES, 12),
@@ -164,8 +175,8 @@ static void see_sizes(void)
 static void see_passes(void)
 {
     static struct nimbleshale_store store;
-    for (uint32_t at = 0; at < NIMBLESHALE_PASS_NUMBERS; at++)
-        store.passes[at] = 1000 + at;
+    for (uint32_t at = 0; at < NIMBLESHALE_HEAD_NUMBERS; at++)
+        store.head[at] = 991 + at;
     for (uint32_t place = 0; place < NIMBLESHALE_OPEN_PASSES; place++) {
         const struct nimbleshale_pass pass = nimbleshale_store_pass(&store, place);
         expect("number", pass.number, 1000 + 4 * place);

@@ -1,5 +1,5 @@
-/* What the header's short calls hand to the library. The nine functions that they call are this program's own, under the library's names: each notes
- * all that it is handed. (The three others of the twelve get no store, and have no short call.) A store holds different numbers, addresses and lengths
+/* What the header's short calls hand to the library. The eleven functions that they call are this program's own, under the library's names: each notes
+ * all that it is handed. (The three others of the fourteen get no store, and have no short call.) A store holds different addresses and lengths
  * throughout, so whatever is handed in another place is found.
  *
  * No archive is linked. tests/lengths.c makes the short calls on one. */
@@ -9,18 +9,17 @@
 
 static unsigned long compared, differed;
 
-enum call { OPEN, START, END, COMMANDS, BURST, BLOCK_WRITE, QUESTION, LOOKUP_STARTS, LOOKUP_ENDS, CALLS };
+enum call { OPEN, START, END, COMMANDS, BURST, BLOCK_WRITE, QUESTION, BAT_TIME, LOOKUP_STARTS, LOOKUP_ENDS, LOOKUP_TIME, CALLS };
 
-static const char *const names[CALLS] = {"open", "start", "end", "commands", "burst", "block_write", "question", "lookup_starts", "lookup_ends"};
+static const char *const names[CALLS] = {"open", "start", "end", "commands", "burst", "block_write", "question", "bat_time", "lookup_starts", "lookup_ends",
+                                         "lookup_time"};
 
-/* What a call is handed: of the head's seven numbers where they are lent, or what they are where they are shown. */
+/* What a call is handed. */
 struct handed {
     enum call call;
-    const void *lent[7];
-    uint32_t shown[7];
-    const void *passes;
-    const void *slices[4];
-    size_t lengths[4];
+    const void *head;
+    const void *slices[6];
+    size_t lengths[6];
     uint32_t arguments[4];
     /* The input and the room for answers of a packet, or the events and the result words of a burst; or a register block, and in the place of a
      * length its offset. */
@@ -48,80 +47,90 @@ static uint8_t note(enum call call, const struct handed *handed)
 }
 
 /* The parameters that every function has, and what is noted of them. What a start does not write of ends is const, and the other way round. */
-#define LENT(of_starts, of_ends) \
-    uint32_t *last, uint32_t *started, uint32_t *count_open, uint32_t *start_pages_used, uint32_t *start_roots_used, \
-    uint32_t *end_pages_used, uint32_t *end_roots_used, uint32_t passes[NIMBLESHALE_PASS_NUMBERS], SLICES(of_starts, of_ends)
-#define SHOWN \
-    uint32_t last, uint32_t started, uint32_t count_open, uint32_t start_pages_used, uint32_t start_roots_used, \
-    uint32_t end_pages_used, uint32_t end_roots_used, const uint32_t passes[NIMBLESHALE_PASS_NUMBERS], SLICES(const, const)
-#define SLICES(of_starts, of_ends) \
+#define LENT(of_starts, of_ends) uint32_t head[NIMBLESHALE_HEAD_NUMBERS], SLICES(of_starts, of_ends, )
+#define SHOWN const uint32_t head[NIMBLESHALE_HEAD_NUMBERS], SLICES(const, const, const)
+#define SLICES(of_starts, of_ends, of_time) \
     of_starts uint64_t *start_table, size_t start_table_length, of_starts uint64_t *start_roots, size_t start_roots_length, \
-    of_ends uint64_t *end_table, size_t end_table_length, of_ends uint64_t *end_roots, size_t end_roots_length
-#define NUMBERS {last, started, count_open, start_pages_used, start_roots_used, end_pages_used, end_roots_used}
-#define NOTED_SLICES \
-    .passes = passes, .slices = {start_table, start_roots, end_table, end_roots}, \
-    .lengths = {start_table_length, start_roots_length, end_table_length, end_roots_length}
+    of_ends uint64_t *end_table, size_t end_table_length, of_ends uint64_t *end_roots, size_t end_roots_length, \
+    of_time uint64_t *time_table, size_t time_table_length, of_time uint64_t *time_roots, size_t time_roots_length
+#define NOTED \
+    .head = head, .slices = {start_table, start_roots, end_table, end_roots, time_table, time_roots}, \
+    .lengths = {start_table_length, start_roots_length, end_table_length, end_roots_length, time_table_length, time_roots_length}
 
 uint8_t nimbleshale_open(LENT(, ))
 {
-    const struct handed handed = {.lent = NUMBERS, NOTED_SLICES};
+    const struct handed handed = {NOTED};
     return note(OPEN, &handed);
 }
 
 uint8_t nimbleshale_start(LENT(, const), uint32_t tick, uint32_t key, uint32_t weight, uint32_t *number)
 {
-    const struct handed handed = {.lent = NUMBERS, NOTED_SLICES, .arguments = {tick, key, weight}, .results = {number}};
+    const struct handed handed = {NOTED, .arguments = {tick, key, weight}, .results = {number}};
     return note(START, &handed);
 }
 
 uint8_t nimbleshale_end(LENT(const, ), uint32_t tick, uint32_t number)
 {
-    const struct handed handed = {.lent = NUMBERS, NOTED_SLICES, .arguments = {tick, number}};
+    const struct handed handed = {NOTED, .arguments = {tick, number}};
     return note(END, &handed);
 }
 
 uint8_t nimbleshale_commands(LENT(, ), const uint8_t *input, size_t input_length, uint8_t ended, uint8_t *out, size_t out_length, size_t *taken,
                              size_t *written)
 {
-    const struct handed handed = {.lent = NUMBERS, NOTED_SLICES, .arguments = {ended}, .own_slices = {input, out},
+    const struct handed handed = {NOTED, .arguments = {ended}, .own_slices = {input, out},
                                   .own_lengths = {input_length, out_length}, .results = {taken, written}};
     return note(COMMANDS, &handed);
 }
 
 uint8_t nimbleshale_burst(LENT(, ), const uint8_t *events, size_t events_length, uint64_t *results, size_t results_length)
 {
-    const struct handed handed = {.lent = NUMBERS, NOTED_SLICES, .own_slices = {events, results}, .own_lengths = {events_length, results_length}};
+    const struct handed handed = {NOTED, .own_slices = {events, results}, .own_lengths = {events_length, results_length}};
     return note(BURST, &handed);
 }
 
 void nimbleshale_block_write(uint8_t block[NIMBLESHALE_BLOCK_BYTES], size_t offset, uint8_t value, LENT(, ))
 {
-    const struct handed handed = {.lent = NUMBERS, NOTED_SLICES, .arguments = {value}, .own_slices = {block}, .own_lengths = {offset}};
+    const struct handed handed = {NOTED, .arguments = {value}, .own_slices = {block}, .own_lengths = {offset}};
     note(BLOCK_WRITE, &handed);
 }
 
 uint8_t nimbleshale_question(SHOWN, uint32_t k1, uint32_t k2, uint32_t t1, uint32_t t2, uint64_t *count, uint64_t *sum, uint32_t *pages)
 {
-    const struct handed handed = {.shown = NUMBERS, NOTED_SLICES, .arguments = {k1, k2, t1, t2}, .results = {count, sum, pages}};
+    const struct handed handed = {NOTED, .arguments = {k1, k2, t1, t2}, .results = {count, sum, pages}};
     return note(QUESTION, &handed);
+}
+
+uint8_t nimbleshale_bat_time(SHOWN, uint32_t k1, uint32_t k2, uint32_t t1, uint32_t t2, uint64_t *total, uint32_t *pages)
+{
+    const struct handed handed = {NOTED, .arguments = {k1, k2, t1, t2}, .results = {total, pages}};
+    return note(BAT_TIME, &handed);
 }
 
 uint8_t nimbleshale_lookup_starts(SHOWN, uint32_t t, uint32_t k, uint64_t *count, uint64_t *sum, uint32_t *pages)
 {
-    const struct handed handed = {.shown = NUMBERS, NOTED_SLICES, .arguments = {t, k}, .results = {count, sum, pages}};
+    const struct handed handed = {NOTED, .arguments = {t, k}, .results = {count, sum, pages}};
     return note(LOOKUP_STARTS, &handed);
 }
 
 uint8_t nimbleshale_lookup_ends(SHOWN, uint32_t t, uint32_t k, uint64_t *count, uint64_t *sum, uint32_t *pages)
 {
-    const struct handed handed = {.shown = NUMBERS, NOTED_SLICES, .arguments = {t, k}, .results = {count, sum, pages}};
+    const struct handed handed = {NOTED, .arguments = {t, k}, .results = {count, sum, pages}};
     return note(LOOKUP_ENDS, &handed);
 }
 
+uint8_t nimbleshale_lookup_time(SHOWN, uint32_t t, uint32_t k, uint64_t *factor, uint64_t *constant, uint32_t *pages)
+{
+    const struct handed handed = {NOTED, .arguments = {t, k}, .results = {factor, constant, pages}};
+    return note(LOOKUP_TIME, &handed);
+}
+
 /* The store, and where results go. The arguments of a call are 31, 32 and on. */
-static uint64_t memory[4];
+static uint64_t memory[6];
 static struct nimbleshale_store store;
 static struct nimbleshale_totals totals;
+static struct nimbleshale_time bat_time;
+static struct nimbleshale_line line;
 static uint32_t number;
 static uint8_t input[1], out[1], events[1], block[NIMBLESHALE_BLOCK_BYTES];
 static uint64_t results[1];
@@ -129,13 +138,6 @@ static size_t taken, written;
 
 static void fill_store(void)
 {
-    store.last = 11;
-    store.started = 12;
-    store.count_open = 13;
-    store.start_pages_used = 14;
-    store.start_roots_used = 15;
-    store.end_pages_used = 16;
-    store.end_roots_used = 17;
     store.start_table = &memory[0];
     store.start_table_length = 21;
     store.start_roots = &memory[1];
@@ -144,6 +146,10 @@ static void fill_store(void)
     store.end_table_length = 23;
     store.end_roots = &memory[3];
     store.end_roots_length = 24;
+    store.time_table = &memory[4];
+    store.time_table_length = 25;
+    store.time_roots = &memory[5];
+    store.time_roots_length = 26;
 }
 
 static uint8_t make(enum call call)
@@ -159,8 +165,10 @@ static uint8_t make(enum call call)
         nimbleshale_store_block_write(&store, block, 41, 31);
         return answer_of(call);
     case QUESTION: return nimbleshale_store_question(&store, 31, 32, 33, 34, &totals);
+    case BAT_TIME: return nimbleshale_store_bat_time(&store, 31, 32, 33, 34, &bat_time);
     case LOOKUP_STARTS: return nimbleshale_store_lookup_starts(&store, 31, 32, &totals);
     case LOOKUP_ENDS: return nimbleshale_store_lookup_ends(&store, 31, 32, &totals);
+    case LOOKUP_TIME: return nimbleshale_store_lookup_time(&store, 31, 32, &line);
     default: return 255;
     }
 }
@@ -177,7 +185,7 @@ static void expect(enum call call, const char *what, size_t place, int same)
 /* A call's arguments and results; a place that it does not have is 0. */
 static void expect_own(enum call call)
 {
-    static const uint32_t arguments[CALLS] = {0, 3, 2, 1, 0, 1, 4, 2, 2};
+    static const uint32_t arguments[CALLS] = {0, 3, 2, 1, 0, 1, 4, 4, 2, 2, 2};
     const void *single[3] = {NULL, NULL, NULL}, *slices[2] = {NULL, NULL};
     if (call == START)
         single[0] = &number;
@@ -193,10 +201,19 @@ static void expect_own(enum call call)
     }
     if (call == BLOCK_WRITE)
         slices[0] = block;
-    if (call >= QUESTION) {
+    if (call == QUESTION || call == LOOKUP_STARTS || call == LOOKUP_ENDS) {
         single[0] = &totals.count;
         single[1] = &totals.sum;
         single[2] = &totals.pages;
+    }
+    if (call == BAT_TIME) {
+        single[0] = &bat_time.total;
+        single[1] = &bat_time.pages;
+    }
+    if (call == LOOKUP_TIME) {
+        single[0] = &line.factor;
+        single[1] = &line.constant;
+        single[2] = &line.pages;
     }
     for (uint32_t at = 0; at < 4; at++)
         expect(call, "argument", at, found.arguments[at] == (at < arguments[call] ? 31 + at : 0));
@@ -210,18 +227,12 @@ static void expect_own(enum call call)
 
 static void try_call(enum call call)
 {
-    const void *numbers[7] = {&store.last, &store.started, &store.count_open, &store.start_pages_used, &store.start_roots_used,
-                              &store.end_pages_used, &store.end_roots_used};
     memset(&found, 0xff, sizeof found);
     calls = 0;
     expect(call, "answer", 0, make(call) == answer_of(call));
     expect(call, "call", 0, calls == 1 && found.call == call);
-    for (uint32_t at = 0; at < 7; at++) {
-        expect(call, "lent number", at, found.lent[at] == (call < QUESTION ? numbers[at] : NULL));
-        expect(call, "shown number", at, found.shown[at] == (call < QUESTION ? 0 : 11 + at));
-    }
-    expect(call, "list of passes", 0, found.passes == store.passes);
-    for (size_t at = 0; at < 4; at++) {
+    expect(call, "head", 0, found.head == store.head);
+    for (size_t at = 0; at < 6; at++) {
         expect(call, "slice", at, found.slices[at] == &memory[at]);
         expect(call, "length", at, found.lengths[at] == 21 + at);
     }

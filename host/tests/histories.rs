@@ -11,7 +11,9 @@
 //! call that it is, and to the second store by that call.
 //!
 //! A pass lives at its end tick too. So there are clicks among the passes, ticks with more starts and ends than passes may be open, and questions
-//! that one tick decides (lives.rs). The test fails where something of this, of bursts or of register blocks, did not come about.
+//! that one tick decides (lives.rs). Bat-times are compared as the exact numbers that they are: small ones, ones of more than 51 bits, and ones of every way
+//! in which a life and an interval meet; and 27 and 28 come of one tree alone, of the other, and of both (times.rs). The test fails where something
+//! of this, of bursts or of register blocks, did not come about.
 //!
 //! histories [ROUNDS]
 
@@ -22,28 +24,30 @@ mod commands;
 mod library;
 mod lives;
 mod shapes;
+mod times;
 mod trees;
 
 use blocks::{answer_of, command_of, other_offset, unknown_byte, Accessed, Model, FLAGS, MASK, OPERANDS};
 use book::Book;
 use bursts::{call_of, event_of, of_unknown_kind, of_wider_number, unset_results, EVENT_BYTES, MOST_EVENTS};
 use library::{
-    burst_by_library, by_library, line_by_library, read_by_library, reset_by_library, write_by_library, Answer, Call, Random, Store, PAGE_WORDS,
+    burst_by_library, by_library, line_by_library, read_by_library, reset_by_library, write_by_library, Answer, Call, Random, Slices, Store, PAGE_WORDS,
 };
 use lives::{Crowd, Lives};
-use port::{Block, BLOCK_BYTES};
+use port::{Block, Pass, BLOCK_BYTES, ENDS, STARTS, TIME};
 use shapes::{Keys, Mix, Pace, Shape};
 use std::collections::BTreeMap;
-use trees::{lacks_room, pages_opened, Tree};
+use times::Times;
+use trees::{is_right, lacks, put_pages, Tree};
 
-/// Of so many calls one is a burst. Of so many bursts one is to be refused, and of so many events one has a kind that there is not, or, where it is an
-/// end, the number of an open pass only in its low bytes.
+/// How many calls there are to one that is a burst; bursts to one that is to be refused; events to one that has a kind that there is not, or, where it is
+/// an end, the number of an open pass only in its low bytes.
 const CALLS_A_BURST: u32 = 40;
 const BURSTS_A_REFUSED_ONE: u32 = 8;
 const EVENTS_AN_UNKNOWN_ONE: u32 = 40;
 
-/// Of so many calls one is an access to the register block. Of so many commands through it one has a byte that begins none, and one is run again on the
-/// operands that stand there.
+/// How many calls there are to one that is an access to the register block, and commands through it to one that has a byte that begins none, and to one
+/// that is run again on the operands that stand there.
 const CALLS_AN_ACCESS: u32 = 8;
 const COMMANDS_AN_UNKNOWN_ONE: u32 = 20;
 
@@ -108,6 +112,7 @@ struct Counts {
     reached: Reached,
     accessed: Accessed,
     lives: Lives,
+    times: Times,
     highest: u32,
 }
 
@@ -140,7 +145,7 @@ struct History {
 }
 
 impl History {
-    /// So many calls, of which the first is an opening; each event of a burst is one of them.
+    /// A number of calls, of which the first is an opening; each event of a burst is one of them.
     fn run(seed: u64, shape: Shape, store: Store, calls: u32, whole: bool, counts: &mut Counts) {
         let (book, crowd, single) = (Book::default(), Crowd::default(), store.clone());
         let (block, model) = ([0xa5; BLOCK_BYTES], Model::default());
@@ -177,16 +182,15 @@ impl History {
         *counts.refusals.entry(found.refusal).or_default() += 1;
         let mut wanted = self.by_book(call, found.refusal, counts);
         if wanted.refusal == 0 {
-            wanted.totals.pages = pages_opened(&self.store, call);
+            put_pages(&self.store, call, &mut wanted);
         }
-        let writes = matches!(call, Call::Open | Call::Start { .. } | Call::End { .. });
-        let kept = if writes && wanted.refusal == 0 {
+        let kept = if call.writes() && wanted.refusal == 0 {
             by_library(&mut self.single, call);
             self.head_is_of_book()
         } else {
             before.is_none_or(|before| before == self.store)
         };
-        let exact = self.lacks_room_if_said(call, found.refusal);
+        let exact = self.lacks_room_if_said(call, found.refusal, counts);
         counts.judge(found == wanted && kept && exact, self.seed, || format!("{call:?}: {found:?}, not {wanted:?}"));
     }
 
@@ -196,16 +200,25 @@ impl History {
             (0, refusal @ (27 | 28)) => Answer::unset(refusal),
             (0, _) => {
                 counts.lives.count(call, &self.book, &self.store, &mut self.crowd);
-                self.book.turn(call)
+                let answer = self.book.turn(call);
+                counts.times.count(call, answer.time.total, &self.book, &self.store);
+                answer
             }
             (refusal, _) => Answer::unset(refusal),
         }
     }
 
     /// 27 and 28 are right. A copy of a large store takes long, so that not every one is made.
-    fn lacks_room_if_said(&mut self, call: Call, refusal: u8) -> bool {
+    fn lacks_room_if_said(&mut self, call: Call, refusal: u8, counts: &mut Counts) -> bool {
         let tried = matches!(refusal, 27 | 28) && (self.whole || self.random.one_in(8));
-        !tried || lacks_room(&self.single, call, refusal)
+        if !tried {
+            return true;
+        }
+        let lacks = lacks(&self.single, call);
+        if let Some(lacks) = lacks {
+            counts.times.count_lack(refusal, lacks);
+        }
+        is_right(lacks, refusal)
     }
 
     /// A burst that is refused or not. Returns how many events were entered.
@@ -222,8 +235,7 @@ impl History {
 
     /// An event, drawn by what the second store knows: it is told the events of a burst before the book is.
     fn draw_event(&mut self) -> Vec<u8> {
-        let head = &self.single.head;
-        let open: Vec<u32> = self.single.passes.chunks(4).take(head.count_open as usize).map(|pass| pass[0]).collect();
+        let (head, open) = (&self.single.head, self.single.open_numbers());
         let event = loop {
             let call = self.shape.call(&mut self.random, head.last, head.started, &open);
             if let Some(event) = event_of(call) {
@@ -241,7 +253,7 @@ impl History {
     fn enter_alone(&mut self, event: &[u8], counts: &mut Counts) -> [u64; 2] {
         let Some(call) = call_of(event) else { return [6, 0] };
         let answer = by_library(&mut self.single, call);
-        let exact = self.lacks_room_if_said(call, answer.refusal);
+        let exact = self.lacks_room_if_said(call, answer.refusal, counts);
         counts.judge(exact, self.seed, || format!("{call:?} in a burst: {} with room", answer.refusal));
         let starts = answer.refusal == 0 && matches!(call, Call::Start { .. });
         [answer.refusal as u64, if starts { answer.number as u64 } else { 0 }]
@@ -339,7 +351,7 @@ impl History {
 
     /// A command through the block. Operands that have to change are written, in any order, and now and then one that has not; then the command byte.
     fn command(&mut self, counts: &mut Counts) {
-        let again = (1..=3).contains(&self.model.command) && self.random.one_in(COMMANDS_AN_UNKNOWN_ONE);
+        let again = (1..=4).contains(&self.model.command) && self.random.one_in(COMMANDS_AN_UNKNOWN_ONE);
         let mut byte = self.model.command;
         if !again {
             let bytes = loop {
@@ -377,12 +389,12 @@ impl History {
 
     /// The answer of a call by the book, which is told a 27 or a 28; the second store gets the same call.
     fn answer_by_book(&mut self, call: Call, told: u8, counts: &mut Counts) -> Vec<u8> {
-        let exact = self.lacks_room_if_said(call, told);
+        let exact = self.lacks_room_if_said(call, told, counts);
         counts.judge(exact, self.seed, || format!("{call:?} through the block: {told} with room"));
         let alone = by_library(&mut self.single, call);
         let mut wanted = self.by_book(call, told, counts);
         if wanted.refusal == 0 {
-            wanted.totals.pages = pages_opened(&self.single, call);
+            put_pages(&self.single, call, &mut wanted);
         }
         counts.judge(alone == wanted, self.seed, || format!("{call:?} beside the block: {alone:?}, not {wanted:?}"));
         answer_of(call, &wanted)
@@ -401,43 +413,52 @@ impl History {
     /// Whether the store is as single calls leave it. Of a large one only the head is looked at, until the history ends.
     fn is_as_single(&self) -> bool {
         let (store, single) = (&self.store, &self.single);
-        if self.whole { store == single } else { store.head == single.head && store.passes == single.passes }
+        if self.whole { store == single } else { store.head == single.head }
     }
 
     /// The head has the book's last tick, number started and open passes.
     fn head_is_of_book(&self) -> bool {
-        let (head, passes, book) = (&self.store.head, &self.store.passes, &self.book);
+        let (head, book) = (&self.store.head, &self.book);
+        let open = book.open.iter().map(|&number| {
+            let pass = &book.passes[number as usize];
+            Pass { number, key: pass.key, weight: pass.weight, start: pass.start }
+        });
         (head.last, head.started, head.count_open) == (book.last, book.passes.len() as u32, book.open.len() as u32)
-            && passes.chunks(4).take(book.open.len()).zip(&book.open).all(|(place, &number)| {
-                let pass = &book.passes[number as usize];
-                place == [number, pass.key, pass.weight, pass.start]
-            })
-            && passes[4 * book.open.len()..].iter().all(|&number| number == 0)
+            && head.passes.iter().copied().eq(open.chain(std::iter::repeat(Pass::default())).take(head.passes.len()))
     }
 
-    /// The bounds of both trees, and the whole memory.
+    /// The bounds of each tree, by the keys of its own points, and the whole memory.
     fn end(&self, counts: &mut Counts) {
         let started: Vec<u32> = self.book.passes.iter().map(|pass| pass.key).collect();
         let ended: Vec<u32> = self.book.passes.iter().filter(|pass| pass.end.is_some()).map(|pass| pass.key).collect();
-        let (starts, ends) = (Tree::starts(&self.store), Tree::ends(&self.store));
-        counts.judge(starts.keeps_bounds(&started) && ends.keeps_bounds(&ended), self.seed, || "bounds".to_string());
+        let both = [&started[..], &ended[..]].concat();
+        for (tree, keys) in [(STARTS, &started), (ENDS, &ended), (TIME, &both)] {
+            let of_store = Tree::of(&self.store, tree);
+            counts.judge(of_store.keeps_bounds(keys), self.seed, || format!("bounds of tree {tree}"));
+            counts.highest = counts.highest.max(of_store.height());
+        }
         counts.judge(self.store == self.single, self.seed, || "the store that single calls leave".to_string());
-        counts.highest = counts.highest.max(starts.height()).max(ends.height());
     }
 }
 
 /// A history of any shape over tables of any size up to 400 pages.
 fn any_history(seed: u64, counts: &mut Counts) {
     let mut random = Random(seed);
-    let pages = *random.pick(&[1, 2, 3, 4, 5, 6, 8, 12, 12, 20, 40, 100, 400]);
+    let pages = *random.pick(&[1, 2, 3, 4, 5, 6, 8, 10, 10, 20, 40, 100, 400]);
     let roots = if random.one_in(3) { random.between(1, 1 + pages / 3) } else { pages };
     let mut store = Store::lent(pages as usize, roots as usize);
-    for table in [&mut store.start_table, &mut store.end_table] {
+    // The tree of time takes as many points as both others together. In some stores it has more pages than they have, so that one of them runs full first.
+    if random.one_in(2) {
+        let time_pages = *random.pick(&[2 * pages, 3 * pages]);
+        let time_roots = if random.one_in(3) { random.between(1, 1 + time_pages / 3) } else { time_pages };
+        store.trees[TIME] = Slices::lent(time_pages as usize, time_roots as usize);
+    }
+    for Slices { table, .. } in &mut store.trees {
         let more = random.below(PAGE_WORDS as u32) as usize;
         table.resize(table.len() + more, 0);
     }
     let calls = 100 + 20 * pages.min(100) + random.below(400);
-    History::run(seed, Shape::any(&mut random), store, calls, pages <= 12, counts);
+    History::run(seed, Shape::any(&mut random), store, calls, pages <= 10, counts);
 }
 
 /// A long history over tables that never run full, so that trees grow three pages high and more.
@@ -458,12 +479,13 @@ fn main() {
         long_history(1_000_000 + round, Keys::Uniform, Pace::Slow, mix, 60_000, &mut counts);
         long_history(2_000_000 + round, Keys::Strides, Pace::Swarms, mix, 40_000, &mut counts);
         long_history(3_000_000 + round, Keys::Bands, Pace::Slow, mix, 40_000, &mut counts);
-        // A tree grows four pages high where keys rise. So they do in the tree of ends if each pass ends before the next one starts.
-        let in_turn = Mix { clicks: 50, together: 1, ..mix };
+        // A tree grows four pages high where keys rise. So they do in the tree of ends if each pass ends before the next one starts. The tree of time has
+        // its pages full of rows that ended, and stays lower, unless most passes are clicks, whose end alters the row that their start made.
+        let in_turn = Mix { starts: 49, ends: 49, clicks: 90, together: 1 };
         long_history(4_000_000 + round, Keys::Rising, Pace::Jumps, in_turn, 58_000, &mut counts);
     }
-    let (in_bursts, in_blocks, of_lives) = (counts.reached.named(), counts.accessed.named(), counts.lives.named());
-    for reached in [&in_bursts[..], &in_blocks[..], &of_lives[..]] {
+    let (in_bursts, in_blocks, of_lives, of_times) = (counts.reached.named(), counts.accessed.named(), counts.lives.named(), counts.times.named());
+    for reached in [&in_bursts[..], &in_blocks[..], &of_lives[..], &of_times[..]] {
         let named: Vec<String> = reached.iter().map(|(times, name)| format!("{times} {name}")).collect();
         println!("histories: {}", named.join(", "));
     }
@@ -476,6 +498,6 @@ fn main() {
         counts.compared,
         counts.differed
     );
-    let all_reached = in_bursts.iter().chain(&in_blocks).chain(&of_lives).all(|&(times, _)| times > 0);
+    let all_reached = in_bursts.iter().chain(&in_blocks).chain(&of_lives).chain(&of_times).all(|&(times, _)| times > 0);
     std::process::exit(i32::from(counts.differed != 0 || !all_reached));
 }

@@ -1,17 +1,18 @@
-/* The header's short calls on slices of four different lengths. In each case one slice is too short, by a word, for what the head says that it
- * holds, and each of the three others would be long enough in its place: a length that is handed for another slice is an answer that differs,
+/* The header's short calls on slices of six different lengths. In each case one slice is too short, by a word, for what the head says that it
+ * holds, and each of the five others would be long enough in its place: a length that is handed for another slice is an answer that differs,
  * or a crash, since each slice ends right before memory that may not be touched. */
 #define _DEFAULT_SOURCE
 #include "lent.h"
 
 /* No slice is too short. */
-#define NONE 4
+#define NONE 6
 
 static unsigned long compared, differed;
 
-enum call { OPEN, START, END, QUESTION, LOOKUP_STARTS, LOOKUP_ENDS, COMMANDS, BURST, BLOCK_WRITE, CALLS };
+enum call { OPEN, START, END, QUESTION, BAT_TIME, LOOKUP_STARTS, LOOKUP_ENDS, LOOKUP_TIME, COMMANDS, BURST, BLOCK_WRITE, CALLS };
 
-static const char *const names[CALLS] = {"open", "start", "end", "question", "lookup_starts", "lookup_ends", "commands", "burst", "block_write"};
+static const char *const names[CALLS] = {"open", "start", "end", "question", "bat_time", "lookup_starts", "lookup_ends", "lookup_time", "commands", "burst",
+                                         "block_write"};
 
 /* The first command of a packet of two, a question and one that is cut short: what it answers. The packet and the room for answers are of
  * different lengths, as long as they must be and no longer. 254 where not all of both is used. */
@@ -68,14 +69,18 @@ static uint8_t make_block_write(struct nimbleshale_store *store)
 static uint8_t make(struct nimbleshale_store *store, enum call call)
 {
     struct nimbleshale_totals totals;
+    struct nimbleshale_time time;
+    struct nimbleshale_line line;
     uint32_t number;
     switch (call) {
     case OPEN: return nimbleshale_store_open(store);
     case START: return nimbleshale_store_start(store, 10, 450, 100, &number);
     case END: return nimbleshale_store_end(store, 10, 0);
     case QUESTION: return nimbleshale_store_question(store, 1, 30000, 1, 20, &totals);
+    case BAT_TIME: return nimbleshale_store_bat_time(store, 1, 30000, 1, 20, &time);
     case LOOKUP_STARTS: return nimbleshale_store_lookup_starts(store, 10, 450, &totals);
     case LOOKUP_ENDS: return nimbleshale_store_lookup_ends(store, 10, 450, &totals);
+    case LOOKUP_TIME: return nimbleshale_store_lookup_time(store, 10, 450, &line);
     case COMMANDS: return make_commands(store);
     case BURST: return make_burst(store);
     case BLOCK_WRITE: return make_block_write(store);
@@ -88,22 +93,25 @@ static uint8_t make(struct nimbleshale_store *store, enum call call)
 static void begin(struct nimbleshale_store *store, enum call call, int too_short)
 {
     const size_t used = call == OPEN ? 1 : 2, page = NIMBLESHALE_PAGE_WORDS;
-    size_t lengths[4] = {used * page + 11, used * page + 12, used * page + 13, used * page + 14};
-    uint32_t number;
+    size_t lengths[6] = {used * page + 11, used * page + 12, used * page + 13, used * page + 14, used * page + 15, used * page + 16};
+    uint32_t number, at;
     if (too_short != NONE)
         lengths[too_short] = (too_short % 2 == 0 ? used * page : used) - 1;
-    lend_store(store, lengths[0], lengths[1], lengths[2], lengths[3]);
+    lend_store(store, lengths[0], lengths[1], lengths[2], lengths[3], lengths[4], lengths[5]);
     if (call == OPEN)
         return;
     /* Opened and given a pass as long as the slices are, and then said to hold more. */
     compared += 2;
     if (nimbleshale_store_open(store) != 0 || nimbleshale_store_start(store, 5, 450, 100, &number) != 0)
         differed++;
-    store->start_pages_used = store->start_roots_used = store->end_pages_used = store->end_roots_used = 2;
+    for (at = NIMBLESHALE_HEAD_START_PAGES; at < NIMBLESHALE_HEAD_PASSES; at++)
+        store->head[at] = 2;
     if (store->start_roots_length > 1)
         store->start_roots[1] = 0;
     if (store->end_roots_length > 1)
         store->end_roots[1] = 0;
+    if (store->time_roots_length > 1)
+        store->time_roots[1] = 0;
 }
 
 static void try_case(enum call call, int too_short)

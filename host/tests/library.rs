@@ -1,69 +1,79 @@
-//! The library's twelve functions as they are declared in `nimbleshale.h`, and a store with its lent memory on which a call can be made by the
+//! The library's fourteen functions as they are declared in `nimbleshale.h`, and a store with its lent memory on which a call can be made by the
 //! library or by the port. Each test program uses a part of it.
 
 #![allow(dead_code)]
 
-use port::{Block, Fed, Head, Lent, Totals, PASS_NUMBERS};
+use port::{BatTime, Block, Fed, Head, Lent, Memory, Totals, ENDS, STARTS, TREES};
 
+// The head is 265 numbers in the header. The port's head is these numbers, in their order.
 extern "C" {
     fn nimbleshale_open(
-        last: &mut u32, started: &mut u32, count_open: &mut u32,
-        start_pages_used: &mut u32, start_roots_used: &mut u32, end_pages_used: &mut u32, end_roots_used: &mut u32,
-        passes: &mut [u32; PASS_NUMBERS],
+        head: &mut Head,
         start_table: *mut u64, start_table_length: usize, start_roots: *mut u64, start_roots_length: usize,
         end_table: *mut u64, end_table_length: usize, end_roots: *mut u64, end_roots_length: usize,
+        time_table: *mut u64, time_table_length: usize, time_roots: *mut u64, time_roots_length: usize,
     ) -> u8;
     fn nimbleshale_start(
-        last: &mut u32, started: &mut u32, count_open: &mut u32,
-        start_pages_used: &mut u32, start_roots_used: &mut u32, end_pages_used: &mut u32, end_roots_used: &mut u32,
-        passes: &mut [u32; PASS_NUMBERS],
+        head: &mut Head,
         start_table: *mut u64, start_table_length: usize, start_roots: *mut u64, start_roots_length: usize,
-        end_table: *mut u64, end_table_length: usize, end_roots: *mut u64, end_roots_length: usize,
+        end_table: *const u64, end_table_length: usize, end_roots: *const u64, end_roots_length: usize,
+        time_table: *mut u64, time_table_length: usize, time_roots: *mut u64, time_roots_length: usize,
         tick: u32, key: u32, weight: u32, number: &mut u32,
     ) -> u8;
     fn nimbleshale_end(
-        last: &mut u32, started: &mut u32, count_open: &mut u32,
-        start_pages_used: &mut u32, start_roots_used: &mut u32, end_pages_used: &mut u32, end_roots_used: &mut u32,
-        passes: &mut [u32; PASS_NUMBERS],
-        start_table: *mut u64, start_table_length: usize, start_roots: *mut u64, start_roots_length: usize,
+        head: &mut Head,
+        start_table: *const u64, start_table_length: usize, start_roots: *const u64, start_roots_length: usize,
         end_table: *mut u64, end_table_length: usize, end_roots: *mut u64, end_roots_length: usize,
+        time_table: *mut u64, time_table_length: usize, time_roots: *mut u64, time_roots_length: usize,
         tick: u32, number: u32,
     ) -> u8;
     fn nimbleshale_question(
-        last: u32, started: u32, count_open: u32, start_pages_used: u32, start_roots_used: u32, end_pages_used: u32, end_roots_used: u32,
-        passes: &[u32; PASS_NUMBERS],
+        head: &Head,
         start_table: *const u64, start_table_length: usize, start_roots: *const u64, start_roots_length: usize,
         end_table: *const u64, end_table_length: usize, end_roots: *const u64, end_roots_length: usize,
+        time_table: *const u64, time_table_length: usize, time_roots: *const u64, time_roots_length: usize,
         k1: u32, k2: u32, t1: u32, t2: u32, count: &mut u64, sum: &mut u64, pages: &mut u32,
     ) -> u8;
-    fn nimbleshale_lookup_starts(
-        last: u32, started: u32, count_open: u32, start_pages_used: u32, start_roots_used: u32, end_pages_used: u32, end_roots_used: u32,
-        passes: &[u32; PASS_NUMBERS],
+    fn nimbleshale_bat_time(
+        head: &Head,
         start_table: *const u64, start_table_length: usize, start_roots: *const u64, start_roots_length: usize,
         end_table: *const u64, end_table_length: usize, end_roots: *const u64, end_roots_length: usize,
+        time_table: *const u64, time_table_length: usize, time_roots: *const u64, time_roots_length: usize,
+        k1: u32, k2: u32, t1: u32, t2: u32, total: &mut u64, pages: &mut u32,
+    ) -> u8;
+    fn nimbleshale_lookup_starts(
+        head: &Head,
+        start_table: *const u64, start_table_length: usize, start_roots: *const u64, start_roots_length: usize,
+        end_table: *const u64, end_table_length: usize, end_roots: *const u64, end_roots_length: usize,
+        time_table: *const u64, time_table_length: usize, time_roots: *const u64, time_roots_length: usize,
         t: u32, k: u32, count: &mut u64, sum: &mut u64, pages: &mut u32,
     ) -> u8;
     fn nimbleshale_lookup_ends(
-        last: u32, started: u32, count_open: u32, start_pages_used: u32, start_roots_used: u32, end_pages_used: u32, end_roots_used: u32,
-        passes: &[u32; PASS_NUMBERS],
+        head: &Head,
         start_table: *const u64, start_table_length: usize, start_roots: *const u64, start_roots_length: usize,
         end_table: *const u64, end_table_length: usize, end_roots: *const u64, end_roots_length: usize,
+        time_table: *const u64, time_table_length: usize, time_roots: *const u64, time_roots_length: usize,
         t: u32, k: u32, count: &mut u64, sum: &mut u64, pages: &mut u32,
     ) -> u8;
+    fn nimbleshale_lookup_time(
+        head: &Head,
+        start_table: *const u64, start_table_length: usize, start_roots: *const u64, start_roots_length: usize,
+        end_table: *const u64, end_table_length: usize, end_roots: *const u64, end_roots_length: usize,
+        time_table: *const u64, time_table_length: usize, time_roots: *const u64, time_roots_length: usize,
+        t: u32, k: u32, factor: &mut u64, constant: &mut u64, pages: &mut u32,
+    ) -> u8;
     fn nimbleshale_commands(
-        last: &mut u32, started: &mut u32, count_open: &mut u32,
-        start_pages_used: &mut u32, start_roots_used: &mut u32, end_pages_used: &mut u32, end_roots_used: &mut u32,
-        passes: &mut [u32; PASS_NUMBERS],
+        head: &mut Head,
         start_table: *mut u64, start_table_length: usize, start_roots: *mut u64, start_roots_length: usize,
         end_table: *mut u64, end_table_length: usize, end_roots: *mut u64, end_roots_length: usize,
+        time_table: *mut u64, time_table_length: usize, time_roots: *mut u64, time_roots_length: usize,
         input: *const u8, input_length: usize, ended: u8, out: *mut u8, out_length: usize, taken: &mut usize, written: &mut usize,
     ) -> u8;
     fn nimbleshale_burst(
-        last: &mut u32, started: &mut u32, count_open: &mut u32,
-        start_pages_used: &mut u32, start_roots_used: &mut u32, end_pages_used: &mut u32, end_roots_used: &mut u32,
-        passes: &mut [u32; PASS_NUMBERS],
+        head: &mut Head,
         start_table: *mut u64, start_table_length: usize, start_roots: *mut u64, start_roots_length: usize,
         end_table: *mut u64, end_table_length: usize, end_roots: *mut u64, end_roots_length: usize,
+        time_table: *mut u64, time_table_length: usize, time_roots: *mut u64, time_roots_length: usize,
         events: *const u8, events_length: usize, results: *mut u64, results_length: usize,
     ) -> u8;
     fn nimbleshale_block_reset(block: &mut Block);
@@ -71,23 +81,25 @@ extern "C" {
     fn nimbleshale_block_line(block: &Block) -> u8;
     fn nimbleshale_block_write(
         block: &mut Block, offset: usize, value: u8,
-        last: &mut u32, started: &mut u32, count_open: &mut u32,
-        start_pages_used: &mut u32, start_roots_used: &mut u32, end_pages_used: &mut u32, end_roots_used: &mut u32,
-        passes: &mut [u32; PASS_NUMBERS],
+        head: &mut Head,
         start_table: *mut u64, start_table_length: usize, start_roots: *mut u64, start_roots_length: usize,
         end_table: *mut u64, end_table_length: usize, end_roots: *mut u64, end_roots_length: usize,
+        time_table: *mut u64, time_table_length: usize, time_roots: *mut u64, time_roots_length: usize,
     );
+}
+
+/// The page table and the root list of a tree.
+#[derive(Clone, PartialEq, Eq)]
+pub struct Slices {
+    pub table: Vec<u64>,
+    pub roots: Vec<u64>,
 }
 
 /// A head and what is lent with it.
 #[derive(Clone, PartialEq, Eq)]
 pub struct Store {
     pub head: Head,
-    pub passes: [u32; PASS_NUMBERS],
-    pub start_table: Vec<u64>,
-    pub start_roots: Vec<u64>,
-    pub end_table: Vec<u64>,
-    pub end_roots: Vec<u64>,
+    pub trees: [Slices; TREES],
 }
 
 #[derive(Clone, Copy, Debug, PartialEq, Eq)]
@@ -96,38 +108,47 @@ pub enum Call {
     Start { tick: u32, key: u32, weight: u32 },
     End { tick: u32, number: u32 },
     Question { k1: u32, k2: u32, t1: u32, t2: u32 },
-    LookupStarts { t: u32, k: u32 },
-    LookupEnds { t: u32, k: u32 },
+    BatTime { k1: u32, k2: u32, t1: u32, t2: u32 },
+    Lookup { tree: usize, t: u32, k: u32 },
 }
 
-/// What a call answers. A result that the call does not set stays `UNSET`.
+impl Call {
+    /// Whether a call that is accepted may write.
+    pub fn writes(self) -> bool {
+        matches!(self, Call::Open | Call::Start { .. } | Call::End { .. })
+    }
+}
+
+/// What a call answers. A result that the call does not set stays `UNSET`. A lookup of the tree of time has its factor in the place of the count, and its
+/// constant in that of the sum.
 #[derive(Clone, Copy, Debug, PartialEq, Eq)]
 pub struct Answer {
     pub refusal: u8,
     pub number: u32,
     pub totals: Totals,
+    pub time: BatTime,
 }
 
 const UNSET: u32 = 0xa5a5_a5a5;
 
 impl Answer {
     pub fn unset(refusal: u8) -> Answer {
-        Answer { refusal, number: UNSET, totals: Totals { count: UNSET as u64, sum: UNSET as u64, pages: UNSET } }
+        let (totals, time) = (Totals { count: UNSET as u64, sum: UNSET as u64, pages: UNSET }, BatTime { total: UNSET as u64, pages: UNSET });
+        Answer { refusal, number: UNSET, totals, time }
     }
 }
 
-/// The seven numbers, the open passes and the four slices of a store, lent.
+/// The head and the six slices of a store, lent.
 macro_rules! lent {
     ($function:ident $(($($first:expr),*))?, $store:ident $(, $more:expr)*) => {{
-        let Store { head, passes, start_table, start_roots, end_table, end_roots } = $store;
+        let Store { head, trees: [starts, ends, time] } = $store;
         unsafe {
             $function(
                 $($($first,)*)?
-                &mut head.last, &mut head.started, &mut head.count_open,
-                &mut head.start_pages_used, &mut head.start_roots_used, &mut head.end_pages_used, &mut head.end_roots_used,
-                passes,
-                start_table.as_mut_ptr(), start_table.len(), start_roots.as_mut_ptr(), start_roots.len(),
-                end_table.as_mut_ptr(), end_table.len(), end_roots.as_mut_ptr(), end_roots.len()
+                head,
+                starts.table.as_mut_ptr(), starts.table.len(), starts.roots.as_mut_ptr(), starts.roots.len(),
+                ends.table.as_mut_ptr(), ends.table.len(), ends.roots.as_mut_ptr(), ends.roots.len(),
+                time.table.as_mut_ptr(), time.table.len(), time.roots.as_mut_ptr(), time.roots.len()
                 $(, $more)*
             )
         }
@@ -136,15 +157,15 @@ macro_rules! lent {
 
 /// The same, only shown.
 macro_rules! shown {
-    ($function:ident, $store:ident, $totals:ident $(, $more:expr)*) => {{
-        let Store { head, passes, start_table, start_roots, end_table, end_roots } = &*$store;
+    ($function:ident, $store:ident $(, $more:expr)*) => {{
+        let Store { head, trees: [starts, ends, time] } = &*$store;
         unsafe {
             $function(
-                head.last, head.started, head.count_open, head.start_pages_used, head.start_roots_used, head.end_pages_used, head.end_roots_used,
-                passes,
-                start_table.as_ptr(), start_table.len(), start_roots.as_ptr(), start_roots.len(),
-                end_table.as_ptr(), end_table.len(), end_roots.as_ptr(), end_roots.len()
-                $(, $more)*, &mut $totals.count, &mut $totals.sum, &mut $totals.pages
+                head,
+                starts.table.as_ptr(), starts.table.len(), starts.roots.as_ptr(), starts.roots.len(),
+                ends.table.as_ptr(), ends.table.len(), ends.roots.as_ptr(), ends.roots.len(),
+                time.table.as_ptr(), time.table.len(), time.roots.as_ptr(), time.roots.len()
+                $(, $more)*
             )
         }
     }};
@@ -153,33 +174,41 @@ macro_rules! shown {
 /// A call made by the library.
 #[inline]
 pub fn by_library(store: &mut Store, call: Call) -> Answer {
-    let Answer { mut number, mut totals, .. } = Answer::unset(0);
+    let Answer { mut number, totals: Totals { mut count, mut sum, mut pages }, mut time, .. } = Answer::unset(0);
     let refusal = match call {
         Call::Open => lent!(nimbleshale_open, store),
         Call::Start { tick, key, weight } => lent!(nimbleshale_start, store, tick, key, weight, &mut number),
         Call::End { tick, number } => lent!(nimbleshale_end, store, tick, number),
-        Call::Question { k1, k2, t1, t2 } => shown!(nimbleshale_question, store, totals, k1, k2, t1, t2),
-        Call::LookupStarts { t, k } => shown!(nimbleshale_lookup_starts, store, totals, t, k),
-        Call::LookupEnds { t, k } => shown!(nimbleshale_lookup_ends, store, totals, t, k),
+        Call::Question { k1, k2, t1, t2 } => shown!(nimbleshale_question, store, k1, k2, t1, t2, &mut count, &mut sum, &mut pages),
+        Call::BatTime { k1, k2, t1, t2 } => shown!(nimbleshale_bat_time, store, k1, k2, t1, t2, &mut time.total, &mut time.pages),
+        Call::Lookup { tree: STARTS, t, k } => shown!(nimbleshale_lookup_starts, store, t, k, &mut count, &mut sum, &mut pages),
+        Call::Lookup { tree: ENDS, t, k } => shown!(nimbleshale_lookup_ends, store, t, k, &mut count, &mut sum, &mut pages),
+        Call::Lookup { t, k, .. } => shown!(nimbleshale_lookup_time, store, t, k, &mut count, &mut sum, &mut pages),
     };
-    Answer { refusal, number, totals }
+    Answer { refusal, number, totals: Totals { count, sum, pages }, time }
+}
+
+/// A store as the port gets it.
+#[inline]
+fn parts(store: &mut Store) -> (&mut Head, Lent<'_>) {
+    let lent = store.trees.each_mut().map(|slices| Memory { table: &mut slices.table, roots: &mut slices.roots });
+    (&mut store.head, lent)
 }
 
 /// A call made by the port.
 #[inline]
 pub fn by_port(store: &mut Store, call: Call) -> Answer {
-    let Answer { mut number, mut totals, .. } = Answer::unset(0);
-    let Store { head, passes, start_table, start_roots, end_table, end_roots } = store;
-    let lent = Lent { passes, start_table, start_roots, end_table, end_roots };
+    let Answer { mut number, mut totals, mut time, .. } = Answer::unset(0);
+    let (head, lent) = parts(store);
     let refusal = match call {
         Call::Open => port::open(head, lent),
         Call::Start { tick, key, weight } => port::start(head, lent, tick, key, weight, &mut number),
         Call::End { tick, number } => port::end(head, lent, tick, number),
-        Call::Question { k1, k2, t1, t2 } => port::question(head, lent.seen(), k1, k2, t1, t2, &mut totals),
-        Call::LookupStarts { t, k } => port::lookup_starts(head, lent.seen(), t, k, &mut totals),
-        Call::LookupEnds { t, k } => port::lookup_ends(head, lent.seen(), t, k, &mut totals),
+        Call::Question { k1, k2, t1, t2 } => port::question(head, port::seen(&lent), k1, k2, t1, t2, &mut totals),
+        Call::BatTime { k1, k2, t1, t2 } => port::bat_time(head, port::seen(&lent), k1, k2, t1, t2, &mut time),
+        Call::Lookup { tree, t, k } => port::look_up(head, port::seen(&lent), tree, t, k, &mut totals),
     };
-    Answer { refusal, number, totals }
+    Answer { refusal, number, totals, time }
 }
 
 /// A packet of commands run by the library.
@@ -195,8 +224,8 @@ pub fn packet_by_library(store: &mut Store, input: &[u8], ended: bool, out: &mut
 /// A packet of commands run by the port.
 #[inline]
 pub fn packet_by_port(store: &mut Store, input: &[u8], ended: bool, out: &mut [u8]) -> Fed {
-    let Store { head, passes, start_table, start_roots, end_table, end_roots } = store;
-    port::commands(head, Lent { passes, start_table, start_roots, end_table, end_roots }, input, ended, out)
+    let (head, lent) = parts(store);
+    port::commands(head, lent, input, ended, out)
 }
 
 /// A burst entered by the library.
@@ -208,8 +237,8 @@ pub fn burst_by_library(store: &mut Store, events: &[u8], results: &mut [u64]) -
 /// A burst entered by the port.
 #[inline]
 pub fn burst_by_port(store: &mut Store, events: &[u8], results: &mut [u64]) -> u8 {
-    let Store { head, passes, start_table, start_roots, end_table, end_roots } = store;
-    port::burst(head, Lent { passes, start_table, start_roots, end_table, end_roots }, events, results)
+    let (head, lent) = parts(store);
+    port::burst(head, lent, events, results)
 }
 
 /// A write to a register block by the library.
@@ -221,8 +250,8 @@ pub fn write_by_library(store: &mut Store, block: &mut Block, offset: usize, val
 /// A write to a register block by the port.
 #[inline]
 pub fn write_by_port(store: &mut Store, block: &mut Block, offset: usize, value: u8) {
-    let Store { head, passes, start_table, start_roots, end_table, end_roots } = store;
-    port::block_write(head, Lent { passes, start_table, start_roots, end_table, end_roots }, block, offset, value)
+    let (head, lent) = parts(store);
+    port::block_write(head, lent, block, offset, value)
 }
 
 /// What the library reads of a register block.
@@ -247,17 +276,22 @@ pub fn reset_by_library(block: &mut Block) {
 /// Words of a page.
 pub const PAGE_WORDS: usize = 260;
 
+impl Slices {
+    /// Memory of zeros.
+    pub fn lent(pages: usize, roots: usize) -> Slices {
+        Slices { table: vec![0; PAGE_WORDS * pages], roots: vec![0; roots] }
+    }
+}
+
 impl Store {
-    /// Memory of so many pages and root entries a tree, all zero, with a head that fits nothing.
+    /// Memory of zeros, each tree with as many pages and root entries as any other, and a head that fits nothing.
     pub fn lent(pages: usize, roots: usize) -> Store {
-        Store {
-            head: Head::default(),
-            passes: [0; PASS_NUMBERS],
-            start_table: vec![0; PAGE_WORDS * pages],
-            start_roots: vec![0; roots],
-            end_table: vec![0; PAGE_WORDS * pages],
-            end_roots: vec![0; roots],
-        }
+        Store { head: Head::ZERO, trees: [(); TREES].map(|()| Slices::lent(pages, roots)) }
+    }
+
+    /// The numbers of the open passes, as the head says.
+    pub fn open_numbers(&self) -> Vec<u32> {
+        self.head.passes.iter().take(self.head.count_open as usize).map(|pass| pass.number).collect()
     }
 }
 

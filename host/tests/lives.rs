@@ -3,6 +3,7 @@
 use crate::book::Book;
 use crate::library::{Call, Store};
 use crate::trees::Tree;
+use port::{ENDS, STARTS};
 
 /// As many passes as may be open together. More starts than that in one tick, or more ends, are made only by clicks.
 const OPEN_PASSES: u32 = 64;
@@ -18,7 +19,7 @@ pub struct Crowd {
 pub struct Lives {
     clicks: u64,
     pub in_bursts: u64,
-    /// Clicks that ended in a tree of ends so many pages high, 1 to 4, and after which the tree of starts was so high
+    /// Clicks by the height of the tree of ends in which they ended, 1 to 4 pages, and by that of the tree of starts
     by_ends_height: [u64; 5],
     by_starts_height: [u64; 5],
     /// Ticks of more than 64 starts, of more than 64 ends, and the latter where the tree of ends is three pages high or more
@@ -53,12 +54,12 @@ impl Lives {
                 self.count_end(book.passes[number as usize].start == tick, store, crowd);
             }
             Call::Question { k1, k2, t1, .. } => self.count_question(k1, k2, t1, book),
-            Call::LookupStarts { .. } | Call::LookupEnds { .. } => (),
+            Call::BatTime { .. } | Call::Lookup { .. } => (),
         }
     }
 
     fn count_end(&mut self, is_click: bool, store: &Store, crowd: &Crowd) {
-        let (starts, ends) = (Tree::starts(store).height() as usize, Tree::ends(store).height() as usize);
+        let [starts, ends] = [STARTS, ENDS].map(|tree| Tree::of(store, tree).height() as usize);
         if is_click {
             self.clicks += 1;
             self.by_starts_height[starts.min(4)] += 1;

@@ -1,24 +1,28 @@
 //! Stores for the test of spoiled memory: grown ones, ones with random trees that no history grows, and ways to spoil them.
 
-use crate::library::{by_port, Call, Random, Store, PAGE_WORDS};
-use crate::shapes::Shape;
+use crate::library::{by_port, Call, Random, Slices, Store, PAGE_WORDS};
+use crate::shapes::{any_tree, Shape};
+use port::{Pass, TreeUse, TIME};
 
-/// A store grown by a random history.
+/// A store grown by a random history. In some of them the tree of time, which takes the points of both others, has twice their pages.
 pub fn grown(random: &mut Random) -> Store {
-    let pages = *random.pick(&[2, 4, 6, 9, 12, 20, 40]);
+    let pages = *random.pick(&[2, 4, 6, 9, 10, 20, 40]);
     let roots = if random.one_in(3) { random.between(1, pages) } else { pages };
     let mut store = Store::lent(pages as usize, roots as usize);
+    if random.one_in(2) {
+        store.trees[TIME] = Slices::lent(2 * pages as usize, if random.one_in(3) { roots } else { 2 * pages } as usize);
+    }
     let mut shape = Shape::any(random);
     by_port(&mut store, Call::Open);
     for _ in 0..random.below(30 * pages) {
-        let open: Vec<u32> = store.passes.chunks(4).take(store.head.count_open as usize).map(|pass| pass[0]).collect();
+        let open = store.open_numbers();
         let call = shape.call(random, store.head.last, store.head.started, &open);
         by_port(&mut store, call);
     }
     store
 }
 
-/// A store with two random trees. Their pages pass the test of refusal 26 at the last tick, mostly, but have what no history grows: rows in any
+/// A store with three random trees. Their pages pass the test of refusal 26 at the last tick, mostly, but have what no history grows: rows in any
 /// order, beside the range or hanging over it, of lives that make no sense, and pages full to the last row.
 pub fn random_trees(random: &mut Random) -> Store {
     let pages = random.between(10, 30);
@@ -27,18 +31,42 @@ pub fn random_trees(random: &mut Random) -> Store {
     store.head.last = t;
     store.head.started = random.between(3, 1_000_000);
     store.head.count_open = random.below(4);
-    for place in 0..store.head.count_open {
+    for number in 0..store.head.count_open {
         let start = if random.one_in(3) { t } else { random.between(0, t) };
-        let pass = [place, random.below(30_000), random.between(1, 10_000), start];
-        store.passes[4 * place as usize..][..4].copy_from_slice(&pass);
+        store.head.passes[number as usize] = Pass { number, key: random.below(30_000), weight: random.between(1, 10_000), start };
     }
-    (store.head.start_pages_used, store.head.start_roots_used) = random_tree(random, &mut store.start_table, &mut store.start_roots, t);
-    (store.head.end_pages_used, store.head.end_roots_used) = random_tree(random, &mut store.end_table, &mut store.end_roots, t);
+    for (slices, used) in store.trees.iter_mut().zip(&mut store.head.uses) {
+        *used = random_tree(random, slices, t);
+    }
+    store
+}
+
+/// A store in which each tree is one leaf, full to the last row and mostly sound, so that every entry makes pages and a root entry: each tree has room
+/// for them, or lacks pages, or a place in its root list.
+pub fn crowded(random: &mut Random) -> Store {
+    let mut store = Store::lent(1, 1);
+    by_port(&mut store, Call::Open);
+    let numbers = 0..3;
+    store.head.started = numbers.end;
+    store.head.count_open = numbers.end;
+    for number in numbers {
+        store.head.passes[number as usize] = Pass { number, key: random.below(30_000), weight: random.between(1, 10_000), start: 0 };
+    }
+    store.head.last = random.between(1, 1_000);
+    for slices in &mut store.trees {
+        *slices = Slices::lent(random.between(1, 5) as usize, random.between(1, 2) as usize);
+        let rows = if random.one_in(4) { 65 } else { 64 };
+        slices.table[..4].copy_from_slice(&[0, rows, 30_000 << 16, 0]);
+        for (place, row) in slices.table[4..PAGE_WORDS].chunks_exact_mut(4).enumerate() {
+            let (low, high) = (400 * place as u32, if place == 63 { 30_000 } else { 400 * place as u32 + 400 });
+            row.copy_from_slice(&live_row(random, low, high, 0, 0));
+        }
+    }
     store
 }
 
 /// Leaves as many pages as an entry may make, or fewer. Returns the pages and the roots used.
-fn random_tree(random: &mut Random, table: &mut [u64], list: &mut [u64], t: u32) -> (u32, u32) {
+fn random_tree(random: &mut Random, Slices { table, roots: list }: &mut Slices, t: u32) -> TreeUse {
     let left = if random.one_in(4) { random.below(7) } else { 9 };
     let limit = (table.len() / PAGE_WORDS) as u32 - left;
     let mut used = 0;
@@ -50,7 +78,7 @@ fn random_tree(random: &mut Random, table: &mut [u64], list: &mut [u64], t: u32)
     }
     let birth = *random.pick(&[0, t, t / 2]);
     list[roots as usize - 1] = birth as u64 | (root as u64) << 32;
-    (used, roots)
+    TreeUse { pages: used, roots }
 }
 
 /// Writes a page over a key range, and pages below some of its rows, while there is room. Returns its number.
@@ -144,13 +172,11 @@ pub fn spoil(random: &mut Random, store: &mut Store) {
     }
 }
 
-/// One of the two trees: its table, its list, its pages used and its roots used.
+/// One of the trees: its table, its list, its pages used and its roots used.
 fn tree<'a>(random: &mut Random, store: &'a mut Store) -> (&'a mut Vec<u64>, &'a mut Vec<u64>, &'a mut u32, &'a mut u32) {
-    if random.one_in(2) {
-        (&mut store.start_table, &mut store.start_roots, &mut store.head.start_pages_used, &mut store.head.start_roots_used)
-    } else {
-        (&mut store.end_table, &mut store.end_roots, &mut store.head.end_pages_used, &mut store.head.end_roots_used)
-    }
+    let tree = any_tree(random);
+    let (Slices { table, roots: list }, TreeUse { pages, roots }) = (&mut store.trees[tree], &mut store.head.uses[tree]);
+    (table, list, pages, roots)
 }
 
 /// The words of a page, of one in use mostly.
@@ -234,7 +260,7 @@ fn spoil_row(random: &mut Random, store: &mut Store) {
         3 => row[1] = birth | tick << 32,
         4 => row[1] = tick | (row[1] >> 32) << 32,
         5 => row[0] = other,
-        _ => row[2] = random.word(),
+        _ => row[2 + random.below(2) as usize] = random.word(),
     }
 }
 
@@ -265,22 +291,26 @@ fn add_row(random: &mut Random, store: &mut Store) {
 fn spoil_head(random: &mut Random, store: &mut Store) {
     let head = &mut store.head;
     let number = *random.pick(&[0, 1, 2, 63, 64, 65, 999_999, 1_000_000, 1_000_001, u32::MAX - 1, u32::MAX]);
-    match random.below(8) {
+    match random.below(10) {
         0 => head.last = number,
         1 => head.started = number,
         2 => head.count_open = number,
-        3 => head.start_pages_used = number,
-        4 => head.start_roots_used = number,
-        5 => head.end_pages_used = number,
-        6 => head.end_roots_used = number,
+        3..=5 => head.uses[any_tree(random)].pages = number,
+        6..=8 => head.uses[any_tree(random)].roots = number,
         _ => head.last = head.last.saturating_sub(random.below(50)),
     }
 }
 
 fn spoil_passes(random: &mut Random, store: &mut Store) {
     let places = if random.one_in(4) { 64 } else { store.head.count_open.clamp(1, 64) };
-    let at = (4 * random.below(places) + random.below(4)) as usize;
-    store.passes[at] = *random.pick(&[0, 1, 29_999, 30_000, 10_000, 10_001, store.head.last, u32::MAX]);
+    let number = *random.pick(&[0, 1, 29_999, 30_000, 10_000, 10_001, store.head.last, u32::MAX]);
+    let pass = &mut store.head.passes[random.below(places) as usize];
+    match random.below(4) {
+        0 => pass.number = number,
+        1 => pass.key = number,
+        2 => pass.weight = number,
+        _ => pass.start = number,
+    }
 }
 
 /// Shorter slices than the head says, or words past the last whole page.

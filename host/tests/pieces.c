@@ -8,7 +8,7 @@
 #define UNSET 0xa5a5a5a5u
 #define UNTOUCHED 0x5a
 
-/* Streams of at most so many bytes are cut at every place. */
+/* Streams of up to this number of bytes are cut at every place. */
 #define SHORT 1000
 
 /* Random ways to cut each stream. */
@@ -63,7 +63,7 @@ static uint8_t *last_bytes(uint8_t *slice, size_t count)
     return slice + BEFORE + MOST - count;
 }
 
-/* Whether so many bytes are as they were before the call. */
+/* Whether bytes are as they were before the call. */
 static int untouched(const uint8_t *bytes, size_t count)
 {
     size_t at = 0;
@@ -143,7 +143,7 @@ static int counted(struct feed *feed, size_t length, size_t taken, size_t room, 
     return 1;
 }
 
-/* One call: so many bytes more have come, and there is so much room for answers. Both slices end right before memory that may not be touched. */
+/* One call: more bytes have come, and there is some room for answers. Both slices end right before memory that may not be touched. */
 static void hand_over(struct feed *feed, size_t more, size_t room, uint8_t ended)
 {
     const struct vector *vector = feed->whole->vector;

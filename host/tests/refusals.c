@@ -5,28 +5,32 @@
 
 static unsigned long compared, differed;
 
-static const char *const names[CALLS] = {"open", "start", "end", "question", "lookup_starts", "lookup_ends"};
+static const char *const names[CALLS] = {"open", "start", "end", "question", "bat_time", "lookup_starts", "lookup_ends", "lookup_time"};
 
+/* What the calls answer: the number of a start, and the two words, or the one of a bat-time, and the pages of a call that reads. */
 struct results {
     uint32_t number;
-    uint64_t count;
-    uint64_t sum;
+    uint64_t words[2];
     uint32_t pages;
 };
+
+static const struct results no_result = {UNTOUCHED, {UNTOUCHED, UNTOUCHED}, UNTOUCHED};
 
 /* The call of a case, with the conditions that are of the arguments. */
 static uint8_t make_call(struct tried *t, enum call call, unsigned conditions, enum way way, struct results *r)
 {
     struct nimbleshale_store *s = &t->store;
     const struct arguments a = arguments_of(call, conditions, way);
-    const struct asked q = asked_of(conditions, way);
+    const struct asked q = asked_of(call, conditions, way);
     switch (call) {
     case OPEN: return nimbleshale_open(LENT);
     case START: return nimbleshale_start(LENT, a.tick, a.key, a.weight, &r->number);
     case END: return nimbleshale_end(LENT, a.tick, a.number);
-    case QUESTION: return nimbleshale_question(SHOWN, q.k1, q.k2, q.t1, q.t2, &r->count, &r->sum, &r->pages);
-    case LOOKUP_STARTS: return nimbleshale_lookup_starts(SHOWN, a.tick, a.key, &r->count, &r->sum, &r->pages);
-    case LOOKUP_ENDS: return nimbleshale_lookup_ends(SHOWN, a.tick, a.key, &r->count, &r->sum, &r->pages);
+    case QUESTION: return nimbleshale_question(LENT, q.k1, q.k2, q.t1, q.t2, &r->words[0], &r->words[1], &r->pages);
+    case BAT_TIME: return nimbleshale_bat_time(LENT, q.k1, q.k2, q.t1, q.t2, &r->words[0], &r->pages);
+    case LOOKUP_STARTS: return nimbleshale_lookup_starts(LENT, a.tick, a.key, &r->words[0], &r->words[1], &r->pages);
+    case LOOKUP_ENDS: return nimbleshale_lookup_ends(LENT, a.tick, a.key, &r->words[0], &r->words[1], &r->pages);
+    case LOOKUP_TIME: return nimbleshale_lookup_time(LENT, a.tick, a.key, &r->words[0], &r->words[1], &r->pages);
     default: return 255;
     }
 }
@@ -34,7 +38,7 @@ static uint8_t make_call(struct tried *t, enum call call, unsigned conditions, e
 static void try_case(enum call call, unsigned conditions, enum way way)
 {
     struct tried tried;
-    struct results results = {UNTOUCHED, UNTOUCHED, UNTOUCHED, UNTOUCHED};
+    struct results results = no_result;
     uint8_t wanted = first_refusal(call, conditions), refusal;
     uint64_t before;
     int same;
@@ -45,7 +49,7 @@ static void try_case(enum call call, unsigned conditions, enum way way)
     if (wanted != 0 || call >= QUESTION)
         same = same && digest_tried(&tried) == before;
     if (wanted != 0 || call < QUESTION)
-        same = same && results.count == UNTOUCHED && results.sum == UNTOUCHED && results.pages == UNTOUCHED;
+        same = same && results.words[0] == UNTOUCHED && results.words[1] == UNTOUCHED && results.pages == UNTOUCHED;
     if (wanted != 0 || call != START)
         same = same && results.number == UNTOUCHED;
     compared++;
@@ -57,41 +61,55 @@ static void try_case(enum call call, unsigned conditions, enum way way)
     end_case(&tried);
 }
 
-/* Over 1,000,000 pages. The table is that large but not touched past its first page. */
-static void many_pages(void)
+/* The table of a tree in a store, and its length. */
+static uint64_t **table_of(struct nimbleshale_store *store, enum tree tree)
+{
+    return tree == STARTS ? &store->start_table : tree == ENDS ? &store->end_table : &store->time_table;
+}
+
+static size_t *length_of(struct nimbleshale_store *store, enum tree tree)
+{
+    return tree == STARTS ? &store->start_table_length : tree == ENDS ? &store->end_table_length : &store->time_table_length;
+}
+
+/* Over 1,000,000 pages, in a tree that a start or an end writes. The table is that large but not touched past its first page. */
+static void many_pages(enum call call, enum tree tree)
 {
     struct tried tried;
     struct tried *t = &tried;
     struct nimbleshale_store *s = &tried.store;
-    struct results results = {UNTOUCHED, UNTOUCHED, UNTOUCHED, UNTOUCHED};
-    size_t length = NIMBLESHALE_TABLE_WORDS(1000002);
-    uint64_t *table = mmap(NULL, 8 * length, PROT_READ | PROT_WRITE, MAP_PRIVATE | MAP_ANONYMOUS | MAP_NORESERVE, -1, 0);
-    uint64_t *lent;
+    struct results results = no_result;
+    const size_t many = NIMBLESHALE_TABLE_WORDS(1000002);
+    uint64_t *table = mmap(NULL, 8 * many, PROT_READ | PROT_WRITE, MAP_PRIVATE | MAP_ANONYMOUS | MAP_NORESERVE, -1, 0), *lent;
+    uint32_t *pages_used;
+    size_t length;
     uint8_t found[4];
     if (table == MAP_FAILED) {
         printf("no room for a table of 1,000,002 pages: not tried\n");
         return;
     }
-    begin(t, START, 0, WAYS);
-    lent = s->start_table;
-    write_leaf(table);
-    s->start_table = table;
-    s->start_table_length = length;
-    s->start_pages_used = 1000001;
-    found[0] = nimbleshale_question(SHOWN, 1, 2, 1, 2, &results.count, &results.sum, &results.pages);
-    s->start_pages_used = 1000000;
-    found[1] = nimbleshale_question(SHOWN, 1, 2, 1, 2, &results.count, &results.sum, &results.pages);
-    found[2] = nimbleshale_start(LENT, 100, 450, 1, &results.number);
-    s->start_pages_used = 999997;
-    found[3] = nimbleshale_start(LENT, 100, 450, 1, &results.number);
+    begin(t, call, 0, WAYS);
+    lent = *table_of(s, tree);
+    length = *length_of(s, tree);
+    write_leaf(table, 0);
+    *table_of(s, tree) = table;
+    *length_of(s, tree) = many;
+    pages_used = t->head + NIMBLESHALE_HEAD_START_PAGES + 2 * tree;
+    *pages_used = 1000001;
+    found[0] = make_call(t, QUESTION, 0, WAYS, &results);
+    *pages_used = 1000000;
+    found[1] = make_call(t, QUESTION, 0, WAYS, &results);
+    found[2] = make_call(t, call, 0, WAYS, &results);
+    *pages_used = 999997;
+    found[3] = make_call(t, call, 0, WAYS, &results);
     compared += 4;
-    if (found[0] != 20 || found[1] != 0 || found[2] != 27 || found[3] != 0 || s->start_pages_used != 1000000) {
+    if (found[0] != 20 || found[1] != 0 || found[2] != 27 || found[3] != 0 || *pages_used != 1000000) {
         differed++;
-        printf("differs: 1,000,000 pages: %d %d %d %d\n", found[0], found[1], found[2], found[3]);
+        printf("differs: %s with 1,000,000 pages of tree %d: %d %d %d %d\n", names[call], (int)tree, found[0], found[1], found[2], found[3]);
     }
-    munmap(table, 8 * length);
-    s->start_table = lent;
-    s->start_table_length = NIMBLESHALE_TABLE_WORDS(4) + 259;
+    munmap(table, 8 * many);
+    *table_of(s, tree) = lent;
+    *length_of(s, tree) = length;
     end_case(t);
 }
 
@@ -101,7 +119,10 @@ int main(void)
         for (unsigned conditions = 0; conditions < sets_of((enum call)call); conditions++)
             for (int way = 0; way < WAYS; way++)
                 try_case((enum call)call, conditions, (enum way)way);
-    many_pages();
+    many_pages(START, STARTS);
+    many_pages(START, TIME);
+    many_pages(END, ENDS);
+    many_pages(END, TIME);
     printf("refusals: %lu compared, %lu differed\n", compared, differed);
     return differed != 0;
 }

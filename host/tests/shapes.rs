@@ -1,6 +1,7 @@
 //! Random histories: the next call of a detector, by shape of keys and pace.
 
 use crate::library::{Call, Random};
+use port::TREES;
 
 /// How keys are drawn.
 #[derive(Clone, Copy, Debug)]
@@ -28,6 +29,8 @@ pub enum Pace {
     Swarms,
     /// Jumps of any size
     Jumps,
+    /// Leaps over all ticks that there are
+    Leaps,
     /// Close to the last tick of all
     Late,
 }
@@ -43,7 +46,7 @@ const KEYS: [Keys; 9] = [
     Keys::Strides,
     Keys::Edges,
 ];
-const PACES: [Pace; 5] = [Pace::Still, Pace::Slow, Pace::Swarms, Pace::Jumps, Pace::Late];
+const PACES: [Pace; 6] = [Pace::Still, Pace::Slow, Pace::Swarms, Pace::Jumps, Pace::Leaps, Pace::Late];
 
 /// What the calls are.
 #[derive(Clone, Copy)]
@@ -53,7 +56,7 @@ pub struct Mix {
     pub ends: u32,
     /// Of a hundred ends, how many are of the newest pass at the last tick
     pub clicks: u32,
-    /// How many passes are open together. Where it is one, the points of both trees come in the same order
+    /// How many passes are open together. Where it is one, the points of the trees of starts and of ends come in the same order
     pub together: usize,
 }
 
@@ -61,6 +64,8 @@ pub struct Shape {
     keys: Keys,
     pace: Pace,
     mix: Mix,
+    /// Weights are drawn from here up to the highest
+    lightest: u32,
     turn: u32,
     /// The tick of an end that was drawn: there, and one tick later, it is decided whether the pass is counted
     ended: u32,
@@ -68,13 +73,15 @@ pub struct Shape {
 
 impl Shape {
     pub fn new(keys: Keys, pace: Pace, mix: Mix) -> Shape {
-        Shape { keys, pace, mix, turn: 0, ended: 0 }
+        Shape { keys, pace, mix, lightest: 1, turn: 0, ended: 0 }
     }
 
     pub fn any(random: &mut Random) -> Shape {
         let (starts, ends) = *random.pick(&[(50, 40), (40, 40), (80, 10), (45, 45), (30, 30)]);
         let (clicks, together) = (*random.pick(&[0, 5, 30, 90]), *random.pick(&[1, 64, 64, 64, 64, 64]));
-        Shape::new(*random.pick(&KEYS), *random.pick(&PACES), Mix { starts, ends, clicks, together })
+        let shape = Shape::new(*random.pick(&KEYS), *random.pick(&PACES), Mix { starts, ends, clicks, together });
+        // Only heavy passes have the highest bat-times that there are.
+        Shape { lightest: *random.pick(&[1, 1, 1, 9_900]), ..shape }
     }
 
     fn key(&mut self, random: &mut Random) -> u32 {
@@ -99,6 +106,7 @@ impl Shape {
             Pace::Slow => random.below(2),
             Pace::Swarms => if random.one_in(50) { random.below(5_000) } else { 0 },
             Pace::Jumps => 1 << random.below(16),
+            Pace::Leaps => random.below(20_000_000),
             Pace::Late => if last < 4_294_960_000 { 4_294_960_000 - last } else { u32::from(random.one_in(4)) },
         };
         last.saturating_add(step).min(u32::MAX - 1)
@@ -113,21 +121,19 @@ impl Shape {
         // With no room for a start, or nothing to end, the other one is likelier to be accepted. Now and then one start is too many.
         let room = open.len() < together || open.len() == 64 && random.one_in(16);
         if turn < starts && room || turn < starts + ends && open.is_empty() {
-            return Call::Start { tick: self.tick(random, last), key: self.key(random), weight: random.between(1, 10_000) };
+            return Call::Start { tick: self.tick(random, last), key: self.key(random), weight: random.between(self.lightest, 10_000) };
         }
         if turn < starts + ends {
             return self.end(random, last, open);
         }
         let near = last.saturating_add(50);
-        match random.below(4) {
-            0 => Call::LookupStarts { t: self.asked_tick(random, near).min(u32::MAX - 1), k: self.asked_key(random) },
-            1 => Call::LookupEnds { t: self.asked_tick(random, near).min(u32::MAX - 1), k: self.asked_key(random) },
-            _ => {
-                let (k, l) = (self.asked_key(random), self.asked_key(random));
-                let (t1, t2) = self.asked_ticks(random, near);
-                Call::Question { k1: k.min(l), k2: k.max(l) + 1, t1, t2 }
-            }
+        if random.one_in(2) {
+            return Call::Lookup { tree: any_tree(random), t: self.asked_tick(random, near).min(u32::MAX - 1), k: self.asked_key(random) };
         }
+        let (k, l) = (self.asked_key(random), self.asked_key(random));
+        let (k1, k2) = (k.min(l), k.max(l) + 1);
+        let (t1, t2) = self.asked_ticks(random, near);
+        if random.one_in(2) { Call::Question { k1, k2, t1, t2 } } else { Call::BatTime { k1, k2, t1, t2 } }
     }
 
     /// The end of an open pass. The newest one has most likely started at the last tick, and its end there makes it a click.
@@ -175,16 +181,21 @@ impl Shape {
         let key = *random.pick(&[0, 29_999, 30_000, 30_001, 65_536, 65_537, u32::MAX]);
         let weight = *random.pick(&[0, 1, 10_000, 10_001, 65_537, u32::MAX]);
         let tick = *random.pick(&[0, last.saturating_sub(1), last, u32::MAX - 1, u32::MAX, u32::MAX]);
-        match random.below(6) {
+        match random.below(8) {
             0 => Call::Start { tick: *random.pick(&[0, last, last, u32::MAX]), key, weight: *random.pick(&[weight, 50]) },
             1 => Call::Start { tick: last.saturating_sub(random.below(3)), key: random.below(30_000), weight },
             2 => Call::End { tick: *random.pick(&[last.saturating_sub(1), last, last, u32::MAX]), number: random.between(0, started) },
-            3 => Call::LookupStarts { t: tick, k: key },
-            4 => Call::LookupEnds { t: tick, k: key },
+            3 | 4 => Call::Lookup { tree: any_tree(random), t: tick, k: key },
             _ => {
                 let (t1, t2) = *random.pick(&[(0, u32::MAX), (5, 5), (6, 5), (last, last.saturating_add(1)), (u32::MAX, u32::MAX)]);
-                Call::Question { k1: *random.pick(&[0, 0, key]), k2: *random.pick(&[30_000, 30_001, key, 1]), t1, t2 }
+                let (k1, k2) = (*random.pick(&[0, 0, key]), *random.pick(&[30_000, 30_001, key, 1]));
+                if random.one_in(2) { Call::Question { k1, k2, t1, t2 } } else { Call::BatTime { k1, k2, t1, t2 } }
             }
         }
     }
+}
+
+/// One of the trees of a store.
+pub fn any_tree(random: &mut Random) -> usize {
+    random.below(TREES as u32) as usize
 }

@@ -1,7 +1,11 @@
 //! Spoiled memory: random heads, tables and root lists, each call made by the library and by the port on the same store. The answer and every
 //! number and word must be the same; a refused call, a question and a lookup must leave everything as it was; and every call must end. Packets of
 //! commands, too, are run by both; and so are bursts, whose events are also entered one by one, and writes to register blocks of any 40 bytes, whose
-//! commands are also run in the stream. There must be clicks, and questions from tick 0 on that are answered although the tree of ends is spoiled.
+//! commands are also run in the stream. There must be clicks, and questions from tick 0 on that are answered although the tree of ends is spoiled, and
+//! bat-times although another tree is.
+//!
+//! A start and an end look at two trees. One that gets 26, 27 or 28 is also made with each of the two trees in turn changed for one that is sound and has
+//! room: the lowest number of the two is the one that it must get, and every pair of different numbers must come about.
 //!
 //! spoiled [ROUNDS]
 
@@ -17,8 +21,14 @@ use library::{
     burst_by_library, burst_by_port, by_library, by_port, line_by_library, packet_by_library, packet_by_port, read_by_library, reset_by_library,
     write_by_library, write_by_port, Answer, Call, Random, Store, PAGE_WORDS,
 };
-use port::{Block, BLOCK_BYTES};
+use port::{Block, BLOCK_BYTES, ENDS, STARTS, TIME};
+use shapes::any_tree;
 use std::collections::BTreeMap;
+
+/// The pairs of what a start or an end gets of its own tree and of that of time that are all to come about: one of them refuses, or both for different
+/// grounds.
+const PAIRS: [(u8, u8); 12] =
+    [(26, 0), (0, 26), (27, 0), (0, 27), (28, 0), (0, 28), (26, 27), (27, 26), (26, 28), (28, 26), (27, 28), (28, 27)];
 
 /// Packets on each store, bursts, and writes to register blocks, after its calls.
 const PACKETS: u64 = 4;
@@ -33,15 +43,15 @@ fn call_on(random: &mut Random, store: &Store) -> Call {
         0 if random.one_in(20) => Call::Open,
         0..=5 => Call::Start { tick: *random.pick(&[tick, store.head.last, later]), key: near_key(random, store), weight: random.between(1, 10_000) },
         6..=9 => {
-            let place = random.below(store.head.count_open.min(64)) as usize;
-            let number = store.passes[4 * place];
+            let number = store.head.passes[random.below(store.head.count_open.min(64)) as usize].number;
             Call::End { tick: *random.pick(&[tick, later, later]), number }
         }
-        10 | 11 => Call::LookupStarts { t: tick, k: near_key(random, store) },
-        12 | 13 => Call::LookupEnds { t: tick, k: near_key(random, store) },
+        10 | 11 => Call::Lookup { tree: any_tree(random), t: tick, k: near_key(random, store) },
         _ => {
             let (k, l, u) = (near_key(random, store), near_key(random, store), near_tick(random, store));
-            Call::Question { k1: if random.one_in(4) { 0 } else { k.min(l) }, k2: k.max(l) + 1, t1: tick.min(u), t2: tick.max(u).saturating_add(1) }
+            let (k1, k2) = (if random.one_in(4) { 0 } else { k.min(l) }, k.max(l) + 1);
+            let (t1, t2) = (tick.min(u), tick.max(u).saturating_add(1));
+            if random.one_in(2) { Call::Question { k1, k2, t1, t2 } } else { Call::BatTime { k1, k2, t1, t2 } }
         }
     }
 }
@@ -54,6 +64,7 @@ fn packet_on(random: &mut Random, store: &Store) -> Vec<u8> {
             Call::Start { tick, key, weight } => commands::start(tick, key, weight),
             Call::End { tick, number } => commands::end(tick, number),
             Call::Question { k1, k2, t1, t2 } => commands::question(k1, k2, t1, t2),
+            Call::BatTime { k1, k2, t1, t2 } => commands::bat_time(k1, k2, t1, t2),
             _ if random.one_in(8) => vec![random.word() as u8],
             _ => Vec::new(),
         });
@@ -159,7 +170,7 @@ fn block_on(random: &mut Random, store: &Store) -> (Block, u8) {
 fn answer_in_stream(store: &mut Store, command: u8, block: &Block) -> [u8; 18] {
     let length = match command {
         1 | 2 => 9,
-        3 => 13,
+        3 | 4 => 13,
         _ => 1,
     };
     let mut answer = [0; 18];
@@ -194,11 +205,8 @@ fn same_of_block(random: &mut Random, before: &Store, accessed: &mut Accessed) -
 
 /// A word of one of the tables.
 fn any_word(random: &mut Random, store: &Store, of_row: u32) -> u64 {
-    let (table, pages) = if random.one_in(2) {
-        (&store.start_table, store.head.start_pages_used)
-    } else {
-        (&store.end_table, store.head.end_pages_used)
-    };
+    let tree = any_tree(random);
+    let (table, pages) = (&store.trees[tree].table, store.head.uses[tree].pages);
     let at = PAGE_WORDS * random.below(pages.min(1_000)) as usize + (4 + 4 * random.below(64) + of_row) as usize;
     table.get(at).copied().unwrap_or(0)
 }
@@ -228,14 +236,27 @@ struct Counts {
     written: u64,
     split: u64,
     clicks: u64,
-    /// Questions from tick 0 on that were answered, and get 26 from tick 1 on
+    /// Questions from tick 0 on that were answered, and get 26 from tick 1 on; bat-times that were answered where the same question gets 26, and the
+    /// other way round
     beside_spoiled: u64,
+    time_beside_spoiled: u64,
+    beside_spoiled_time: u64,
+    /// Starts and ends that met 26, 27 or 28, by what they get of their own tree and of that of time
+    of_two_trees: BTreeMap<(u8, u8), u64>,
     refusals: BTreeMap<u8, u64>,
     in_bursts: Reached,
     in_blocks: Accessed,
 }
 
 impl Counts {
+    /// A call that read and was answered.
+    fn count_read(&mut self, store: &mut Store, call: Call) {
+        self.beside_spoiled += u64::from(is_beside_spoiled(store, call));
+        let beside_other = u64::from(is_beside_other(store, call));
+        self.time_beside_spoiled += beside_other * u64::from(matches!(call, Call::BatTime { .. }));
+        self.beside_spoiled_time += beside_other * u64::from(matches!(call, Call::Question { .. }));
+    }
+
     fn judge(&mut self, same: bool, what: impl FnOnce() -> String) {
         self.compared += 1;
         if !same {
@@ -250,7 +271,7 @@ impl Counts {
 /// Whether a call ends a pass at its own start tick.
 fn is_click(store: &Store, call: Call) -> bool {
     let Call::End { tick, number } = call else { return false };
-    store.passes.chunks(4).take(store.head.count_open as usize).any(|pass| pass[0] == number && pass[3] == tick)
+    store.head.passes.iter().take(store.head.count_open as usize).any(|pass| pass.number == number && pass.start == tick)
 }
 
 /// Whether a question from tick 0 on is answered only because it opens no page of the tree of ends: the same one from tick 1 on gets 26.
@@ -259,22 +280,57 @@ fn is_beside_spoiled(store: &mut Store, call: Call) -> bool {
     t2 > 1 && by_port(store, Call::Question { k1, k2, t1: 1, t2 }).refusal == 26
 }
 
+/// Whether a call of a band is answered although the other one, a bat-time or a question, gets 26.
+fn is_beside_other(store: &mut Store, call: Call) -> bool {
+    let other = match call {
+        Call::Question { k1, k2, t1, t2 } => Call::BatTime { k1, k2, t1, t2 },
+        Call::BatTime { k1, k2, t1, t2 } => Call::Question { k1, k2, t1, t2 },
+        _ => return false,
+    };
+    by_port(store, other).refusal == 26
+}
+
+/// Pages and roots of a tree that has room for any entry.
+const ROOM: usize = 8;
+
+/// What a start or an end gets where a tree is changed for one that was just opened and has room.
+fn refusal_with_sound(store: &Store, tree: usize, call: Call) -> u8 {
+    let (mut changed, mut opened) = (store.clone(), Store::lent(ROOM, ROOM));
+    by_port(&mut opened, Call::Open);
+    changed.head.uses[tree] = opened.head.uses[tree];
+    changed.trees[tree] = opened.trees[tree].clone();
+    by_port(&mut changed, call).refusal
+}
+
+/// What a start or an end gets of its own tree, and of that of time.
+fn refusals_of_trees(store: &Store, call: Call) -> (u8, u8) {
+    let own = if matches!(call, Call::Start { .. }) { STARTS } else { ENDS };
+    (refusal_with_sound(store, TIME, call), refusal_with_sound(store, own, call))
+}
+
 /// A call by the library and by the port, each on a copy of the store, which becomes what the port leaves.
 fn try_call(seed: u64, call: Call, before: &mut Store, [library, port]: [&mut Store; 2], counts: &mut Counts) {
     let found = by_library(library, call);
     let wanted = by_port(port, call);
     *counts.refusals.entry(wanted.refusal).or_default() += 1;
-    let writes = wanted.refusal == 0 && matches!(call, Call::Open | Call::Start { .. } | Call::End { .. });
+    let writes = wanted.refusal == 0 && call.writes();
     let kept = if writes { library == port } else { library == before && port == before };
     let set = wanted.refusal == 0 || found == Answer::unset(found.refusal);
     let same = found == wanted && kept && set;
     counts.judge(same, || format!("store {seed}, {call:?}: {found:?}, not {wanted:?}; memory as it should be: {kept}"));
-    counts.beside_spoiled += u64::from(wanted.refusal == 0 && is_beside_spoiled(port, call));
+    if wanted.refusal == 0 && !writes {
+        counts.count_read(port, call);
+    }
+    if matches!(wanted.refusal, 26..=28) && call.writes() {
+        let of_trees @ (own, time) = refusals_of_trees(before, call);
+        let lowest = if own == 0 || time != 0 && time < own { time } else { own };
+        counts.judge(lowest == wanted.refusal, || format!("store {seed}, {call:?}: {} of two trees that give {own} and {time}", wanted.refusal));
+        *counts.of_two_trees.entry(of_trees).or_default() += 1;
+    }
     if writes {
         counts.written += 1;
         counts.clicks += u64::from(is_click(before, call));
-        let (after, earlier) = (&port.head, &before.head);
-        counts.split += u64::from(after.start_pages_used > earlier.start_pages_used || after.end_pages_used > earlier.end_pages_used);
+        counts.split += u64::from(port.head.uses.iter().zip(&before.head.uses).any(|(after, earlier)| after.pages > earlier.pages));
         before.clone_from(port);
     } else if !kept {
         port.clone_from(before);
@@ -287,7 +343,11 @@ fn try_call(seed: u64, call: Call, before: &mut Store, [library, port]: [&mut St
 /// A store with its calls, its packets, its bursts and its register blocks.
 fn try_store(seed: u64, counts: &mut Counts) {
     let mut random = Random(seed);
-    let mut before = if random.one_in(3) { made::grown(&mut random) } else { made::random_trees(&mut random) };
+    let mut before = match random.below(12) {
+        0..=3 => made::grown(&mut random),
+        4 => made::crowded(&mut random),
+        _ => made::random_trees(&mut random),
+    };
     for _ in 0..random.below(3) {
         made::spoil(&mut random, &mut before);
     }
@@ -327,7 +387,8 @@ fn main() {
     for seed in 0..stores {
         try_store(seed, &mut counts);
     }
-    let Counts { compared, differed, written, split, clicks, beside_spoiled, refusals, in_bursts, in_blocks } = counts;
+    let Counts { compared, differed, written, split, clicks, refusals, in_bursts, in_blocks, of_two_trees, .. } = counts;
+    let beside = [counts.beside_spoiled, counts.time_beside_spoiled, counts.beside_spoiled_time];
     println!(
         "spoiled: {} bursts, {} refused with 31, {} with an event accepted after one that the state refused; events by what they got: {}",
         BURSTS * stores, in_bursts.refused, in_bursts.accepted_later, listed(in_bursts.results.into_iter())
@@ -337,11 +398,15 @@ fn main() {
         "spoiled: {} writes to register blocks, {} of them of no command; commands by their status: {}; {} left with 64 open",
         WRITES * stores, in_blocks.others, listed(in_blocks.statuses.into_iter()), in_blocks.all_open
     );
+    let different: Vec<(String, u64)> = PAIRS.iter().map(|pair| (format!("{} and {}", pair.0, pair.1), of_two_trees.get(pair).copied().unwrap_or(0))).collect();
+    let all_pairs = different.iter().all(|pair| pair.1 > 0);
+    println!("spoiled: starts and ends refused by their own tree and by that of time: {}", listed(different.into_iter()));
     println!(
-        "spoiled: {stores} stores, {written} accepted writes, {split} of them with splits and {clicks} of them clicks, {beside_spoiled} questions from \
-         tick 0 answered beside a spoiled tree of ends, refusals {}, {} packets: {compared} compared, {differed} differed",
-        listed(refusals.into_iter().filter(|seen| seen.0 != 0)), PACKETS * stores
+        "spoiled: {stores} stores, {written} accepted writes, {split} of them with splits and {clicks} of them clicks; {} questions from tick 0 answered \
+         beside a spoiled tree of ends, {} bat-times beside a spoiled tree of starts or ends, {} questions beside one of time; refusals {}, {} packets: \
+         {compared} compared, {differed} differed",
+        beside[0], beside[1], beside[2], listed(refusals.into_iter().filter(|seen| seen.0 != 0)), PACKETS * stores
     );
-    let all_reached = in_bursts.accepted_later > 0 && accepted > 0 && in_blocks.all_open > 0 && in_blocks.others > 0 && clicks > 0 && beside_spoiled > 0;
+    let all_reached = [in_bursts.accepted_later, accepted, in_blocks.all_open, in_blocks.others, clicks].iter().chain(&beside).all(|&times| times > 0) && all_pairs;
     std::process::exit(i32::from(differed != 0 || !all_reached));
 }

@@ -58,10 +58,10 @@ struct stream {
     int stopped;
 };
 
-/* "the program's own tables hold 12 pages a tree and 12 roots" */
+/* "the program's tables shrink to 10 pages and 10 roots a tree" (document 02, Paper 4) */
 static inline void lend_program_store(struct nimbleshale_store *store)
 {
-    lend_store(store, NIMBLESHALE_TABLE_WORDS(12), 12, NIMBLESHALE_TABLE_WORDS(12), 12);
+    lend_pages(store, 10, 10);
 }
 
 static inline uint32_t operand(const unsigned char *bytes, int count)
@@ -78,21 +78,24 @@ static inline void put_number(struct stream *stream, uint64_t number, int bytes)
 /* The bytes of a command, by the first; 1 for a byte that begins none. */
 static inline size_t command_length(unsigned char first)
 {
-    return first == 1 || first == 2 ? 9 : first == 3 ? 13 : 1;
+    return first == 1 || first == 2 ? 9 : first == 3 || first == 4 ? 13 : 1;
 }
 
 /* A command that has come whole: the call, and its answer. */
 static inline void make_command(struct stream *stream, int kind, const unsigned char *at)
 {
     struct nimbleshale_totals totals = {0, 0, 0};
+    struct nimbleshale_time time = {0, 0};
     uint32_t number = 0;
     uint8_t refusal;
     if (kind == 1)
         refusal = nimbleshale_store_start(&stream->store, operand(at, 4), operand(at + 4, 2), operand(at + 6, 2), &number);
     else if (kind == 2)
         refusal = nimbleshale_store_end(&stream->store, operand(at, 4), operand(at + 4, 4));
-    else
+    else if (kind == 3)
         refusal = nimbleshale_store_question(&stream->store, operand(at, 2), operand(at + 2, 2), operand(at + 4, 4), operand(at + 8, 4), &totals);
+    else
+        refusal = nimbleshale_store_bat_time(&stream->store, operand(at, 2), operand(at + 2, 2), operand(at + 4, 4), operand(at + 8, 4), &time);
     put_number(stream, refusal, 1);
     if (refusal != 0)
         return;
@@ -103,6 +106,10 @@ static inline void make_command(struct stream *stream, int kind, const unsigned 
         put_number(stream, totals.sum, 8);
         put_number(stream, totals.pages, 1);
     }
+    if (kind == 4) {
+        put_number(stream, time.total, 8);
+        put_number(stream, time.pages, 1);
+    }
 }
 
 /* One command; 0 where nothing more is read. */
@@ -111,7 +118,7 @@ static inline int run_command(struct stream *stream)
     const unsigned char *at = stream->input;
     const size_t length = command_length(at[0]);
     stream->commands++;
-    if (at[0] < 1 || at[0] > 3) {
+    if (at[0] < 1 || at[0] > 4) {
         stream->left -= 1;
         put_number(stream, NIMBLESHALE_REFUSED_COMMAND, 1);
         return 0;

@@ -16,7 +16,7 @@ use through::{answers_in_turn, written};
 /// More commands than a number of 16 bits counts.
 const LONG: usize = 70_000;
 
-/// Streams of at most so many bytes are written slowly, with a pause after each piece of at most so many bytes.
+/// How long a stream may be that is written slowly, in bytes; how long its pieces are, and the pause after each.
 const SHORT: usize = 1_000;
 const LARGEST_PIECE: u32 = 20;
 const PAUSE: Duration = Duration::from_micros(50);

@@ -28,7 +28,7 @@ impl Drop for Running {
     }
 }
 
-/// What the program writes for an input that comes in pieces, or nothing if it fails. At most so many bytes are read: then the program is ended,
+/// What the program writes for an input that comes in pieces, or nothing if it fails. A program that writes more bytes than it may is ended,
 /// and fails.
 pub fn written(program: &str, pieces: Vec<Vec<u8>>, pause: Duration, most: usize) -> Option<Vec<u8>> {
     let (mut running, mut stdin, stdout) = Running::start(program)?;

@@ -1,6 +1,7 @@
 //! What the words of a grown store say: paths, heights, and the room that an entry lacks.
 
 use crate::library::{by_library, Answer, Call, Store, PAGE_WORDS};
+use port::{ENDS, STARTS, TIME};
 use std::collections::BTreeSet;
 
 /// One tree of a store, as its words say.
@@ -12,12 +13,9 @@ pub struct Tree<'a> {
 }
 
 impl Tree<'_> {
-    pub fn starts(store: &Store) -> Tree<'_> {
-        Tree { table: &store.start_table, list: &store.start_roots, pages: store.head.start_pages_used, roots: store.head.start_roots_used }
-    }
-
-    pub fn ends(store: &Store) -> Tree<'_> {
-        Tree { table: &store.end_table, list: &store.end_roots, pages: store.head.end_pages_used, roots: store.head.end_roots_used }
+    pub fn of(store: &Store, tree: usize) -> Tree<'_> {
+        let (slices, used) = (&store.trees[tree], store.head.uses[tree]);
+        Tree { table: &slices.table, list: &slices.roots, pages: used.pages, roots: used.roots }
     }
 
     fn left(&self) -> u32 {
@@ -57,37 +55,52 @@ impl Tree<'_> {
     }
 }
 
-/// The pages that a question or a lookup opens.
-pub fn pages_opened(store: &Store, call: Call) -> u32 {
-    let (starts, ends) = (Tree::starts(store), Tree::ends(store));
+/// Puts the pages that a question, a bat-time or a lookup opens into its answer.
+pub fn put_pages(store: &Store, call: Call, answer: &mut Answer) {
+    // The lookups of a band and an interval: in one tree before t2, in another or the same before t1.
+    let opened = |later: usize, earlier: usize, k1: u32, k2: u32, t1: u32, t2: u32| {
+        let before = |tree: usize, t: u32, k: u32| if t == 0 || k == 0 { 0 } else { Tree::of(store, tree).path(t - 1, k - 1) };
+        before(later, t2, k2) + before(earlier, t1, k2) + before(later, t2, k1) + before(earlier, t1, k1)
+    };
     match call {
-        Call::Question { k1, k2, t1, t2 } => {
-            let up_to = |k: u32| starts.path(t2 - 1, k) + if t1 == 0 { 0 } else { ends.path(t1 - 1, k) };
-            up_to(k2 - 1) + if k1 == 0 { 0 } else { up_to(k1 - 1) }
-        }
-        Call::LookupStarts { t, k } => starts.path(t, k),
-        Call::LookupEnds { t, k } => ends.path(t, k),
-        _ => Answer::unset(0).totals.pages,
+        Call::Question { k1, k2, t1, t2 } => answer.totals.pages = opened(STARTS, ENDS, k1, k2, t1, t2),
+        Call::BatTime { k1, k2, t1, t2 } => answer.time.pages = opened(TIME, TIME, k1, k2, t1, t2),
+        Call::Lookup { tree, t, k } => answer.totals.pages = Tree::of(store, tree).path(t, k),
+        Call::Open | Call::Start { .. } | Call::End { .. } => (),
     }
 }
 
-/// Whether 27 or 28 was the right refusal: with more room the call is accepted, and shows how many pages and root entries it makes.
-pub fn lacks_room(store: &Store, call: Call, refusal: u8) -> bool {
+/// What a start or an end lacks in a tree that it writes.
+#[derive(Clone, Copy)]
+pub struct Lack {
+    pub pages: bool,
+    pub root: bool,
+}
+
+/// What a start or an end lacks in the tree of its own and in that of time. With more room it is accepted, and shows how many pages and root entries it
+/// makes; nothing where it is refused even so.
+pub fn lacks(store: &Store, call: Call) -> Option<[Lack; 2]> {
     let mut roomy = store.clone();
-    for table in [&mut roomy.start_table, &mut roomy.end_table] {
-        table.truncate(table.len() / PAGE_WORDS * PAGE_WORDS);
-        table.resize(table.len() + 7 * PAGE_WORDS, 0);
+    for slices in &mut roomy.trees {
+        let whole = slices.table.len() / PAGE_WORDS;
+        slices.table.truncate(PAGE_WORDS * whole);
+        slices.table.resize(PAGE_WORDS * (whole + 7), 0);
+        slices.roots.push(0);
     }
-    roomy.start_roots.push(0);
-    roomy.end_roots.push(0);
     if by_library(&mut roomy, call).refusal != 0 {
-        return false;
+        return None;
     }
-    let (before, after) = match call {
-        Call::Start { .. } => (Tree::starts(store), Tree::starts(&roomy)),
-        _ => (Tree::ends(store), Tree::ends(&roomy)),
-    };
-    let lacks_pages = after.pages - before.pages > before.left();
-    let lacks_root = after.roots > before.roots && before.roots as usize == before.list.len();
-    refusal == 27 && lacks_pages || refusal == 28 && !lacks_pages && lacks_root
+    let own = if matches!(call, Call::Start { .. }) { STARTS } else { ENDS };
+    Some([own, TIME].map(|tree| {
+        let (before, after) = (Tree::of(store, tree), Tree::of(&roomy, tree));
+        Lack { pages: after.pages - before.pages > before.left(), root: after.roots > before.roots && before.roots as usize == before.list.len() }
+    }))
+}
+
+/// Whether 27 or 28 was the right refusal: 27 where pages lack in any of the two trees, and else 28 where a root entry does.
+pub fn is_right(lacks: Option<[Lack; 2]>, refusal: u8) -> bool {
+    lacks.is_some_and(|lacks| {
+        let (pages, root) = (lacks.iter().any(|lack| lack.pages), lacks.iter().any(|lack| lack.root));
+        refusal == 27 && pages || refusal == 28 && !pages && root
+    })
 }

@@ -19,10 +19,12 @@ static const char *file_name;
 static unsigned long line_number, turn;
 static char text[256];
 
-/* The trial that is at hand, if one is: its store and its register block, whether memory is lent to it yet, and what was compared before it began. */
+/* The trial that is at hand, if one is: its store and its register block, whether memory is lent to it yet, which tree its looks and writes are of, and
+ * what was compared before it began. */
 static int is_begun, is_lent;
 static struct nimbleshale_store store;
 static uint8_t *block;
+static enum { OF_STARTS, OF_ENDS, OF_TIME } tree;
 static unsigned long compared_before;
 
 /* A step that cannot be taken. */
@@ -58,18 +60,20 @@ static void expect(const char *what, uint64_t found, uint64_t wanted)
 }
 
 /* The calls, with how many arguments each has. */
-enum call { OPEN, START, END, QUESTION, LOOKUP_STARTS, LOOKUP_ENDS };
+enum call { OPEN, START, END, QUESTION, BAT_TIME, LOOKUP_STARTS, LOOKUP_ENDS, LOOKUP_TIME };
 
-static const size_t arguments[] = {0, 3, 2, 4, 2, 2};
+static const size_t arguments[] = {0, 3, 2, 4, 4, 2, 2, 2};
 
 /* What a call answers. A result that it does not give stays as it was. */
 struct answer {
     uint8_t refusal;
     uint32_t number;
     struct nimbleshale_totals totals;
+    struct nimbleshale_time time;
+    struct nimbleshale_line line;
 };
 
-static const struct answer no_result = {0, UNTOUCHED, {UNTOUCHED, UNTOUCHED, UNTOUCHED}};
+static const struct answer no_result = {0, UNTOUCHED, {UNTOUCHED, UNTOUCHED, UNTOUCHED}, {UNTOUCHED, UNTOUCHED}, {UNTOUCHED, UNTOUCHED, UNTOUCHED}};
 
 static struct answer make(enum call call, const uint32_t *given)
 {
@@ -79,8 +83,10 @@ static struct answer make(enum call call, const uint32_t *given)
     case START: found.refusal = nimbleshale_store_start(&store, given[0], given[1], given[2], &found.number); break;
     case END: found.refusal = nimbleshale_store_end(&store, given[0], given[1]); break;
     case QUESTION: found.refusal = nimbleshale_store_question(&store, given[0], given[1], given[2], given[3], &found.totals); break;
+    case BAT_TIME: found.refusal = nimbleshale_store_bat_time(&store, given[0], given[1], given[2], given[3], &found.time); break;
     case LOOKUP_STARTS: found.refusal = nimbleshale_store_lookup_starts(&store, given[0], given[1], &found.totals); break;
     case LOOKUP_ENDS: found.refusal = nimbleshale_store_lookup_ends(&store, given[0], given[1], &found.totals); break;
+    case LOOKUP_TIME: found.refusal = nimbleshale_store_lookup_time(&store, given[0], given[1], &found.line); break;
     }
     return found;
 }
@@ -96,8 +102,19 @@ static void try_call(enum call call, const uint32_t *given, const struct answer 
     expect("count", found.totals.count, wanted->totals.count);
     expect("sum", found.totals.sum, wanted->totals.sum);
     expect("pages opened", found.totals.pages, wanted->totals.pages);
+    expect("total", found.time.total, wanted->time.total);
+    expect("pages opened", found.time.pages, wanted->time.pages);
+    expect("factor", found.line.factor, wanted->line.factor);
+    expect("constant", found.line.constant, wanted->line.constant);
+    expect("pages opened", found.line.pages, wanted->line.pages);
     if (wanted->refusal != 0 || call >= QUESTION)
         expect("digest of head and memory", digest_store(&store), before);
+}
+
+/* A wide number of a step, which takes two places: its lower half and its upper half. */
+static uint64_t wide(const uint32_t *n)
+{
+    return n[0] + ((uint64_t)n[1] << 32);
 }
 
 /* A call with its arguments, and then what it answers. */
@@ -105,12 +122,23 @@ static void try_accepted(enum call call, const uint32_t *numbers)
 {
     const uint32_t *results = numbers + arguments[call];
     struct answer wanted = no_result;
-    if (call == START)
-        wanted.number = results[0];
-    if (call >= QUESTION) {
+    switch (call) {
+    case OPEN: case END: break;
+    case START: wanted.number = results[0]; break;
+    case QUESTION: case LOOKUP_STARTS: case LOOKUP_ENDS:
         wanted.totals.count = results[0];
         wanted.totals.sum = results[1];
         wanted.totals.pages = results[2];
+        break;
+    case BAT_TIME:
+        wanted.time.total = wide(results);
+        wanted.time.pages = results[2];
+        break;
+    case LOOKUP_TIME:
+        wanted.line.factor = wide(results);
+        wanted.line.constant = wide(results + 2);
+        wanted.line.pages = results[4];
+        break;
     }
     try_call(call, numbers, &wanted);
 }
@@ -124,13 +152,29 @@ static void try_refused(enum call call, const uint32_t *numbers)
     try_call(call, numbers, &wanted);
 }
 
-/* starts N tick T by D key K by S: of weight 100 */
-static void try_starts(const uint32_t *n)
+/* starts N tick T by D key K by S weight W */
+static void try_weighed(const uint32_t *n)
 {
     for (turn = 1; turn <= n[0]; turn++) {
         uint32_t at = (uint32_t)turn - 1;
-        uint32_t numbers[4] = {n[1] + at * n[2], n[3] + at * n[4], 100, store.started};
+        uint32_t numbers[4] = {n[1] + at * n[2], n[3] + at * n[4], n[5], store.head[NIMBLESHALE_HEAD_STARTED]};
         try_accepted(START, numbers);
+    }
+}
+
+/* starts N tick T by D key K by S: of weight 100 */
+static void try_starts(const uint32_t *n)
+{
+    const uint32_t numbers[6] = {n[0], n[1], n[2], n[3], n[4], 100};
+    try_weighed(numbers);
+}
+
+/* ends N tick T by D number P: of the passes numbered on from P */
+static void try_ends(const uint32_t *n)
+{
+    for (turn = 1; turn <= n[0]; turn++) {
+        uint32_t at = (uint32_t)turn - 1, numbers[2] = {n[1] + at * n[2], n[3] + at};
+        try_accepted(END, numbers);
     }
 }
 
@@ -139,7 +183,7 @@ static void try_scattered(const uint32_t *n)
 {
     for (turn = 1; turn <= n[0]; turn++) {
         uint32_t at = (uint32_t)turn - 1, point = n[3] + at;
-        uint32_t numbers[4] = {n[1] + at * n[2], point % 30000 * 7919 % 30000, point, store.started};
+        uint32_t numbers[4] = {n[1] + at * n[2], point % 30000 * 7919 % 30000, point, store.head[NIMBLESHALE_HEAD_STARTED]};
         try_accepted(START, numbers);
     }
 }
@@ -216,7 +260,7 @@ static void queue_ends(const uint32_t *n)
 /* The result words of a burst, which hold 900 + place before it. */
 static uint64_t list[NIMBLESHALE_RESULT_WORDS * MOST_QUEUED + WORDS_BEHIND];
 
-/* Hands over so many bytes of the queue and so many result words. */
+/* Hands over bytes of the front of the queue, and result words. */
 static uint8_t make_burst(uint32_t bytes, uint32_t words)
 {
     uint8_t *events, refusal;
@@ -237,8 +281,8 @@ static uint8_t make_burst(uint32_t bytes, uint32_t words)
     return refusal;
 }
 
-/* burst bytes B words W: so many bytes of the front of the queue, which are then gone from it, and so many result words. Each event gets what was
- * said when it was queued. */
+/* burst bytes B words W: bytes of the front of the queue, which are then gone from it, and result words. Each event gets what was said when it was
+ * queued. */
 static void try_burst_of(const uint32_t *n)
 {
     const uint32_t events = n[0] / NIMBLESHALE_EVENT_BYTES;
@@ -321,7 +365,7 @@ static void reset_block(const uint32_t *n)
     nimbleshale_block_reset(block);
 }
 
-/* A number of so many bytes, the lowest first, from an operand on. */
+/* A number in several bytes, the lowest first, from an operand on. */
 static uint32_t poke_number(uint32_t offset, uint32_t number, uint32_t bytes)
 {
     uint32_t at;
@@ -343,7 +387,7 @@ static void put_end(const uint32_t *n)
     poke_number(poke_number(NIMBLESHALE_BLOCK_OPERANDS, n[0], 4), n[1], 4);
 }
 
-/* operands question K1 K2 T1 T2 */
+/* operands question K1 K2 T1 T2: those of a bat-time, too */
 static void put_question(const uint32_t *n)
 {
     uint32_t at = poke_number(NIMBLESHALE_BLOCK_OPERANDS, n[0], 2);
@@ -358,7 +402,7 @@ static void run_command(const uint32_t *n)
     poke_byte(NIMBLESHALE_BLOCK_COMMAND, checked_byte(n[0]));
     expect("status", peek_byte(NIMBLESHALE_BLOCK_STATUS), n[1]);
     expect("flags", peek_byte(NIMBLESHALE_BLOCK_FLAGS), n[2]);
-    if (n[1] != 0 || n[0] == NIMBLESHALE_COMMAND_QUESTION)
+    if (n[1] != 0 || n[0] == NIMBLESHALE_COMMAND_QUESTION || n[0] == NIMBLESHALE_COMMAND_BAT_TIME)
         expect("digest of head and memory", digest_store(&store), before);
 }
 
@@ -394,12 +438,47 @@ static void see_result_totals(const uint32_t *n)
     expect("pages opened", number_of_result(16, 1), n[2]);
 }
 
-/* A word of a page, or of a row of it, in the table of starts. */
+static void see_result_time(const uint32_t *n)
+{
+    expect("total", number_of_result(0, 8), wide(n));
+    expect("pages opened", number_of_result(8, 1), n[2]);
+    see_zeros(9);
+}
+
+/* Which tree the steps that look at one, or write one by hand, are of. */
+
+static void take_starts(const uint32_t *n)
+{
+    (void)n;
+    tree = OF_STARTS;
+}
+
+static void take_ends(const uint32_t *n)
+{
+    (void)n;
+    tree = OF_ENDS;
+}
+
+static void take_time(const uint32_t *n)
+{
+    (void)n;
+    tree = OF_TIME;
+}
+
+/* A number of the head that a tree has: the pages that it uses, and behind it the roots. */
+static uint32_t *used_of_tree(void)
+{
+    return store.head + NIMBLESHALE_HEAD_START_PAGES + 2 * tree;
+}
+
+/* A word of a page, or of a row of it, in the tree's table. */
 static uint64_t *page_word(uint32_t page, uint32_t word)
 {
-    if (page >= store.start_table_length / NIMBLESHALE_PAGE_WORDS)
+    uint64_t *const tables[3] = {store.start_table, store.end_table, store.time_table};
+    const size_t lengths[3] = {store.start_table_length, store.end_table_length, store.time_table_length};
+    if (page >= lengths[tree] / NIMBLESHALE_PAGE_WORDS)
         fault("no such page");
-    return store.start_table + NIMBLESHALE_TABLE_WORDS(page) + word;
+    return tables[tree] + NIMBLESHALE_TABLE_WORDS(page) + word;
 }
 
 static uint64_t *row_word(uint32_t page, uint32_t place, uint32_t word)
@@ -420,8 +499,8 @@ static uint32_t checked_place(uint32_t place)
 
 static void see_used(const uint32_t *n)
 {
-    expect("pages used", store.start_pages_used, n[0]);
-    expect("roots used", store.start_roots_used, n[1]);
+    expect("pages used", used_of_tree()[0], n[0]);
+    expect("roots used", used_of_tree()[1], n[1]);
 }
 
 static void see_level(const uint32_t *n)
@@ -444,16 +523,18 @@ static void see_row(const uint32_t *n)
 
 static void see_value(const uint32_t *n)
 {
-    expect("count", *row_word(n[0], n[1], 2), n[2]);
-    expect("sum", *row_word(n[0], n[1], 3), n[3]);
+    expect("count, or factor", *row_word(n[0], n[1], 2), wide(n + 2));
+    expect("sum, or constant", *row_word(n[0], n[1], 3), wide(n + 4));
 }
 
 static void see_root(const uint32_t *n)
 {
-    if (n[0] >= store.start_roots_length)
+    const uint64_t *const lists[3] = {store.start_roots, store.end_roots, store.time_roots};
+    const size_t lengths[3] = {store.start_roots_length, store.end_roots_length, store.time_roots_length};
+    if (n[0] >= lengths[tree])
         fault("no such root entry");
-    expect("birth", store.start_roots[n[0]] % 4294967296u, n[1]);
-    expect("page", store.start_roots[n[0]] >> 32, n[2]);
+    expect("birth", lists[tree][n[0]] % 4294967296u, n[1]);
+    expect("page", lists[tree][n[0]] >> 32, n[2]);
 }
 
 static void see_pass(const uint32_t *n)
@@ -469,8 +550,8 @@ static void see_pass(const uint32_t *n)
 
 static void write_used(const uint32_t *n)
 {
-    store.start_pages_used = n[0];
-    store.start_roots_used = n[1];
+    used_of_tree()[0] = n[0];
+    used_of_tree()[1] = n[1];
 }
 
 /* A page's header: page, level, rows, low key, high key. It is born at 0. */
@@ -525,35 +606,44 @@ static void write_pairs(const uint32_t *n)
 
 static void write_last(const uint32_t *n)
 {
-    store.last = n[0];
+    store.head[NIMBLESHALE_HEAD_LAST] = n[0];
 }
 
 static void write_started(const uint32_t *n)
 {
-    store.started = n[0];
+    store.head[NIMBLESHALE_HEAD_STARTED] = n[0];
 }
 
 static void write_open(const uint32_t *n)
 {
-    store.count_open = n[0];
+    store.head[NIMBLESHALE_HEAD_OPEN] = n[0];
 }
 
 static void write_pass(const uint32_t *n)
 {
-    memcpy(store.passes + 4 * checked_place(n[0]), n + 1, 4 * sizeof *n);
+    memcpy(store.head + NIMBLESHALE_HEAD_PASSES + 4 * checked_place(n[0]), n + 1, 4 * sizeof *n);
+}
+
+/* memory starts PAGES ROOTS ends PAGES ROOTS time PAGES ROOTS */
+static void lend_trees(const uint32_t *n)
+{
+    int at;
+    for (at = 0; at < 6; at++)
+        if (is_lent || !is_begun || n[at] > 1000)
+            fault("no memory can be lent");
+    lend_store(&store, NIMBLESHALE_TABLE_WORDS(n[0]), n[1], NIMBLESHALE_TABLE_WORDS(n[2]), n[3], NIMBLESHALE_TABLE_WORDS(n[4]), n[5]);
+    block = lend(NIMBLESHALE_BLOCK_BYTES);
+    is_lent = 1;
 }
 
 /* memory PAGES ROOTS: for each tree */
 static void lend_memory(const uint32_t *n)
 {
-    if (is_lent || !is_begun || n[0] > 1000 || n[1] > 1000)
-        fault("no memory can be lent");
-    lend_store(&store, NIMBLESHALE_TABLE_WORDS(n[0]), n[1], NIMBLESHALE_TABLE_WORDS(n[0]), n[1]);
-    block = lend(NIMBLESHALE_BLOCK_BYTES);
-    is_lent = 1;
+    const uint32_t numbers[6] = {n[0], n[1], n[0], n[1], n[0], n[1]};
+    lend_trees(numbers);
 }
 
-/* Every step: its words, with # for a number, and what it does. First the calls. */
+/* Every step: its words, with # for a number and @ for a wide one, and what it does. First the calls. */
 static const struct {
     const char *words;
     enum call call;
@@ -567,10 +657,14 @@ static const struct {
     {"end # # refused #", END, try_refused},
     {"question # # # # = # # #", QUESTION, try_accepted},
     {"question # # # # refused #", QUESTION, try_refused},
+    {"battime # # # # = @ #", BAT_TIME, try_accepted},
+    {"battime # # # # refused #", BAT_TIME, try_refused},
     {"lookup starts # # = # # #", LOOKUP_STARTS, try_accepted},
     {"lookup starts # # refused #", LOOKUP_STARTS, try_refused},
     {"lookup ends # # = # # #", LOOKUP_ENDS, try_accepted},
     {"lookup ends # # refused #", LOOKUP_ENDS, try_refused},
+    {"lookup time # # = @ @ #", LOOKUP_TIME, try_accepted},
+    {"lookup time # # refused #", LOOKUP_TIME, try_refused},
 };
 
 static const struct {
@@ -578,7 +672,10 @@ static const struct {
     void (*obey)(const uint32_t *);
 } other_forms[] = {
     {"memory # #", lend_memory},
+    {"memory starts # # ends # # time # #", lend_trees},
     {"starts # tick # by # key # by #", try_starts},
+    {"starts # tick # by # key # by # weight #", try_weighed},
+    {"ends # tick # by # number #", try_ends},
     {"scattered # tick # by # point #", try_scattered},
     {"lookups starts # tick # key # by # = # # # by #", try_lookups},
     {"queue start # # # = #", queue_start},
@@ -602,11 +699,15 @@ static const struct {
     {"result none", see_no_result},
     {"result number #", see_result_number},
     {"result totals # # #", see_result_totals},
+    {"result time @ #", see_result_time},
+    {"tree starts", take_starts},
+    {"tree ends", take_ends},
+    {"tree time", take_time},
     {"used # #", see_used},
     {"level # = #", see_level},
     {"rows # = #", see_rows},
     {"row # # = # # child #", see_row},
-    {"value # # = # #", see_value},
+    {"value # # = @ @", see_value},
     {"root # = # #", see_root},
     {"pass # = # # # #", see_pass},
     {"write used # #", write_used},
@@ -629,6 +730,19 @@ static int number_of(const char *word, uint32_t *number)
     return length <= 10 && strspn(word, "0123456789") == length && value <= 4294967295u;
 }
 
+/* A number of up to 64 bits. One with a minus before it stands for what it is modulo 2^64. */
+static int wide_number_of(const char *word, uint32_t *halves)
+{
+    const char *digits = word[0] == '-' ? word + 1 : word;
+    size_t length = strlen(digits);
+    uint64_t value = strtoull(digits, NULL, 10);
+    if (digits != word)
+        value = 0 - value;
+    halves[0] = (uint32_t)(value & 4294967295u);
+    halves[1] = (uint32_t)(value >> 32);
+    return length > 0 && length <= 19 && strspn(digits, "0123456789") == length;
+}
+
 /* Whether the words of a line are those of a form, with its numbers. */
 static int matches(const char *form, char **words, size_t count, uint32_t *numbers)
 {
@@ -637,15 +751,24 @@ static int matches(const char *form, char **words, size_t count, uint32_t *numbe
         length = strcspn(form, " ");
         if (at == count)
             return 0;
-        if (*form == '#' ? !number_of(words[at], numbers++) : strlen(words[at]) != length || strncmp(words[at], form, length) != 0)
+        if (*form == '#') {
+            if (!number_of(words[at], numbers))
+                return 0;
+            numbers++;
+        } else if (*form == '@') {
+            if (!wide_number_of(words[at], numbers))
+                return 0;
+            numbers += 2;
+        } else if (strlen(words[at]) != length || strncmp(words[at], form, length) != 0) {
             return 0;
+        }
     }
     return at == count;
 }
 
 static void obey(char **words, size_t count)
 {
-    uint32_t numbers[MOST_WORDS];
+    uint32_t numbers[2 * MOST_WORDS];
     size_t at;
     turn = 0;
     if (!is_lent && strcmp(words[0], "memory") != 0)
@@ -691,6 +814,7 @@ static void take_line(void)
         end_trial();
         trials++;
         is_begun = 1;
+        tree = OF_STARTS;
         compared_before = compared;
         return;
     }

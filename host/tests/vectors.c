@@ -33,18 +33,17 @@ static size_t numbers_of(const char *text, int base, uint64_t *numbers, size_t l
     }
 }
 
+/* The numbers of an S line in their places. It has the open passes before what the trees use, and the head behind it. */
 static void load_head(struct nimbleshale_store *store, const uint64_t *numbers)
 {
+    const size_t uses = NIMBLESHALE_HEAD_PASSES - NIMBLESHALE_HEAD_START_PAGES, passes = NIMBLESHALE_HEAD_NUMBERS - NIMBLESHALE_HEAD_PASSES;
     size_t at;
-    store->last = (uint32_t)numbers[0];
-    store->started = (uint32_t)numbers[1];
-    store->count_open = (uint32_t)numbers[2];
-    for (at = 0; at < NIMBLESHALE_PASS_NUMBERS; at++)
-        store->passes[at] = (uint32_t)numbers[3 + at];
-    store->start_pages_used = (uint32_t)numbers[259];
-    store->start_roots_used = (uint32_t)numbers[260];
-    store->end_pages_used = (uint32_t)numbers[261];
-    store->end_roots_used = (uint32_t)numbers[262];
+    for (at = 0; at < NIMBLESHALE_HEAD_START_PAGES; at++)
+        store->head[at] = (uint32_t)numbers[at];
+    for (at = 0; at < passes; at++)
+        store->head[NIMBLESHALE_HEAD_PASSES + at] = (uint32_t)numbers[NIMBLESHALE_HEAD_START_PAGES + at];
+    for (at = 0; at < uses; at++)
+        store->head[NIMBLESHALE_HEAD_START_PAGES + at] = (uint32_t)numbers[NIMBLESHALE_HEAD_START_PAGES + passes + at];
 }
 
 /* A slice with the numbers of a line. */
@@ -57,31 +56,80 @@ static uint64_t *load_slice(const char *text, size_t *length)
     return slice;
 }
 
-/* Makes a call of a trace. The three numbers are those that the trace has after the refusal. */
+/* The slice of a P or R line, of which six follow an S line in the order of the store. Returns 0 where there are more. */
+static int load_next(struct nimbleshale_store *store, size_t place, const char *text)
+{
+    switch (place) {
+    case 0: store->start_table = load_slice(text, &store->start_table_length); return 1;
+    case 1: store->start_roots = load_slice(text, &store->start_roots_length); return 1;
+    case 2: store->end_table = load_slice(text, &store->end_table_length); return 1;
+    case 3: store->end_roots = load_slice(text, &store->end_roots_length); return 1;
+    case 4: store->time_table = load_slice(text, &store->time_table_length); return 1;
+    case 5: store->time_roots = load_slice(text, &store->time_roots_length); return 1;
+    default: return 0;
+    }
+}
+
+/* Three numbers that a trace has after the refusal. */
+static void put_answers(uint64_t *answers, uint64_t first, uint64_t second, uint64_t third)
+{
+    answers[0] = first;
+    answers[1] = second;
+    answers[2] = third;
+}
+
+/* A lookup of a tree, which is its number. */
+static uint8_t look_up(struct nimbleshale_store *store, uint32_t tree, uint32_t t, uint32_t k, uint64_t *answers)
+{
+    struct nimbleshale_totals totals = {UNTOUCHED, UNTOUCHED, UNTOUCHED};
+    struct nimbleshale_line line = {UNTOUCHED, UNTOUCHED, UNTOUCHED};
+    uint8_t refusal;
+    if (tree == 2) {
+        refusal = nimbleshale_store_lookup_time(store, t, k, &line);
+        put_answers(answers, line.factor, line.constant, line.pages);
+        return refusal;
+    }
+    refusal = tree == 0 ? nimbleshale_store_lookup_starts(store, t, k, &totals) : nimbleshale_store_lookup_ends(store, t, k, &totals);
+    put_answers(answers, totals.count, totals.sum, totals.pages);
+    return refusal;
+}
+
+/* Makes a call of a trace. The answers that it does not give are 0; all that a refused one could give stay untouched. */
 static uint8_t call_store(struct nimbleshale_store *store, char kind, const uint64_t *given, uint64_t *answers)
 {
     struct nimbleshale_totals totals = {UNTOUCHED, UNTOUCHED, UNTOUCHED};
+    struct nimbleshale_time time = {UNTOUCHED, UNTOUCHED};
     uint32_t number = UNTOUCHED, a = (uint32_t)given[0], b = (uint32_t)given[1], c = (uint32_t)given[2], d = (uint32_t)given[3];
     uint8_t refusal = 255;
-    answers[0] = answers[1] = answers[2] = 0;
+    put_answers(answers, 0, 0, 0);
     switch (kind) {
     case 'o': return nimbleshale_store_open(store);
     case 'e': return nimbleshale_store_end(store, a, b);
     case 's':
         refusal = nimbleshale_store_start(store, a, b, c, &number);
         answers[0] = number;
-        if (refusal != 0 && number != UNTOUCHED)
-            return 255;
-        return refusal;
-    case 'l': refusal = a == 0 ? nimbleshale_store_lookup_starts(store, b, c, &totals) : nimbleshale_store_lookup_ends(store, b, c, &totals); break;
-    case 'q': refusal = nimbleshale_store_question(store, a, b, c, d, &totals); break;
+        break;
+    case 'l': refusal = look_up(store, a, b, c, answers); break;
+    case 'q':
+        refusal = nimbleshale_store_question(store, a, b, c, d, &totals);
+        put_answers(answers, totals.count, totals.sum, totals.pages);
+        break;
+    case 't':
+        refusal = nimbleshale_store_bat_time(store, a, b, c, d, &time);
+        put_answers(answers, time.total, time.pages, 0);
+        break;
     }
-    answers[0] = totals.count;
-    answers[1] = totals.sum;
-    answers[2] = totals.pages;
-    if (refusal != 0 && (totals.count != UNTOUCHED || totals.sum != UNTOUCHED || totals.pages != UNTOUCHED))
-        return 255;
     return refusal;
+}
+
+/* Whether a refused call wrote none of the numbers that it could have given. */
+static int none_given(char kind, const uint64_t *answers)
+{
+    const size_t given = kind == 's' ? 1 : kind == 't' ? 2 : kind == 'o' || kind == 'e' ? 0 : 3;
+    size_t at = 0;
+    while (at < given && answers[at] == UNTOUCHED)
+        at++;
+    return at == given;
 }
 
 /* A call's line: the call, what it must answer and what it must leave. */
@@ -99,7 +147,8 @@ static void try_call(struct nimbleshale_store *store, const char *line)
     numbers_of(after + 3, 10, &digest, 1);
     refusal = call_store(store, line[0], given, answers);
     judge(refusal == expected[0] && digest_store(store) == digest &&
-              (refusal != 0 || (answers[0] == expected[1] && answers[1] == expected[2] && answers[2] == expected[3])),
+              (refusal != 0 ? none_given(line[0], answers)
+                            : answers[0] == expected[1] && answers[1] == expected[2] && answers[2] == expected[3]),
           line);
 }
 
@@ -184,9 +233,9 @@ static void try_traces(FILE *file)
 {
     struct nimbleshale_store store;
     uint8_t *block = NULL;
-    uint64_t head[263];
+    uint64_t head[NIMBLESHALE_HEAD_NUMBERS];
     char *line = NULL;
-    size_t room = 0, stores = 0, slices = 0, bursts = 0, accesses = 0;
+    size_t room = 0, stores = 0, slices = 0, bursts = 0, accesses = 0, times = 0;
     while (getline(&line, &room, file) > 0) {
         switch (line[0]) {
         case 'S':
@@ -196,20 +245,16 @@ static void try_traces(FILE *file)
             }
             slices = 0;
             block = lend_block();
-            judge(numbers_of(line + 1, 16, head, 263) == 263, line);
+            judge(numbers_of(line + 1, 16, head, NIMBLESHALE_HEAD_NUMBERS) == NIMBLESHALE_HEAD_NUMBERS, line);
             load_head(&store, head);
             break;
         case 'P':
         case 'R':
-            switch (slices++) {
-            case 0: store.start_table = load_slice(line + 1, &store.start_table_length); break;
-            case 1: store.start_roots = load_slice(line + 1, &store.start_roots_length); break;
-            case 2: store.end_table = load_slice(line + 1, &store.end_table_length); break;
-            case 3: store.end_roots = load_slice(line + 1, &store.end_roots_length); break;
-            }
+            judge(load_next(&store, slices++, line + 1), line);
             break;
-        case 'o': case 's': case 'e': case 'l': case 'q':
+        case 'o': case 's': case 'e': case 'l': case 'q': case 't':
             try_call(&store, line);
+            times += line[0] == 't';
             break;
         case 'b':
             try_burst(&store, line);
@@ -228,9 +273,9 @@ static void try_traces(FILE *file)
         give_back(block, NIMBLESHALE_BLOCK_BYTES);
     }
     free(line);
-    printf("vectors: %lu stores, %lu bursts, %lu accesses to register blocks", (unsigned long)stores, (unsigned long)bursts,
-           (unsigned long)accesses);
-    judge(bursts > 0 && accesses > 0, "traces without bursts or without register blocks");
+    printf("vectors: %lu stores, %lu bat-times, %lu bursts, %lu accesses to register blocks", (unsigned long)stores, (unsigned long)times,
+           (unsigned long)bursts, (unsigned long)accesses);
+    judge(times > 0 && bursts > 0 && accesses > 0, "traces without bat-times, without bursts or without register blocks");
 }
 
 static void try_streams(FILE *file)

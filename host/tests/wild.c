@@ -1,4 +1,4 @@
-/* Libraries under the twelve names, and command programs, that the tests must not let pass and must survive. None lives for more than five
+/* Libraries under the fourteen names, and command programs, that the tests must not let pass and must survive. None lives for more than five
  * minutes, in case that the tests fail to end it. What one does is said when it is compiled:
  *
  *   -DANSWER=N    every call answers N
@@ -80,12 +80,22 @@ uint8_t nimbleshale_question(void)
     return called();
 }
 
+uint8_t nimbleshale_bat_time(void)
+{
+    return called();
+}
+
 uint8_t nimbleshale_lookup_starts(void)
 {
     return called();
 }
 
 uint8_t nimbleshale_lookup_ends(void)
+{
+    return called();
+}
+
+uint8_t nimbleshale_lookup_time(void)
 {
     return called();
 }

@@ -1,3 +1,4 @@
 -- Laws of bands.
 pub mod Differences
 pub mod BandLaws
+pub mod BandLookups

@@ -26,18 +26,21 @@ use Rattle.demand.proofs.WholeCommands.{whole-command}
 use Rattle.burst.specs.BurstReplies.{EventsEntered, BurstAs}
 
 -- The event of a place: its bytes are the first of those from there on
-pub event-replies : (s : Store) (bytes : List ℕ) (place : ℕ) → eventBytes * place + eventBytes ≤ length bytes → (operands : List ℕ)
-    → operands ≡ take 8 (drop 1 (drop (eventBytes * place) bytes)) → {e e′ : Event}
-    → ((s : Store) → answerOf s e ≡ answered s operands (eventKind (getD bytes (eventBytes * place) 0))) → e ≡ e′
-    → {r : Reply} {lent : Lent} → RepliedAs (answerOf s e′) r lent
+pub event-replies : (s : Store) (bytes : List ℕ) (place : ℕ) → eventBytes * place + eventBytes ≤ length bytes → {e e′ : Event}
+    → ((s : Store)
+    → answerOf s e
+    ≡ answered s (take (eventBytes * place + eventBytes - (eventBytes * place + 1)) (drop (eventBytes * place + 1) bytes)) (eventKind (getD bytes (eventBytes * place) 0)))
+    → e ≡ e′ → {r : Reply} {lent : Lent} → RepliedAs (answerOf s e′) r lent
     → RepliedAs (answerTo s (firstEvent (drop (eventBytes * place) bytes))) r lent
-event-replies s bytes place inside operands is read same x =
-    let rest : List ℕ = drop (eventBytes * place) bytes in
-    let first : getD rest 0 0 ≡ getD bytes (eventBytes * place) 0 =
-    getD-drop (eventBytes * place) bytes 0 0 ∙ ap (λ (n : ℕ). getD bytes n 0) (add-zero (eventBytes * place)) in
+event-replies s bytes place inside read same x =
+    let at : ℕ = eventBytes * place in
+    let rest : List ℕ = drop at bytes in
+    let first : getD rest 0 0 ≡ getD bytes at 0 = getD-drop at bytes 0 0 ∙ ap (λ (n : ℕ). getD bytes n 0) (add-zero at) in
+    let size : at + eventBytes - (at + 1) ≡ 8 = omega arith in
+    let operands : take (at + eventBytes - (at + 1)) (drop (at + 1) bytes) ≡ take 8 (drop 1 rest) = ap₂ take size (sym (drop-drop 1 at bytes)) in
     let eight : 8 ≤ length (take 8 (drop 1 rest)) = simp (length-take, length-drop) (omega (arith, inside)) in
-    let whole : answered s operands (eventKind (getD bytes (eventBytes * place) 0)) ≡ answerTo s (firstEvent rest) =
-    ap₂ (λ (l : List ℕ) (kind : ℕ). answered s l (eventKind kind)) is (sym first)
+    let whole =
+    ap₂ (λ (l : List ℕ) (kind : ℕ). answered s l (eventKind kind)) operands (sym first)
     ∙ whole-command s (take 8 (drop 1 rest)) (eventKind (getD rest 0 0)) (omega (arith, few-event-operands (getD rest 0 0), eight)) in
     replied (sym whole ∙ sym (read s) ∙ ap (answerOf s) same) x
 

@@ -6,7 +6,6 @@ use events::Event;
 use events::read_event;
 use replies::Reply;
 use store::Head;
-ghost use mathlib.Core.Path.{_≡_};
 ghost use Prim.Native.Nat.{_+_, _*_, _≤_};
 ghost use lib.ListN.{length, drop};
 ghost use Rattle.store.specs.Trees.{Lent, lentOf, Store, storeOf};
@@ -27,13 +26,15 @@ fn enter_event(
     start_roots: &mut [u64],
     end_table: &mut [u64],
     end_roots: &mut [u64],
+    time_table: &mut [u64],
+    time_roots: &mut [u64],
     bytes: &[u8],
     place: usize,
 ) -> Reply
     requires { ⌜ eventBytes * place + eventBytes ≤ length (now bytes) ⌝ }
     ensures { λ r. do
-      let s : Store = storeOf head (now («start_table» .entry)) (now («start_roots» .entry)) (now («end_table» .entry)) (now («end_roots» .entry))
-      let left : Lent = lentOf (now («start_table» .exit)) (now («start_roots» .exit)) (now («end_table» .exit)) (now («end_roots» .exit))
+      let s : Store = storeOf head (now («start_table» .entry)) (now («start_roots» .entry)) (now («end_table» .entry)) (now («end_roots» .entry)) (now («time_table» .entry)) (now («time_roots» .entry))
+      let left : Lent = lentOf (now («start_table» .exit)) (now («start_roots» .exit)) (now («end_table» .exit)) (now («end_roots» .exit)) (now («time_table» .exit)) (now («time_roots» .exit))
       ⌜ RepliedAs (answerTo s (firstEvent (drop (eventBytes * place) (now (bytes .entry))))) r left ⌝ }
 {
     let first = EVENT_BYTES * place;
@@ -47,6 +48,8 @@ fn enter_event(
             start_roots,
             end_table,
             end_roots,
+            time_table,
+            time_roots,
             tick,
             key,
             weight,
@@ -57,6 +60,8 @@ fn enter_event(
             start_roots,
             end_table,
             end_roots,
+            time_table,
+            time_roots,
             tick,
             number,
         ),
@@ -71,14 +76,16 @@ fn enter_events(
     start_roots: &mut [u64],
     end_table: &mut [u64],
     end_roots: &mut [u64],
+    time_table: &mut [u64],
+    time_roots: &mut [u64],
     bytes: &[u8],
     results: &mut [u64],
 ) -> Head
     requires { ⌜ eventCount (now bytes) ≤ mostEvents ⌝ }
     requires { ⌜ eventWords * eventCount (now bytes) ≤ length (now results) ⌝ }
     ensures { λ r. do
-      let s : Store = storeOf head (now («start_table» .entry)) (now («start_roots» .entry)) (now («end_table» .entry)) (now («end_roots» .entry))
-      let left : Lent = lentOf (now («start_table» .exit)) (now («start_roots» .exit)) (now («end_table» .exit)) (now («end_roots» .exit))
+      let s : Store = storeOf head (now («start_table» .entry)) (now («start_roots» .entry)) (now («end_table» .entry)) (now («end_roots» .entry)) (now («time_table» .entry)) (now («time_roots» .entry))
+      let left : Lent = lentOf (now («start_table» .exit)) (now («start_roots» .exit)) (now («end_table» .exit)) (now («end_roots» .exit)) (now («time_table» .exit)) (now («time_roots» .exit))
       ⌜ EventsEntered s (eventsOf (now (bytes .entry))) r (now (results .entry)) (now (results .exit)) left ⌝ }
 {
     let count = bytes.len() / EVENT_BYTES;
@@ -91,6 +98,8 @@ fn enter_events(
             start_roots,
             end_table,
             end_roots,
+            time_table,
+            time_roots,
             bytes,
             place,
         );
@@ -109,12 +118,14 @@ pub fn enter_burst(
     start_roots: &mut [u64],
     end_table: &mut [u64],
     end_roots: &mut [u64],
+    time_table: &mut [u64],
+    time_roots: &mut [u64],
     bytes: &[u8],
     results: &mut [u64],
 ) -> BurstReply
     ensures { λ r. do
-      let s : Store = storeOf head (now («start_table» .entry)) (now («start_roots» .entry)) (now («end_table» .entry)) (now («end_roots» .entry))
-      let left : Lent = lentOf (now («start_table» .exit)) (now («start_roots» .exit)) (now («end_table» .exit)) (now («end_roots» .exit))
+      let s : Store = storeOf head (now («start_table» .entry)) (now («start_roots» .entry)) (now («end_table» .entry)) (now («end_roots» .entry)) (now («time_table» .entry)) (now («time_roots» .entry))
+      let left : Lent = lentOf (now («start_table» .exit)) (now («start_roots» .exit)) (now («end_table» .exit)) (now («end_roots» .exit)) (now («time_table» .exit)) (now («time_roots» .exit))
       ⌜ BurstAs (enterBurst s (now (bytes .entry)) (length (now (results .entry)))) r (now (results .entry)) (now (results .exit)) left ⌝ }
 {
     let refusal = burst_refusal(bytes, results.len());
@@ -127,6 +138,8 @@ pub fn enter_burst(
         start_roots,
         end_table,
         end_roots,
+        time_table,
+        time_roots,
         bytes,
         results,
     );

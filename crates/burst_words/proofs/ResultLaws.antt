@@ -7,7 +7,7 @@ use lib.ListN.{length, set}
 use Rattle.words.specs.Overwrite.{overwrite}
 use Rattle.words.proofs.OverwriteLaws.{overwrite-sets}
 use Rattle.store.specs.declared.types.Answer.{Answer}
-use Rattle.store.specs.declared.types.Answer.the-variants.{Refused, Opened, Started, Ended, Totals}
+use Rattle.store.specs.declared.types.Answer.the-variants.{Refused, Opened, Started, Ended, Totals, BatTime}
 use Rattle.store.specs.Answers.{refusalOf, valuesOf}
 use Rattle.c_numbers.specs.Said.{numberSaid}
 use Rattle.demand.specs.Bursts.{newNumber, resultWords}
@@ -19,6 +19,7 @@ number-new Opened = refl
 number-new (Started number) = refl
 number-new Ended = refl
 number-new (Totals count sum pages) = refl
+number-new (BatTime total pages) = refl
 
 -- An answer's two words, stored one behind the other
 two-set : (l : List ℕ) (at a b : ℕ) → at + 2 ≤ length l → set (set l at a) (at + 1) b ≡ overwrite l at (a ∷ (b ∷ []))

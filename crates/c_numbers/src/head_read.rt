@@ -5,9 +5,18 @@ use tree::TreeUse;
 ghost use mathlib.Core.Path.{_≡_};
 ghost use Prim.Native.Nat.{_+_, _≤_};
 ghost use lib.ListN.{length};
-ghost use Rattle.tree.specs.declared.types.TreeUse.{TreeUse};
-ghost use Rattle.store.specs.Head.{openLimit};
-ghost use Rattle.c_numbers.specs.Heads.{numbersOfPass, passNumbers, passAt, passesFrom, Fields, headOf};
+ghost use Rattle.c_numbers.specs.Heads.{numbersOfPass, headNumbers, useAt, passAt, headOf};
+
+// What a tree uses, in the two numbers from a place on.
+fn read_use(numbers: &[u32], at: usize) -> TreeUse
+    requires { ⌜ at + 2 ≤ length (now numbers) ⌝ }
+    ensures { λ r. ⌜ r ≡ useAt (now (numbers .entry)) at ⌝ }
+{
+    TreeUse {
+        pages: numbers[at],
+        roots: numbers[at + 1],
+    }
+}
 
 // The pass in the four numbers from a place on.
 fn read_pass(numbers: &[u32], at: usize) -> OpenPass
@@ -22,23 +31,10 @@ fn read_pass(numbers: &[u32], at: usize) -> OpenPass
     }
 }
 
-// The head that fields and open passes make. The passes are stored into it one by one: made first and then handed on, all 64 would be copied.
-pub fn head_of(
-    last: u32,
-    started: u32,
-    count: u32,
-    start_pages_used: u32,
-    start_roots_used: u32,
-    end_pages_used: u32,
-    end_roots_used: u32,
-    passes: &[u32],
-) -> Head
-    requires { ⌜ length (now passes) ≡ passNumbers ⌝ }
-    ensures { λ r. do
-      let starts : TreeUse = record { pages = «start_pages_used»; roots = «start_roots_used» }
-      let ends : TreeUse = record { pages = «end_pages_used»; roots = «end_roots_used» }
-      let fields : Fields = record { last = last; started = started; count = count; starts = starts; ends = ends }
-      ⌜ r ≡ headOf fields (now (passes .entry)) ⌝ }
+// The head that the numbers make. The passes are stored into it one by one: made first and then handed on, all 64 would be copied.
+pub fn head_of(numbers: &[u32]) -> Head
+    requires { ⌜ length (now numbers) ≡ headNumbers ⌝ }
+    ensures { λ r. ⌜ r ≡ headOf (now (numbers .entry)) ⌝ }
 {
     let none = OpenPass {
         number: 0,
@@ -47,23 +43,26 @@ pub fn head_of(
         start: 0,
     };
     let mut head = Head {
-        last,
-        started,
-        count,
+        last: numbers[0],
+        started: numbers[1],
+        count: numbers[2],
         passes: [none; Head::PLACES],
-        starts: TreeUse {
-            pages: start_pages_used,
-            roots: start_roots_used,
-        },
-        ends: TreeUse {
-            pages: end_pages_used,
-            roots: end_roots_used,
-        },
+        starts: read_use(numbers, 3),
+        ends: read_use(numbers, 5),
+        time: read_use(numbers, 7),
     };
     let mut place: usize = 0;
     while place < Head::PLACES {
-        head.passes[place] = read_pass(passes, OpenPass::NUMBERS * place);
+        head.passes[place] = read_pass(numbers, Head::FIELDS + OpenPass::NUMBERS * place);
         place += 1;
     }
     head
+}
+
+// How many passes are open, for a caller that needs no more of the head.
+pub fn open_count(numbers: &[u32]) -> u32
+    requires { ⌜ length (now numbers) ≡ headNumbers ⌝ }
+    ensures { λ r. ⌜ r ≡ headOf (now (numbers .entry)) .count ⌝ }
+{
+    numbers[2]
 }

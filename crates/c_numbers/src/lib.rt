@@ -5,7 +5,9 @@ mod said;
 mod totals;
 
 pub use head_read::head_of;
+pub use head_read::open_count;
 pub use head_written::put_head;
 pub use said::number_of;
 pub use said::refusal_of;
 pub use totals::tell;
+pub use totals::tell_time;

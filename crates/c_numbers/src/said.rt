@@ -18,6 +18,7 @@ pub fn refusal_of(answer: Answer) -> u8
             sum: _,
             pages: _,
         } => 0,
+        Answer::BatTime { total: _, pages: _ } => 0,
     }
 }
 
@@ -35,5 +36,6 @@ pub fn number_of(answer: Answer, old: u32) -> u32
             sum: _,
             pages: _,
         } => old,
+        Answer::BatTime { total: _, pages: _ } => old,
     }
 }

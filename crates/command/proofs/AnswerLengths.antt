@@ -5,7 +5,7 @@ use mathlib.Core.Path.{_≡_, ap, _∙_}
 use mathlib.Core.List.{List, [], _++_, append-nil}
 use lib.ListN.{length, length-append}
 use Rattle.store.specs.declared.types.Answer.{Answer}
-use Rattle.store.specs.declared.types.Answer.the-variants.{Refused, Opened, Started, Ended, Totals}
+use Rattle.store.specs.declared.types.Answer.the-variants.{Refused, Opened, Started, Ended, Totals, BatTime}
 use Rattle.store.specs.Trees.{Store}
 use Rattle.codec.specs.Bytes.{bytesOf}
 use Rattle.codec.proofs.ByteLaws.{bytes-length}
@@ -42,12 +42,24 @@ totals-length count sum pages =
       bytes-length 8 sum,
     )
 
+pub bat-time-length : (total pages : ℕ) → length (written (BatTime total pages)) ≡ 10
+bat-time-length total pages =
+    omega (
+      arith,
+      length-append (bytesOf 1 0) (bytesOf 8 total ++ (bytesOf 1 pages ++ [])),
+      length-append (bytesOf 8 total) (bytesOf 1 pages ++ []),
+      code-length pages,
+      bytes-length 1 0,
+      bytes-length 8 total,
+    )
+
 written-fits : (a : Answer) → length (written a) ≤ longestAnswer
 written-fits (Refused n) = omega (arith, code-length n)
 written-fits Opened = omega (arith, code-length 0)
 written-fits (Started n) = omega (arith, started-length n)
 written-fits Ended = omega (arith, code-length 0)
 written-fits (Totals count sum pages) = omega (arith, totals-length count sum pages)
+written-fits (BatTime total pages) = omega (arith, bat-time-length total pages)
 
 pub output-fits : (s : Store) (code : ℕ) (bytes : List ℕ) → length (runOne s code bytes .output) ≤ longestAnswer
 output-fits s code bytes = written-fits (answered s bytes (kindOf code) .answer)

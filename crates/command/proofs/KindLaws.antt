@@ -2,7 +2,7 @@
 use Prim.Native.Nat.{ℕ, _≤_, _<_}
 use native.Mathlib.Omega.{arith}
 use mathlib.Core.Path.{_≡_, ap, _∙_}
-use mathlib.Core.Bool.{Bool, true, false, cond}
+use mathlib.Core.Bool.{Bool, true, false, cond, _||_}
 use mathlib.Core.List.{List}
 use lib.ListN.{length}
 use lib.Dec.{eqb}
@@ -11,7 +11,7 @@ use Rattle.store.specs.Trees.{Store}
 use Rattle.store.specs.Answers.{refusedWith}
 use Rattle.store.specs.Calls.{Call}
 use Rattle.store.specs.Performing.{perform}
-use Rattle.command.specs.Stream.{Kind, unknown, command, startCommand, endCommand, questionCommand, eventKind, kindOf, operandBytes, answered}
+use Rattle.command.specs.Stream.{Kind, unknown, command, startCommand, endCommand, eventKind, isQuery, queryKind, kindOf, operandBytes, answered}
 
 abbrev events : Bool → Bool → Kind
 events x y = cond x (command 8 startCommand) (cond y (command 8 endCommand) unknown)
@@ -29,11 +29,18 @@ module _ (code : ℕ) where
   pub event-unknown : (code ≡ 1 → ⊥) → (code ≡ 2 → ⊥) → eventKind code ≡ unknown
   event-unknown n m = not-start n ∙ ap (λ (y : Bool). cond y (command 8 endCommand) unknown) (ne-eqb code 2 m)
 
-  pub kind-question : code ≡ 3 → kindOf code ≡ command 12 questionCommand
-  kind-question e = ap (λ (x : Bool). cond x (command 12 questionCommand) (eventKind code)) (eq-eqb code 3 e)
+  pub kind-query : isQuery code ≡ true → kindOf code ≡ queryKind code
+  kind-query e = ap (λ (x : Bool). cond x (queryKind code) (eventKind code)) e
 
-  pub kind-event : (code ≡ 3 → ⊥) → kindOf code ≡ eventKind code
-  kind-event n = ap (λ (x : Bool). cond x (command 12 questionCommand) (eventKind code)) (ne-eqb code 3 n)
+  pub kind-event : isQuery code ≡ false → kindOf code ≡ eventKind code
+  kind-event e = ap (λ (x : Bool). cond x (queryKind code) (eventKind code)) e
+
+  -- Whether a byte is that of a query, test by test
+  pub is-question : code ≡ 3 → isQuery code ≡ true
+  is-question e = ap (λ (x : Bool). x || eqb code 4) (eq-eqb code 3 e)
+
+  pub no-question : (code ≡ 3 → ⊥) → isQuery code ≡ eqb code 4
+  no-question n = ap (λ (x : Bool). x || eqb code 4) (ne-eqb code 3 n)
 
 -- What holds of a start, an end and an unknown byte holds of every event
 pub by-event : (P : Kind → Type 0) → P (command 8 startCommand) → P (command 8 endCommand) → P unknown → (code : ℕ) → P (eventKind code)
@@ -44,18 +51,18 @@ by-event P s e u code = go (eqb code 1) (eqb code 2)
     go false true = e
     go false false = u
 
--- And with a question, of every command
-pub by-kind : (P : Kind → Type 0) → P (command 8 startCommand) → P (command 8 endCommand) → P (command 12 questionCommand) → P unknown
+-- And with the queries, of every command
+pub by-kind : (P : Kind → Type 0) → P (command 8 startCommand) → P (command 8 endCommand) → ((code : ℕ) → P (queryKind code)) → P unknown
     → (code : ℕ) → P (kindOf code)
-by-kind P s e q u code = go (eqb code 3)
+by-kind P s e q u code = go (isQuery code)
   where
-    go : (x : Bool) → P (cond x (command 12 questionCommand) (eventKind code))
-    go true = q
+    go : (x : Bool) → P (cond x (queryKind code) (eventKind code))
+    go true = q code
     go false = by-event P s e u code
 
--- No command has more operands than a question, and no event more than a start
+-- No command has more operands than a query, and no event more than a start
 pub few-operands : (code : ℕ) → operandBytes (kindOf code) ≤ 12
-few-operands = by-kind (λ (kind : Kind). operandBytes kind ≤ 12) (omega arith) (omega arith) (omega arith) (omega arith)
+few-operands = by-kind (λ (kind : Kind). operandBytes kind ≤ 12) (omega arith) (omega arith) (λ code. omega arith) (omega arith)
 
 pub few-event-operands : (code : ℕ) → operandBytes (eventKind code) ≤ 8
 few-event-operands = by-event (λ (kind : Kind). operandBytes kind ≤ 8) (omega arith) (omega arith) (omega arith)

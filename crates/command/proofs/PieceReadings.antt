@@ -22,7 +22,7 @@ kind-long b bytes =
     by-kind (λ (kind : Kind). goesOn bytes kind ≡ true → 8 ≤ operandBytes kind)
     (λ e. omega arith)
     (λ e. omega arith)
-    (λ e. omega arith)
+    (λ code e. omega arith)
     (λ e. absurd (true≢false (sym e)))
     b
 

@@ -3,19 +3,19 @@
 use Prim.Native.Nat.{ℕ, zero, suc, _+_, _≤_}
 use native.Mathlib.Omega.{arith}
 use mathlib.Core.Path.{_≡_, refl, ap, ap₂, sym, _∙_}
-use mathlib.Core.Bool.{Bool, cond, not}
+use mathlib.Core.Bool.{Bool, true, false, cond, not}
 use mathlib.Core.List.{List, [], _∷_, _++_}
 use lib.ListN.{length, take, drop, length-take, length-drop}
-use lib.Dec.{ltb}
+use lib.Dec.{ltb, eqb}
 use lib.Seq.{take-take}
 use native.Mathlib.Decide.{decLe}
 use borrow.Author.Tests.{lt-ltb, le-ltb}
 use Rattle.store.specs.Trees.{Store}
 use Rattle.store.specs.Answers.{Answered, refusedWith}
-use Rattle.store.specs.Calls.{Call, start, end, question}
+use Rattle.store.specs.Calls.{Call, start, end, question, batTime}
 use Rattle.store.specs.Performing.{perform}
 use Rattle.codec.specs.Bytes.{numberOf, operand}
-use Rattle.command.specs.Stream.{Kind, command, startCommand, endCommand, questionCommand, kindOf, operandBytes, written, Ran, runKind, runOne, thenRest, runFor}
+use Rattle.command.specs.Stream.{Kind, command, startCommand, endCommand, queryCommand, questionCommand, batTimeCommand, kindOf, operandBytes, written, Ran, runKind, runOne, thenRest, runFor}
 use Rattle.command.proofs.KindLaws.{by-kind}
 
 -- The rest of the input, where two ways to go on agree on it
@@ -58,13 +58,13 @@ start-front bytes =
 end-front : (bytes : List ℕ) → endCommand (take 8 bytes) ≡ endCommand bytes
 end-front bytes = ap₂ end (operand-front bytes 8 0 4 (omega arith)) (operand-front bytes 8 4 4 (omega arith))
 
-question-front : (bytes : List ℕ) → questionCommand (take 12 bytes) ≡ questionCommand bytes
-question-front bytes =
+query-front : (call : (k1 k2 t1 t2 : ℕ) → Call) (bytes : List ℕ) → queryCommand call (take 12 bytes) ≡ queryCommand call bytes
+query-front call bytes =
     let k1 = operand-front bytes 12 0 2 (omega arith) in
     let k2 = operand-front bytes 12 2 2 (omega arith) in
     let t1 = operand-front bytes 12 4 4 (omega arith) in
     let t2 = operand-front bytes 12 8 4 (omega arith) in
-    λ i. question (k1 i) (k2 i) (t1 i) (t2 i)
+    λ i. call (k1 i) (k2 i) (t1 i) (t2 i)
 
 -- Enough bytes for so many, in the front as in the whole
 cut-same : (bytes : List ℕ) (n : ℕ) → ltb (length (take n bytes)) n ≡ ltb (length bytes) n
@@ -90,6 +90,10 @@ front-enough s byte bytes =
     by-kind (λ (kind : Kind). runKind s (take (operandBytes kind) bytes) kind ≡ runKind s bytes kind)
     (one-front s bytes 8 startCommand (start-front bytes))
     (one-front s bytes 8 endCommand (end-front bytes))
-    (one-front s bytes 12 questionCommand (question-front bytes))
+    (λ code. query (eqb code 4))
     refl
     byte
+  where
+    query : (x : Bool) → runKind s (take 12 bytes) (command 12 (cond x batTimeCommand questionCommand)) ≡ runKind s bytes (command 12 (cond x batTimeCommand questionCommand))
+    query true = one-front s bytes 12 batTimeCommand (query-front batTime bytes)
+    query false = one-front s bytes 12 questionCommand (query-front question bytes)

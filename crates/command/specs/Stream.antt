@@ -1,16 +1,16 @@
 -- The command program, from its whole input to its whole output: document 01, "Commands".
 use Prim.Native.Nat.{ℕ, zero, suc, _*_}
 use mathlib.Core.List.{List, [], _∷_, _++_}
-use mathlib.Core.Bool.{Bool, false, cond, not}
+use mathlib.Core.Bool.{Bool, false, cond, _||_, not}
 use lib.ListN.{length, drop, replicate}
 use lib.Dec.{ltb, eqb}
 use Rattle.tree.specs.Row.{pageWords}
 use Rattle.store.specs.declared.types.Answer.{Answer}
-use Rattle.store.specs.declared.types.Answer.the-variants.{Refused, Opened, Started, Ended, Totals}
+use Rattle.store.specs.declared.types.Answer.the-variants.{Refused, Opened, Started, Ended, Totals, BatTime}
 use Rattle.store.specs.Trees.{LentTree, Lent, Store}
 use Rattle.store.specs.Head.{openedHead}
 use Rattle.store.specs.Answers.{refusalOf, valuesOf, Answered, refusedWith}
-use Rattle.store.specs.Calls.{Call, opening, start, end, question}
+use Rattle.store.specs.Calls.{Call, opening, start, end, question, batTime}
 use Rattle.store.specs.Performing.{perform}
 use Rattle.codec.specs.Bytes.{bytesOf, operand}
 
@@ -27,24 +27,40 @@ startCommand b = start (operand b 0 4) (operand b 4 2) (operand b 6 2)
 abbrev pub endCommand : List ℕ → Call
 endCommand b = end (operand b 0 4) (operand b 4 4)
 
--- "03h question: k1 2, k2 2, t1 4, t2 4."
+-- "03h question: k1 2, k2 2, t1 4, t2 4.": these operands, for the call of a query
+abbrev pub queryCommand : ((k1 k2 t1 t2 : ℕ) → Call) → List ℕ → Call
+queryCommand call b = call (operand b 0 2) (operand b 2 2) (operand b 4 4) (operand b 8 4)
+
 abbrev pub questionCommand : List ℕ → Call
-questionCommand b = question (operand b 0 2) (operand b 2 2) (operand b 4 4) (operand b 8 4)
+questionCommand b = queryCommand question b
+
+-- "Command 04h takes a question" (document 02, Paper 4)
+abbrev pub batTimeCommand : List ℕ → Call
+batTimeCommand b = queryCommand batTime b
 
 -- The commands that enter a point, "01h start" and "02h end"
 abbrev pub eventKind : ℕ → Kind
 eventKind byte = cond (eqb byte 1) (command 8 startCommand) (cond (eqb byte 2) (command 8 endCommand) unknown)
 
-abbrev pub kindOf : ℕ → Kind
-kindOf byte = cond (eqb byte 3) (command 12 questionCommand) (eventKind byte)
+-- The queries, which only read: "03h question", and 04h, bat-time
+abbrev pub isQuery : ℕ → Bool
+isQuery byte = eqb byte 3 || eqb byte 4
 
--- So many bytes for each value of an answer: "Writes 00h, pass number 4."; "Writes 00h."; "Writes 00h, count 8, sum 8, pages opened 1."
+abbrev pub queryKind : ℕ → Kind
+queryKind byte = command 12 (cond (eqb byte 4) batTimeCommand questionCommand)
+
+abbrev pub kindOf : ℕ → Kind
+kindOf byte = cond (isQuery byte) (queryKind byte) (eventKind byte)
+
+-- The bytes of each value of an answer: "Writes 00h, pass number 4."; "Writes 00h."; "Writes 00h, count 8, sum 8, pages opened 1."; 04h "writes 00h, total 8, pages 1"
+-- (Paper 4)
 abbrev pub widthsOf : Answer → List ℕ
 widthsOf (Refused n) = []
 widthsOf Opened = []
 widthsOf (Started n) = 4 ∷ []
 widthsOf Ended = []
 widthsOf (Totals count sum pages) = 8 ∷ (8 ∷ (1 ∷ []))
+widthsOf (BatTime total pages) = 8 ∷ (1 ∷ [])
 
 abbrev pub spelled : (widths values : List ℕ) → List ℕ
 spelled [] values = []
@@ -102,15 +118,15 @@ runFor (suc n) s (b ∷ bytes) =
 abbrev pub runAll : Store → List ℕ → List ℕ
 runAll s bytes = runFor (length bytes) s bytes
 
--- "the program's own tables hold 12 pages a tree and 12 roots": all zero, and opened
+-- "the program's tables shrink to 10 pages and 10 roots a tree" (document 02, Paper 4): all zero, and opened
 abbrev pub programPages : ℕ
-programPages = 12
+programPages = 10
 
 abbrev pub programTree : LentTree
 programTree = record { table = replicate (programPages * pageWords) 0; roots = replicate programPages 0 }
 
 unfoldable pub programLent : Lent
-programLent = record { starts = programTree; ends = programTree }
+programLent = record { starts = programTree; ends = programTree; time = programTree }
 
 unfoldable pub programStore : Store
 programStore = perform (record { head = openedHead; lent = programLent }) opening .store

@@ -10,7 +10,7 @@ use Rattle.words.specs.Words.{openEnd}
 use Rattle.tree.proofs.Lists.{all-take, all-drop}
 use Rattle.store.specs.Calls.{Sent}
 use Rattle.codec.specs.Bytes.{numberOf}
-use Rattle.command.specs.Stream.{unknown, command, startCommand, endCommand, questionCommand, eventKind, kindOf}
+use Rattle.command.specs.Stream.{unknown, command, startCommand, endCommand, questionCommand, batTimeCommand, eventKind, isQuery, kindOf}
 use Rattle.demand.specs.Bursts.{Asked, unknownKind, asked, askedBy, eventBytes, eventsFrom}
 
 abbrev pub IsByte : ℕ → Type 0
@@ -38,11 +38,12 @@ sent-event byte operands h = go (eqb byte 1) (eqb byte 2)
 
 -- A command's, too
 pub sent-command : (byte : ℕ) (operands : List ℕ) → All IsByte operands → SentAsked (askedBy (kindOf byte) operands)
-sent-command byte operands h = go (eqb byte 3)
+sent-command byte operands h = go (isQuery byte) (eqb byte 4)
   where
-    go : (x : Bool) → SentAsked (askedBy (cond x (command 12 questionCommand) (eventKind byte)) operands)
-    go true = four-bytes (drop 8 operands) (all-drop IsByte 8 operands h)
-    go false = sent-event byte operands h
+    go : (x y : Bool) → SentAsked (askedBy (cond x (command 12 (cond y batTimeCommand questionCommand)) (eventKind byte)) operands)
+    go true true = four-bytes (drop 8 operands) (all-drop IsByte 8 operands h)
+    go true false = four-bytes (drop 8 operands) (all-drop IsByte 8 operands h)
+    go false y = sent-event byte operands h
 
 pub sent-events : (count : ℕ) (bytes : List ℕ) → All IsByte bytes → All SentAsked (eventsFrom count bytes)
 unfolding eventsFrom

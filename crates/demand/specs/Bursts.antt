@@ -4,7 +4,7 @@ use mathlib.Core.List.{List, [], _∷_}
 use lib.ListN.{length, getD, take, drop}
 use lib.Dec.{ltb}
 use Rattle.store.specs.declared.types.Answer.{Answer}
-use Rattle.store.specs.declared.types.Answer.the-variants.{Refused, Opened, Started, Ended, Totals}
+use Rattle.store.specs.declared.types.Answer.the-variants.{Refused, Opened, Started, Ended, Totals, BatTime}
 use Rattle.store.specs.Trees.{Store}
 use Rattle.store.specs.Refusals.{Ground, _gives_, firstMet}
 use Rattle.store.specs.Calls.{Call}
@@ -78,6 +78,7 @@ newNumber Opened = 0
 newNumber (Started number) = number
 newNumber Ended = 0
 newNumber (Totals count sum pages) = 0
+newNumber (BatTime total pages) = 0
 
 unfoldable pub resultWords : List Answer → List ℕ
 resultWords [] = []

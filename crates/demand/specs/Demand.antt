@@ -42,7 +42,7 @@ ShownAlong d b (step ∷ steps) = ShownIn d step (bookAfter d b step) × ShownAl
 pub record StepsAsTheBook (d : Device) (steps : List Step) : Type 0 where
   -- Each call, each event of a burst and each command through the block answers what the pass book answers; so does a burst as a whole
   pub answers : map bookParts (performSteps d steps) ≡ bookSteps emptyBook (operandsOf (d .block)) steps (map refusalsIn (performSteps d steps))
-  -- Each event and each command through the block stands in the list as the start, end or question that it is
+  -- Each event and each command through the block stands in the list as the start, end, question or bat-time that it is
   pub stands : deviceAfterSteps d steps .store ≡ storeAfter (d .store) (callsOf (operandsOf (d .block)) steps)
   -- The block shows these answers
   pub shown : ShownAlong d emptyBook steps

@@ -36,7 +36,7 @@ refusalOfStep (single c) = 0
 refusalOfStep (burst bytes words) = burstRefusal bytes words
 refusalOfStep (access a) = 0
 
--- A write to byte 0 runs the start, end or question that the operands spell, or a command that is none; no other access runs one
+-- A write to byte 0 runs the start, end, question or bat-time that the operands spell, or a command that is none; no other access runs one
 abbrev pub askedThrough : (operands : List ℕ) → Access → List Asked
 askedThrough operands reset = []
 askedThrough operands (read offset) = []

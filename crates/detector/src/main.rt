@@ -7,10 +7,10 @@ ghost use Rattle.command.specs.Stream.{programTree};
 ghost use Rattle.command.specs.Pieces.{programFeed};
 ghost use Rattle.turns.specs.Turns.{Served};
 
-// "the program's own tables hold 12 pages a tree and 12 roots": arrays of 3,120 words and of 12.
-const PAGES: usize = 12;
+// "the program's tables shrink to 10 pages and 10 roots a tree" (document 02, Paper 4): arrays of 2,600 words and of 10.
+const PAGES: usize = 10;
 
-const ROOTS: usize = 12;
+const ROOTS: usize = 10;
 
 const TABLE_WORDS: usize = PAGES * tree::PAGE_WORDS;
 
@@ -20,13 +20,17 @@ fn run_program(
     start_roots: &mut [u64; ROOTS],
     end_table: &mut [u64; TABLE_WORDS],
     end_roots: &mut [u64; ROOTS],
+    time_table: &mut [u64; TABLE_WORDS],
+    time_roots: &mut [u64; ROOTS],
 ) -> Left
     requires { ⌜ now «start_table» ≡ programTree .table ⌝ }
     requires { ⌜ now «start_roots» ≡ programTree .roots ⌝ }
     requires { ⌜ now «end_table» ≡ programTree .table ⌝ }
     requires { ⌜ now «end_roots» ≡ programTree .roots ⌝ }
+    requires { ⌜ now «time_table» ≡ programTree .table ⌝ }
+    requires { ⌜ now «time_roots» ≡ programTree .roots ⌝ }
     ensures { λ r. do
-      let after : Store = storeOf (r .head) (now («start_table» .exit)) (now («start_roots» .exit)) (now («end_table» .exit)) (now («end_roots» .exit))
+      let after : Store = storeOf (r .head) (now («start_table» .exit)) (now («start_roots» .exit)) (now («end_table» .exit)) (now («end_roots» .exit)) (now («time_table» .exit)) (now («time_roots» .exit))
       ⌜ Served programFeed after (r .over) ⌝ }
 {
     let reply = opening::open(
@@ -35,9 +39,19 @@ fn run_program(
         start_roots,
         end_table,
         end_roots,
+        time_table,
+        time_roots,
     );
     let opened = reply.head;
-    serve(opened, start_table, start_roots, end_table, end_roots)
+    serve(
+        opened,
+        start_table,
+        start_roots,
+        end_table,
+        end_roots,
+        time_table,
+        time_roots,
+    )
 }
 
 fn main() {
@@ -45,10 +59,14 @@ fn main() {
     let mut start_roots = [0u64; ROOTS];
     let mut end_table = [0u64; TABLE_WORDS];
     let mut end_roots = [0u64; ROOTS];
+    let mut time_table = [0u64; TABLE_WORDS];
+    let mut time_roots = [0u64; ROOTS];
     run_program(
         &mut start_table,
         &mut start_roots,
         &mut end_table,
         &mut end_roots,
+        &mut time_table,
+        &mut time_roots,
     );
 }

@@ -2,11 +2,10 @@
 use Prim.Native.Nat.{ℕ, _≤_}
 use mathlib.Core.Path.{_≡_, refl, ap, sym, subst, _∙_}
 use mathlib.Core.List.{List}
-use lib.ListN.{length, take, drop}
+use lib.ListN.{length, drop}
 use Rattle.store.specs.declared.types.Head.{Head}
 use Rattle.store.specs.declared.types.Answer.{Answer}
-use Rattle.store.specs.declared.types.Answer.the-variants.{Refused, Opened, Started, Ended, Totals}
-use Rattle.words.specs.Overwrite.{overwrite}
+use Rattle.store.specs.declared.types.Answer.the-variants.{Refused, Opened, Started, Ended, Totals, BatTime}
 use Rattle.store.specs.Trees.{Lent, Store}
 use Rattle.store.specs.Head.{openLimit}
 use Rattle.store.specs.Answers.{refusalOf, valuesOf, Answered}
@@ -16,14 +15,25 @@ use Rattle.store.proofs.RefusedOrServed.{refused-or-served}
 use Rattle.store.proofs.Outcomes.{served-answers}
 use Rattle.replies.specs.declared.types.Reply.{Reply}
 use Rattle.replies.specs.Replies.{RepliedAs}
-use Rattle.c_numbers.specs.Heads.{Fields, passNumbers, headOf, fieldsOf, numbersOf}
-use Rattle.c_numbers.specs.Said.{numberSaid, Told, Tells}
-use Rattle.firmware.specs.Exported.{Handed, storeIn, handedBack, Leaves}
+use Rattle.c_numbers.specs.Heads.{headNumbers, headOf, headOver}
+use Rattle.c_numbers.specs.Said.{numberSaid, Tells}
 use Rattle.c_numbers.proofs.HeadNumbers.{numbers-back, others-kept}
+use Rattle.firmware.specs.Exported.{Handed, storeIn, handedBack, Leaves}
 
--- A reading call of the head that the numbers make
-pub told : {a b : Answer} {r : ℕ} {before after : Told} → a ≡ b → Tells a r before after → Tells b r before after
-told {r = r} {before = before} {after = after} e h = subst (λ (x : Answer). Tells x r before after) e h
+-- What holds of the head that was read and the slices holds of the store that was handed over
+pub of-handed : (P : Store → Type 0) (h : Handed) {head : Head} → head ≡ headOf (h .numbers) → P (record { head = head; lent = h .lent }) → P (storeIn h)
+of-handed P h e = subst (λ (x : Head). P (record { head = x; lent = h .lent })) e
+
+-- A reading call
+pub told : (c : Call) (h : Handed) {head : Head} → head ≡ headOf (h .numbers) → {a : Answer} → a ≡ perform (record { head = head; lent = h .lent }) c .answer
+    → {r : ℕ} {before after : List ℕ} → Tells a r before after → Tells (perform (storeIn h) c .answer) r before after
+told c h of-head {a} e {r} {before} {after} =
+    subst (λ (x : Answer). Tells x r before after) (of-handed (λ (s : Store). a ≡ perform s c .answer) h of-head e)
+
+-- A writing call
+pub replied-in : (c : Call) (h : Handed) {head : Head} → head ≡ headOf (h .numbers) → {reply : Reply} {lent : Lent}
+    → RepliedAs (perform (record { head = head; lent = h .lent }) c) reply lent → RepliedAs (perform (storeIn h) c) reply lent
+replied-in c h of-head {reply} {lent} = of-handed (λ (s : Store). RepliedAs (perform s c) reply lent) h of-head
 
 -- A call that refuses leaves the store as it was
 call-unchanged : (s : Store) (c : Call) → (refusalOf (perform s c .answer) ≡ 0 → ⊥) → perform s c .store ≡ s
@@ -31,8 +41,12 @@ call-unchanged s c =
     refused-or-served (λ (a : Answered). (refusalOf (a .answer) ≡ 0 → ⊥) → a .store ≡ s) s c (λ n some. refl) (λ e some. absurd (some (served-answers s c)))
 
 -- A head that is written where it was read from
-pub handed-again : (h : Handed) → length (h .passes) ≡ passNumbers → handedBack (storeIn h) ≡ h
-handed-again h long = let same = numbers-back (h .passes) long in λ i. record { fields = h .fields; passes = same i; lent = h .lent }
+pub handed-again : (h : Handed) → length (h .numbers) ≡ headNumbers → handedBack (storeIn h) ≡ h
+handed-again h long = ap (λ (ns : List ℕ). record { numbers = ns; lent = h .lent }) (numbers-back (h .numbers) long)
+
+-- Slices that were left as a store has them which is the one handed over
+pub all-kept : (h : Handed) {s : Store} → s ≡ storeIn h → {lent : Lent} → lent ≡ s .lent → record { numbers = h .numbers; lent = lent } ≡ h
+all-kept h stays e = ap (λ (l : Lent). record { numbers = h .numbers; lent = l }) (e ∙ ap (λ (s : Store). s .lent) stays)
 
 -- A call leaves the passes from a place on as they were
 pub record KeepsFrom (places : ℕ) (before after : Head) : Type 0 where
@@ -40,55 +54,54 @@ pub record KeepsFrom (places : ℕ) (before after : Head) : Type 0 where
   pub few : places ≤ openLimit
   pub rest : drop places (after .passes) ≡ drop places (before .passes)
 
-module _ (c : Call) (before : Handed) (long : length (before .passes) ≡ passNumbers) {head : Head} (of-head : head ≡ headOf (before .fields) (before .passes))
-    {reply : Reply} {lent : Lent} (replied : RepliedAs (perform (record { head = head; lent = before .lent }) c) reply lent) where
+-- A head is written in the place of the one before it, its passes as far as they may have changed
+pub written-back : (before : Handed) → length (before .numbers) ≡ headNumbers → (s : Store) {places : ℕ} → KeepsFrom places (storeIn before .head) (s .head)
+    → {head : Head} → head ≡ s .head → {lent : Lent} → lent ≡ s .lent
+    → {numbers : List ℕ} → numbers ≡ headOver (before .numbers) places head → record { numbers = numbers; lent = lent } ≡ handedBack s
+written-back before long s {places} kept is lent-is put =
+    let numbers-are =
+    put ∙ ap (headOver (before .numbers) places) is ∙ others-kept (before .numbers) (s .head) places long (kept .full) (kept .few) (kept .rest) in
+    λ i. record { numbers = numbers-are i; lent = lent-is i }
+
+module _ (c : Call) (before : Handed) {reply : Reply} {lent : Lent} (is : RepliedAs (perform (storeIn before) c) reply lent) where
   abbrev a : Answered
   a = perform (storeIn before) c
-
-  pub is : RepliedAs a reply lent
-  is = subst (λ (x : Head). RepliedAs (perform (record { head = x; lent = before .lent }) c) reply lent) of-head replied
 
   said : (r : ℕ) → r ≡ refusalOf (reply .answer) → r ≡ refusalOf (a .answer)
   said r e = e ∙ ap refusalOf (is .answer)
 
-  -- Refused: no field and no number of a pass was written
-  pub leaves-refused : {r : ℕ} → r ≡ refusalOf (reply .answer) → (r ≡ 0 → ⊥)
-      → Leaves a r before (record { fields = before .fields; passes = before .passes; lent = lent })
-  leaves-refused {r} e some =
+  -- Refused: no number of the head was written
+  pub leaves-refused : length (before .numbers) ≡ headNumbers → {r : ℕ} → r ≡ refusalOf (reply .answer) → (r ≡ 0 → ⊥)
+      → Leaves a r before (record { numbers = before .numbers; lent = lent })
+  leaves-refused long {r} e some =
       let stays = call-unchanged (storeIn before) c (λ z. some (said r e ∙ z)) in
-      let same = is .lent-is ∙ ap (λ (x : Store). x .lent) stays in
-      let kept : record { fields = before .fields; passes = before .passes; lent = lent } ≡ before =
-      λ i. record { fields = before .fields; passes = before .passes; lent = same i } in
+      let kept = all-kept before stays (is .lent-is) in
       record { refusal = said r e; left = kept ∙ sym (ap handedBack stays ∙ handed-again before long); kept = λ n. kept }
 
   -- Done: the head that the call handed back was written, its passes as far as the call may have changed them
-  pub leaves-done : {r : ℕ} → r ≡ refusalOf (reply .answer) → r ≡ 0 → {fields : Fields} {passes : List ℕ} → fields ≡ fieldsOf (reply .head)
-      → (places : ℕ) → KeepsFrom places (storeIn before .head) (a .store .head)
-      → passes ≡ overwrite (before .passes) 0 (numbersOf (take places (reply .head .passes)))
-      → Leaves a 0 before (record { fields = fields; passes = passes; lent = lent })
-  leaves-done {r} e none fs places kept ps =
-      let fields-are = fs ∙ ap fieldsOf (is .head) in
-      let passes-are =
-      ps
-      ∙ ap (λ (h : Head). overwrite (before .passes) 0 (numbersOf (take places (h .passes)))) (is .head)
-      ∙ others-kept (before .passes) (a .store .head .passes) places long (kept .full) (kept .few) (kept .rest) in
-      let lent-is = is .lent-is in
+  pub leaves-done : length (before .numbers) ≡ headNumbers → {r : ℕ} → r ≡ refusalOf (reply .answer) → r ≡ 0 → {places : ℕ} → KeepsFrom places (storeIn before .head) (a .store .head)
+      → {numbers : List ℕ} → numbers ≡ headOver (before .numbers) places (reply .head) → Leaves a 0 before (record { numbers = numbers; lent = lent })
+  leaves-done long {r} e none kept put =
       record {
         refusal = sym none ∙ said r e;
-        left = λ i. record { fields = fields-are i; passes = passes-are i; lent = lent-is i };
+        left = written-back before long (a .store) kept (is .head) (is .lent-is) put;
         kept = λ some. absurd (some refl);
       }
 
-  -- The pass number that a start says, and that a refused one leaves as it was
-  pub number-said : (old : ℕ) {n : ℕ} → n ≡ numberSaid old (valuesOf (reply .answer)) → n ≡ numberSaid old (valuesOf (a .answer))
-  number-said old e = e ∙ ap (λ (x : Answer). numberSaid old (valuesOf x)) (is .answer)
+  -- The same of a start, with the pass number that it says, and that a refused one leaves as it was
+  number-kept : (old : ℕ) (b : Answer) → (refusalOf b ≡ 0 → ⊥) → old ≡ numberSaid old (valuesOf b)
+  number-kept old (Refused n) f = refl
+  number-kept old Opened f = refl
+  number-kept old (Started n) f = absurd (f refl)
+  number-kept old Ended f = refl
+  number-kept old (Totals count sum pages) f = refl
+  number-kept old (BatTime total pages) f = refl
 
-  pub number-kept : (old : ℕ) {r : ℕ} → r ≡ refusalOf (reply .answer) → (r ≡ 0 → ⊥) → old ≡ numberSaid old (valuesOf (a .answer))
-  number-kept old {r} e some = go (a .answer) (λ z. some (said r e ∙ z))
-    where
-      go : (b : Answer) → (refusalOf b ≡ 0 → ⊥) → old ≡ numberSaid old (valuesOf b)
-      go (Refused n) f = refl
-      go Opened f = refl
-      go (Started n) f = absurd (f refl)
-      go Ended f = refl
-      go (Totals count sum pages) f = refl
+  pub start-refused : length (before .numbers) ≡ headNumbers → {r : ℕ} → r ≡ refusalOf (reply .answer) → (r ≡ 0 → ⊥) → {old : ℕ}
+      → Leaves a r before (record { numbers = before .numbers; lent = lent }) × (old ≡ numberSaid old (valuesOf (a .answer)))
+  start-refused long {r} e some {old} = (leaves-refused long e some, number-kept old (a .answer) (λ z. some (said r e ∙ z)))
+
+  pub start-done : length (before .numbers) ≡ headNumbers → {r : ℕ} → r ≡ refusalOf (reply .answer) → r ≡ 0 → {places : ℕ} → KeepsFrom places (storeIn before .head) (a .store .head)
+      → {numbers : List ℕ} → numbers ≡ headOver (before .numbers) places (reply .head) → (old : ℕ) {n : ℕ} → n ≡ numberSaid old (valuesOf (reply .answer))
+      → Leaves a 0 before (record { numbers = numbers; lent = lent }) × (n ≡ numberSaid old (valuesOf (a .answer)))
+  start-done long e none kept put old counts = (leaves-done long e none kept put, counts ∙ ap (λ (x : Answer). numberSaid old (valuesOf x)) (is .answer))

@@ -2,8 +2,7 @@
 use Prim.Native.Nat.{ℕ, _+_, _-_, _≤_}
 use native.Mathlib.Omega.{arith}
 use mathlib.Core.Path.{_≡_, refl, ap, sym, subst, _∙_}
-use mathlib.Core.List.{List}
-use lib.ListN.{length, take, drop, length-set, drop-of-length-le}
+use lib.ListN.{length, drop, length-set, drop-of-length-le}
 use lib.Seq.{drop-set-lt}
 use Rattle.store.specs.declared.types.Head.{Head}
 use Rattle.store.specs.declared.types.FoundPass.{FoundPass}
@@ -21,11 +20,10 @@ use Rattle.refusals.proofs.RefusalParts.{none-of}
 use Rattle.refusals.proofs.FoundPasses.{found-facts}
 use Rattle.replies.specs.declared.types.Reply.{Reply}
 use Rattle.replies.specs.Replies.{RepliedAs}
-use Rattle.words.specs.Overwrite.{overwrite}
-use Rattle.c_numbers.specs.Heads.{Fields, passNumbers, headOf, fieldsOf, numbersOf}
-use Rattle.c_numbers.proofs.HeadNumbers.{passes-length, others-kept}
-use Rattle.firmware.specs.Exported.{Handed, storeIn, handedBack}
-use Rattle.firmware.proofs.ExportedLaws.{KeepsFrom, is}
+use Rattle.c_numbers.specs.Heads.{fieldNumbers}
+use Rattle.c_numbers.proofs.HeadNumbers.{passes-length}
+use Rattle.firmware.specs.Exported.{Handed, storeIn}
+use Rattle.firmware.proofs.ExportedLaws.{KeepsFrom}
 use Rattle.firmware.proofs.ExportedLists.{places-stay}
 
 -- All places are all that there are
@@ -36,19 +34,6 @@ all-places before after old new =
       few = omega arith;
       rest = drop-of-length-le (after .passes) {i = openLimit} (omega (arith, new)) ∙ sym (drop-of-length-le (before .passes) {i = openLimit} (omega (arith, old)));
     }
-
--- A head is written in the places of the one before it, its passes as far as they may have changed
-pub written-back : (before : Handed) → length (before .passes) ≡ passNumbers → (s : Store) {places : ℕ} → KeepsFrom places (storeIn before .head) (s .head)
-    → {head : Head} → head ≡ s .head → {lent : Lent} → lent ≡ s .lent
-    → {fields : Fields} {passes : List ℕ} → fields ≡ fieldsOf head → passes ≡ overwrite (before .passes) 0 (numbersOf (take places (head .passes)))
-    → record { fields = fields; passes = passes; lent = lent } ≡ handedBack s
-written-back before long s {places} kept is lent-is fs ps =
-    let fields-are = fs ∙ ap fieldsOf is in
-    let passes-are =
-    ps
-    ∙ ap (λ (h : Head). overwrite (before .passes) 0 (numbersOf (take places (h .passes)))) is
-    ∙ others-kept (before .passes) (s .head .passes) places long (kept .full) (kept .few) (kept .rest) in
-    λ i. record { fields = fields-are i; passes = passes-are i; lent = lent-is i }
 
 module _ (s : Store) (long : length (s .head .passes) ≡ openLimit) where
   pub opening-keeps : KeepsFrom openLimit (s .head) (perform s opening .store .head)
@@ -104,27 +89,27 @@ module _ (s : Store) (long : length (s .head .passes) ≡ openLimit) where
 
 -- The same of exported calls, by the count of the head that a call handed back
 places : (before : Handed) → length (storeIn before .head .passes) ≡ openLimit
-places before = passes-length (before .passes) 0 openLimit
+places before = passes-length (before .numbers) fieldNumbers openLimit
 
 pub after-opening : (before : Handed) → KeepsFrom openLimit (storeIn before .head) (perform (storeIn before) opening .store .head)
 after-opening before = opening-keeps (storeIn before) (places before)
 
-module _ (before : Handed) (long : length (before .passes) ≡ passNumbers) {head : Head} (of-head : head ≡ headOf (before .fields) (before .passes)) {reply : Reply} {lent : Lent} where
-  module _ (c : Call) (replied : RepliedAs (perform (record { head = head; lent = before .lent }) c) reply lent) {r : ℕ} (e : r ≡ refusalOf (reply .answer)) (none : r ≡ 0) where
+module _ (before : Handed) {reply : Reply} {lent : Lent} where
+  module _ (c : Call) (is : RepliedAs (perform (storeIn before) c) reply lent) {r : ℕ} (e : r ≡ refusalOf (reply .answer)) (none : r ≡ 0) where
     accepts : refusalOf (perform (storeIn before) c .answer) ≡ 0
-    accepts = sym (ap refusalOf (is c before long of-head replied .answer)) ∙ sym e ∙ none
+    accepts = sym (ap refusalOf (is .answer)) ∙ sym e ∙ none
 
     counted : perform (storeIn before) c .store .head .count ≡ reply .head .count
-    counted = sym (ap (λ (h : Head). h .count) (is c before long of-head replied .head))
+    counted = sym (ap (λ (h : Head). h .count) (is .head))
 
-  pub after-start : (tick key weight : ℕ) (replied : RepliedAs (perform (record { head = head; lent = before .lent }) (start tick key weight)) reply lent) {r : ℕ}
+  pub after-start : (tick key weight : ℕ) (is : RepliedAs (perform (storeIn before) (start tick key weight)) reply lent) {r : ℕ}
       → r ≡ refusalOf (reply .answer) → r ≡ 0 → KeepsFrom (reply .head .count) (storeIn before .head) (perform (storeIn before) (start tick key weight) .store .head)
-  after-start tick key weight replied e none =
-      subst (λ (n : ℕ). KeepsFrom n (storeIn before .head) (perform (storeIn before) (start tick key weight) .store .head)) (counted (start tick key weight) replied e none)
-      (start-keeps (storeIn before) (places before) tick key weight (accepts (start tick key weight) replied e none))
+  after-start tick key weight is e none =
+      subst (λ (n : ℕ). KeepsFrom n (storeIn before .head) (perform (storeIn before) (start tick key weight) .store .head)) (counted (start tick key weight) is e none)
+      (start-keeps (storeIn before) (places before) tick key weight (accepts (start tick key weight) is e none))
 
-  pub after-end : (tick number : ℕ) (replied : RepliedAs (perform (record { head = head; lent = before .lent }) (end tick number)) reply lent) {r : ℕ}
+  pub after-end : (tick number : ℕ) (is : RepliedAs (perform (storeIn before) (end tick number)) reply lent) {r : ℕ}
       → r ≡ refusalOf (reply .answer) → r ≡ 0 → KeepsFrom (reply .head .count + 1) (storeIn before .head) (perform (storeIn before) (end tick number) .store .head)
-  after-end tick number replied e none =
-      subst (λ (n : ℕ). KeepsFrom (n + 1) (storeIn before .head) (perform (storeIn before) (end tick number) .store .head)) (counted (end tick number) replied e none)
-      (end-keeps (storeIn before) (places before) tick number (accepts (end tick number) replied e none))
+  after-end tick number is e none =
+      subst (λ (n : ℕ). KeepsFrom (n + 1) (storeIn before .head) (perform (storeIn before) (end tick number) .store .head)) (counted (end tick number) is e none)
+      (end-keeps (storeIn before) (places before) tick number (accepts (end tick number) is e none))

@@ -21,11 +21,11 @@ use Rattle.store.proofs.RefusedOrServed.{refused-or-served}
 use Rattle.refusals.proofs.RefusalParts.{none-of}
 use Rattle.refusals.proofs.FoundPasses.{found-facts}
 use Rattle.codec.specs.Bytes.{operand}
-use Rattle.command.specs.Stream.{Kind, unknown, command, startCommand, endCommand, questionCommand, kindOf, operandBytes, runKind, runOne}
+use Rattle.command.specs.Stream.{Kind, unknown, command, startCommand, endCommand, queryKind, kindOf, operandBytes, runKind, runOne}
 use Rattle.command.specs.Pieces.{Fed, commandLength, runPiece}
 use Rattle.command.proofs.KindLaws.{by-kind}
 use Rattle.command.proofs.PieceSteps.{each-piece}
-use Rattle.interpret.proofs.RunLaws.{question-stays}
+use Rattle.interpret.proofs.RunLaws.{query-stays}
 use Rattle.demand.specs.Bursts.{eventBytes}
 use Rattle.firmware.specs.Packets.{changedPlaces}
 use Rattle.firmware.proofs.ExportedLaws.{KeepsFrom}
@@ -100,12 +100,12 @@ module _ (s : Store) (long : Places s) where
         go true = grows-none _ (s .head)
         go false = grows-more (omega arith) (end-grows (operand bytes 0 4) (operand bytes 4 4))
 
-    question-kind : OfKind (command 12 questionCommand)
-    question-kind =
-        subst (λ (x : Store). Grows (suc (min 12 (length bytes)) / eventBytes) (s .head) (x .head)) (sym (question-stays s bytes)) (grows-none _ (s .head))
+    query-kind : (code : ℕ) → OfKind (queryKind code)
+    query-kind code =
+        subst (λ (x : Store). Grows (suc (min 12 (length bytes)) / eventBytes) (s .head) (x .head)) (sym (query-stays s bytes code)) (grows-none _ (s .head))
 
     command-grows : (b : ℕ) → Grows (commandLength b bytes / eventBytes) (s .head) (runOne s b bytes .store .head)
-    command-grows = by-kind OfKind start-kind end-kind question-kind (grows-none _ (s .head))
+    command-grows = by-kind OfKind start-kind end-kind query-kind (grows-none _ (s .head))
 
 -- Every command and every packet leave a head with as many places
 command-places : (s : Store) → Places s → (bytes : List ℕ) (kind : Kind) → Places (runKind s bytes kind .store)

@@ -2,26 +2,30 @@
 use Prim.Native.Nat.{ℕ}
 use mathlib.Core.Path.{_≡_}
 use mathlib.Core.List.{List, [], _∷_}
-use Rattle.store.specs.Trees.{Lent, Store}
+use Rattle.store.specs.Trees.{Lent, lentOf, Store}
 use Rattle.store.specs.Answers.{refusalOf, Answered}
 use Rattle.register_block.specs.Block.{Block}
 use Rattle.register_block.specs.Access.{Device}
 use Rattle.demand.specs.Bursts.{Entered}
 use Rattle.demand.specs.Steps.{Step, performStep, deviceAfter}
-use Rattle.c_numbers.specs.Heads.{Fields, headOf, fieldsOf, numbersOf}
+use Rattle.c_numbers.specs.Heads.{headOf, numbersOf}
 
--- The head's numbers, its open passes as numbers, and the lent slices
+-- The head's numbers and the lent slices
 pub record Handed : Type 0 where
-  pub fields : Fields
-  pub passes : List ℕ
+  pub numbers : List ℕ
   pub lent : Lent
+
+-- The slices in the order of a call's parameters
+abbrev pub handedOf : (numbers startTable startRoots endTable endRoots timeTable timeRoots : List ℕ) → Handed
+handedOf numbers startTable startRoots endTable endRoots timeTable timeRoots =
+    record { numbers = numbers; lent = lentOf startTable startRoots endTable endRoots timeTable timeRoots }
 
 -- The store that they make, and a store in their places
 abbrev pub storeIn : Handed → Store
-storeIn h = record { head = headOf (h .fields) (h .passes); lent = h .lent }
+storeIn h = record { head = headOf (h .numbers); lent = h .lent }
 
 abbrev pub handedBack : Store → Handed
-handedBack s = record { fields = fieldsOf (s .head); passes = numbersOf (s .head .passes); lent = s .lent }
+handedBack s = record { numbers = numbersOf (s .head); lent = s .lent }
 
 -- A writing call that comes to a: the refusal, and what is left. Refused, "every lent word and the head are as before"
 pub record Leaves (a : Answered) (r : ℕ) (before after : Handed) : Type 0 where

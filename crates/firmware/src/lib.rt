@@ -1,4 +1,5 @@
-// The store for firmware in C: calls on head fields as numbers and on lent slices.
+// The store for firmware in C: calls on a head as an array of numbers and on lent slices.
+mod bat_time;
 mod blocks;
 mod bursts;
 mod commands;

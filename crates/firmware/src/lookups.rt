@@ -2,30 +2,24 @@
 use c_numbers::head_of;
 use c_numbers::tell;
 use store::Head;
-ghost use Rattle.tree.specs.declared.types.TreeUse.{TreeUse};
-ghost use Rattle.store.specs.declared.types.TreeName.the-variants.{Starts, Ends};
-ghost use Rattle.store.specs.Trees.{Lent, lentOf};
+ghost use Prim.Native.Nat.{ℕ};
+ghost use mathlib.Core.List.{List, [], _∷_};
+ghost use Rattle.store.specs.declared.types.TreeName.the-variants.{Starts, Ends, Time};
 ghost use Rattle.store.specs.Calls.{lookupIn};
 ghost use Rattle.store.specs.Performing.{perform};
-ghost use Rattle.c_numbers.specs.Heads.{Fields};
-ghost use Rattle.c_numbers.specs.Said.{Told, Tells};
-ghost use Rattle.firmware.specs.Exported.{Handed, storeIn};
+ghost use Rattle.c_numbers.specs.Said.{Tells};
+ghost use Rattle.firmware.specs.Exported.{Handed, handedOf, storeIn};
 
 // The lookup of the tree of starts at (t, k).
 #[no_mangle]
 pub extern "C" fn nimbleshale_lookup_starts(
-    last: u32,
-    started: u32,
-    count_open: u32,
-    start_pages_used: u32,
-    start_roots_used: u32,
-    end_pages_used: u32,
-    end_roots_used: u32,
-    passes: &[u32; Head::PASS_NUMBERS],
+    head: &[u32; Head::NUMBERS],
     start_table: &[u64],
     start_roots: &[u64],
     end_table: &[u64],
     end_roots: &[u64],
+    time_table: &[u64],
+    time_roots: &[u64],
     t: u32,
     k: u32,
     count: &mut u64,
@@ -33,44 +27,35 @@ pub extern "C" fn nimbleshale_lookup_starts(
     pages: &mut u32,
 ) -> u8
     ensures { λ r. do
-      let handedStarts : TreeUse = record { pages = «start_pages_used»; roots = «start_roots_used» }
-      let handedEnds : TreeUse = record { pages = «end_pages_used»; roots = «end_roots_used» }
-      let handedFields : Fields = record { last = last; started = started; count = «count_open»; starts = handedStarts; ends = handedEnds }
-      let handedLent : Lent = lentOf (now («start_table» .entry)) (now («start_roots» .entry)) (now («end_table» .entry)) (now («end_roots» .entry))
-      let handed : Handed = record { fields = handedFields; passes = now (passes .entry); lent = handedLent }
-      let before : Told = record { count = now (count .entry); sum = now (sum .entry); pages = now (pages .entry) }
-      let after : Told = record { count = now (count .exit); sum = now (sum .exit); pages = now (pages .exit) }
+      let handed : Handed = handedOf (now (head .entry)) (now («start_table» .entry)) (now («start_roots» .entry)) (now («end_table» .entry)) (now («end_roots» .entry)) (now («time_table» .entry)) (now («time_roots» .entry))
+      let before : List ℕ = now (count .entry) ∷ (now (sum .entry) ∷ (now (pages .entry) ∷ []))
+      let after : List ℕ = now (count .exit) ∷ (now (sum .exit) ∷ (now (pages .exit) ∷ []))
       ⌜ Tells (perform (storeIn handed) (lookupIn Starts t k) .answer) r before after ⌝ }
 {
-    let head = head_of(
-        last,
-        started,
-        count_open,
-        start_pages_used,
-        start_roots_used,
-        end_pages_used,
-        end_roots_used,
-        passes,
+    let answer = queries::lookup_starts(
+        head_of(head),
+        start_table,
+        start_roots,
+        end_table,
+        end_roots,
+        time_table,
+        time_roots,
+        t,
+        k,
     );
-    let answer = queries::lookup_starts(head, start_table, start_roots, end_table, end_roots, t, k);
     tell(answer, count, sum, pages)
 }
 
 // The lookup of the tree of ends at (t, k).
 #[no_mangle]
 pub extern "C" fn nimbleshale_lookup_ends(
-    last: u32,
-    started: u32,
-    count_open: u32,
-    start_pages_used: u32,
-    start_roots_used: u32,
-    end_pages_used: u32,
-    end_roots_used: u32,
-    passes: &[u32; Head::PASS_NUMBERS],
+    head: &[u32; Head::NUMBERS],
     start_table: &[u64],
     start_roots: &[u64],
     end_table: &[u64],
     end_roots: &[u64],
+    time_table: &[u64],
+    time_roots: &[u64],
     t: u32,
     k: u32,
     count: &mut u64,
@@ -78,25 +63,58 @@ pub extern "C" fn nimbleshale_lookup_ends(
     pages: &mut u32,
 ) -> u8
     ensures { λ r. do
-      let handedStarts : TreeUse = record { pages = «start_pages_used»; roots = «start_roots_used» }
-      let handedEnds : TreeUse = record { pages = «end_pages_used»; roots = «end_roots_used» }
-      let handedFields : Fields = record { last = last; started = started; count = «count_open»; starts = handedStarts; ends = handedEnds }
-      let handedLent : Lent = lentOf (now («start_table» .entry)) (now («start_roots» .entry)) (now («end_table» .entry)) (now («end_roots» .entry))
-      let handed : Handed = record { fields = handedFields; passes = now (passes .entry); lent = handedLent }
-      let before : Told = record { count = now (count .entry); sum = now (sum .entry); pages = now (pages .entry) }
-      let after : Told = record { count = now (count .exit); sum = now (sum .exit); pages = now (pages .exit) }
+      let handed : Handed = handedOf (now (head .entry)) (now («start_table» .entry)) (now («start_roots» .entry)) (now («end_table» .entry)) (now («end_roots» .entry)) (now («time_table» .entry)) (now («time_roots» .entry))
+      let before : List ℕ = now (count .entry) ∷ (now (sum .entry) ∷ (now (pages .entry) ∷ []))
+      let after : List ℕ = now (count .exit) ∷ (now (sum .exit) ∷ (now (pages .exit) ∷ []))
       ⌜ Tells (perform (storeIn handed) (lookupIn Ends t k) .answer) r before after ⌝ }
 {
-    let head = head_of(
-        last,
-        started,
-        count_open,
-        start_pages_used,
-        start_roots_used,
-        end_pages_used,
-        end_roots_used,
-        passes,
+    let answer = queries::lookup_ends(
+        head_of(head),
+        start_table,
+        start_roots,
+        end_table,
+        end_roots,
+        time_table,
+        time_roots,
+        t,
+        k,
     );
-    let answer = queries::lookup_ends(head, start_table, start_roots, end_table, end_roots, t, k);
     tell(answer, count, sum, pages)
+}
+
+// The lookup of the tree of time at (t, k): the factor and the constant of a line over ticks. Its value at t, modulo 2^64, is the bat-time of the keys up to k and the ticks
+// up to t.
+#[no_mangle]
+pub extern "C" fn nimbleshale_lookup_time(
+    head: &[u32; Head::NUMBERS],
+    start_table: &[u64],
+    start_roots: &[u64],
+    end_table: &[u64],
+    end_roots: &[u64],
+    time_table: &[u64],
+    time_roots: &[u64],
+    t: u32,
+    k: u32,
+    factor: &mut u64,
+    constant: &mut u64,
+    pages: &mut u32,
+) -> u8
+    ensures { λ r. do
+      let handed : Handed = handedOf (now (head .entry)) (now («start_table» .entry)) (now («start_roots» .entry)) (now («end_table» .entry)) (now («end_roots» .entry)) (now («time_table» .entry)) (now («time_roots» .entry))
+      let before : List ℕ = now (factor .entry) ∷ (now (constant .entry) ∷ (now (pages .entry) ∷ []))
+      let after : List ℕ = now (factor .exit) ∷ (now (constant .exit) ∷ (now (pages .exit) ∷ []))
+      ⌜ Tells (perform (storeIn handed) (lookupIn Time t k) .answer) r before after ⌝ }
+{
+    let answer = queries::lookup_time(
+        head_of(head),
+        start_table,
+        start_roots,
+        end_table,
+        end_roots,
+        time_table,
+        time_roots,
+        t,
+        k,
+    );
+    tell(answer, factor, constant, pages)
 }

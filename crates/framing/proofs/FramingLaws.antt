@@ -1,29 +1,39 @@
 -- A command by its byte and the bytes behind it: how many operands it has, whether it waits, and whether the run goes on after it.
-use Prim.Native.Nat.{ℕ, _≤_, _<_}
+use Prim.Native.Nat.{ℕ, zero, suc, _≤_, _<_}
 use native.Mathlib.Omega.{arith}
 use mathlib.Core.Path.{_≡_, refl, ap, sym, _∙_}
 use mathlib.Core.Bool.{Bool, true, false, not, _&&_, _||_}
 use mathlib.Core.List.{List}
 use lib.ListN.{length}
 use lib.Dec.{ltb}
-use borrow.Author.Tests.{lt-ltb, le-ltb}
+use borrow.Author.Tests.{ne-eqb, lt-ltb, le-ltb}
 use Rattle.command.specs.Stream.{Kind, kindOf, operandBytes, goesOn, longestAnswer}
 use Rattle.command.specs.Pieces.{isUnfinished, mustWait}
-use Rattle.command.proofs.KindLaws.{by-kind, kind-question, kind-event, event-start, event-end, event-unknown}
+use Rattle.command.proofs.KindLaws.{by-kind, kind-event, no-question, event-unknown}
 
--- How many operands a byte has, test by test
-module _ (code : ℕ) where
-  pub question-operands : code ≡ 3 → 12 ≡ operandBytes (kindOf code)
-  question-operands e = sym (ap operandBytes (kind-question code e))
+-- How many operands a byte has, range by range
+pub event-operands : (code : ℕ) → 1 ≤ code → code < 3 → 8 ≡ operandBytes (kindOf code)
+event-operands zero l h = absurd (omega arith)
+event-operands (suc zero) l h = refl
+event-operands (suc (suc zero)) l h = refl
+event-operands (suc (suc (suc n))) l h = absurd (omega arith)
 
-  pub start-operands : (code ≡ 3 → ⊥) → code ≡ 1 → 8 ≡ operandBytes (kindOf code)
-  start-operands n e = sym (ap operandBytes (kind-event code n ∙ event-start code e))
+pub query-operands : (code : ℕ) → 3 ≤ code → code < 5 → 12 ≡ operandBytes (kindOf code)
+query-operands zero l h = absurd (omega arith)
+query-operands (suc zero) l h = absurd (omega arith)
+query-operands (suc (suc zero)) l h = absurd (omega arith)
+query-operands (suc (suc (suc zero))) l h = refl
+query-operands (suc (suc (suc (suc zero)))) l h = refl
+query-operands (suc (suc (suc (suc (suc n))))) l h = absurd (omega arith)
 
-  pub end-operands : (code ≡ 3 → ⊥) → (code ≡ 1 → ⊥) → code ≡ 2 → 8 ≡ operandBytes (kindOf code)
-  end-operands n m e = sym (ap operandBytes (kind-event code n ∙ event-end code m e))
+pub none-below : (code : ℕ) → code < 1 → 0 ≡ operandBytes (kindOf code)
+none-below zero h = refl
+none-below (suc n) h = absurd (omega arith)
 
-  pub no-operands : (code ≡ 3 → ⊥) → (code ≡ 1 → ⊥) → (code ≡ 2 → ⊥) → 0 ≡ operandBytes (kindOf code)
-  no-operands n m l = sym (ap operandBytes (kind-event code n ∙ event-unknown code m l))
+pub none-above : (code : ℕ) → 5 ≤ code → 0 ≡ operandBytes (kindOf code)
+none-above code l =
+    let no-query = no-question code (λ e. omega (arith, e, l)) ∙ ne-eqb code 4 (λ e. omega (arith, e, l)) in
+    sym (ap operandBytes (kind-event code no-query ∙ event-unknown code (λ e. omega (arith, e, l)) (λ e. omega (arith, e, l))))
 
 module _ (code : ℕ) (rest : List ℕ) where
   -- Whether it waits, test by test
@@ -46,7 +56,7 @@ module _ (code : ℕ) (rest : List ℕ) where
       by-kind (λ (kind : Kind). operandBytes kind ≡ 0 → false ≡ goesOn rest kind)
       (λ e. absurd (omega (arith, e)))
       (λ e. absurd (omega (arith, e)))
-      (λ e. absurd (omega (arith, e)))
+      (λ query e. absurd (omega (arith, e)))
       (λ e. refl)
       code
 
@@ -55,6 +65,6 @@ module _ (code : ℕ) (rest : List ℕ) where
       by-kind (λ (kind : Kind). (operandBytes kind ≡ 0 → ⊥) → not (ltb (length rest) (operandBytes kind)) ≡ goesOn rest kind)
       (λ n. refl)
       (λ n. refl)
-      (λ n. refl)
+      (λ query n. refl)
       (λ n. absurd (n refl))
       code

@@ -12,16 +12,11 @@ pub const LONGEST_ANSWER: usize = 18;
 pub fn operand_count(code: u8) -> usize
     ensures { λ r. ⌜ r ≡ operandBytes (kindOf code) ⌝ }
 {
-    if code == 3 {
-        return 12;
+    match code {
+        1 | 2 => 8,
+        3 | 4 => 12,
+        _ => 0,
     }
-    if code == 1 {
-        return 8;
-    }
-    if code == 2 {
-        return 8;
-    }
-    0
 }
 
 // Whether operands of a command are missing.

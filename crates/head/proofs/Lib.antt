@@ -1,2 +1,3 @@
 -- Laws of the test of a head.
 pub mod FitLaws
+pub mod HeadParts

@@ -58,9 +58,11 @@ pub fn head_fits(
     start_roots: &[u64],
     end_table: &[u64],
     end_roots: &[u64],
+    time_table: &[u64],
+    time_roots: &[u64],
 ) -> bool
     ensures { λ r. do
-      let s : Store = storeOf head (now («start_table» .entry)) (now («start_roots» .entry)) (now («end_table» .entry)) (now («end_roots» .entry))
+      let s : Store = storeOf head (now («start_table» .entry)) (now («start_roots» .entry)) (now («end_table» .entry)) (now («end_roots» .entry)) (now («time_table» .entry)) (now («time_roots» .entry))
       ⌜ r ≡ headFits s ⌝ }
 {
     if Head::OPEN_LIMIT < head.count {
@@ -73,7 +75,10 @@ pub fn head_fits(
     if use_fits(starts, start_table.len(), start_roots.len()) {
         let ends = head.ends;
         if use_fits(ends, end_table.len(), end_roots.len()) {
-            return passes_fit(head);
+            let time = head.time;
+            if use_fits(time, time_table.len(), time_roots.len()) {
+                return passes_fit(head);
+            }
         }
     }
     false

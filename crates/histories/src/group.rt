@@ -29,6 +29,14 @@ fn lesser(one: usize, other: usize) -> usize
     other
 }
 
+fn least(one: usize, other: usize, third: usize) -> usize
+    ensures { λ r. ⌜ r ≤ one ⌝ }
+    ensures { λ r. ⌜ r ≤ other ⌝ }
+    ensures { λ r. ⌜ r ≤ third ⌝ }
+{
+    lesser(lesser(one, other), third)
+}
+
 // The part of so many words and places at most. A small part has one to eight pages, not all of them whole, and one to six roots.
 fn part_of(random: &mut u64, small: bool, words: usize, places: usize) -> Part
     ensures { λ r. ⌜ r .words ≤ words ⌝ }
@@ -95,13 +103,15 @@ fn history_on(
     start_roots: &mut [u64],
     end_table: &mut [u64],
     end_roots: &mut [u64],
+    time_table: &mut [u64],
+    time_roots: &mut [u64],
     passes: &mut [u32; NUMBERS],
     random: &mut u64,
     shape: Shape,
     small: bool,
 ) -> Counts {
-    let most = lesser(start_table.len(), end_table.len());
-    let most_places = lesser(start_roots.len(), end_roots.len());
+    let most = least(start_table.len(), end_table.len(), time_table.len());
+    let most_places = least(start_roots.len(), end_roots.len(), time_roots.len());
     let part = part_of(random, small, most, most_places);
     let words = part.words;
     let places = part.places;
@@ -110,6 +120,8 @@ fn history_on(
         &mut start_roots[..places],
         &mut end_table[..words],
         &mut end_roots[..places],
+        &mut time_table[..words],
+        &mut time_roots[..places],
         passes,
         random,
         shape,
@@ -124,6 +136,8 @@ pub fn group_of(
     start_roots: &mut [u64],
     end_table: &mut [u64],
     end_roots: &mut [u64],
+    time_table: &mut [u64],
+    time_roots: &mut [u64],
     passes: &mut [u32; NUMBERS],
     number: u32,
 ) -> Counts {
@@ -138,6 +152,8 @@ pub fn group_of(
             start_roots,
             end_table,
             end_roots,
+            time_table,
+            time_roots,
             passes,
             &mut random,
             shape,

@@ -5,7 +5,7 @@ use observed::Counts;
 use observed::Lives;
 use observed::head_agrees;
 use observed::height;
-use observed::refusal_of;
+use observed::higher;
 use observed::same;
 use pass_book::Call;
 use pass_book::PassBook;
@@ -42,22 +42,25 @@ fn with_room(book: PassBook) -> PassBook
 
 // The book's answer with the pages opened, which are the store's to say.
 fn with_pages(answer: Answer, opened: u32) -> Answer {
-    let Answer::Totals {
-        count,
-        sum,
-        pages: _,
-    } = answer
-    else {
-        return answer;
-    };
-    Answer::Totals {
-        count,
-        sum,
-        pages: opened,
+    match answer {
+        Answer::Totals {
+            count,
+            sum,
+            pages: _,
+        } => Answer::Totals {
+            count,
+            sum,
+            pages: opened,
+        },
+        Answer::BatTime { total, pages: _ } => Answer::BatTime {
+            total,
+            pages: opened,
+        },
+        _ => answer,
     }
 }
 
-// Whether an answer is one after which the lent words are as before: a refusal, or totals.
+// Whether an answer is one after which the lent words are as before: a refusal, totals or bat-time.
 fn leaves_words(answer: Answer) -> bool {
     match answer {
         Answer::Refused(_) => true,
@@ -69,6 +72,7 @@ fn leaves_words(answer: Answer) -> bool {
             sum: _,
             pages: _,
         } => true,
+        Answer::BatTime { total: _, pages: _ } => true,
     }
 }
 
@@ -83,7 +87,7 @@ fn words_kept(answer: Answer, unchanged: bool) -> bool {
 // What was compared before, and now the answers, the head with the list, and the words with those before.
 fn judged(counts: Counts, outcome: Outcome, said: Answer, agrees: bool) -> Counts {
     let found = outcome.answer;
-    let called = counts.called(refusal_of(found));
+    let called = counts.called(found, outcome.hints.for_time);
     let answered = called.judged(same(found, said));
     answered
         .judged(agrees)
@@ -126,6 +130,8 @@ fn turn(
     start_roots: &mut [u64],
     end_table: &mut [u64],
     end_roots: &mut [u64],
+    time_table: &mut [u64],
+    time_roots: &mut [u64],
     passes: &mut [u32; NUMBERS],
     random: &mut u64,
     shape: Shape,
@@ -135,7 +141,16 @@ fn turn(
 {
     let head = run.head;
     let call = run.call;
-    let outcome = made(head, start_table, start_roots, end_table, end_roots, call);
+    let outcome = made(
+        head,
+        start_table,
+        start_roots,
+        end_table,
+        end_roots,
+        time_table,
+        time_roots,
+        call,
+    );
     put_to_book(run, outcome, passes, random, shape, anew)
 }
 
@@ -145,6 +160,8 @@ pub fn history(
     start_roots: &mut [u64],
     end_table: &mut [u64],
     end_roots: &mut [u64],
+    time_table: &mut [u64],
+    time_roots: &mut [u64],
     passes: &mut [u32; NUMBERS],
     random: &mut u64,
     shape: Shape,
@@ -171,6 +188,8 @@ pub fn history(
             start_roots,
             end_table,
             end_roots,
+            time_table,
+            time_roots,
             passes,
             random,
             shape,
@@ -180,5 +199,7 @@ pub fn history(
     }
     let starts = height(start_table, start_roots, run.head.starts.roots);
     let ends = height(end_table, end_roots, run.head.ends.roots);
-    run.counts.ended(starts, ends, run.lives)
+    let time = height(time_table, time_roots, run.head.time.roots);
+    run.counts
+        .ended(higher(higher(starts, ends), time), run.lives)
 }

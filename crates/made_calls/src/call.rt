@@ -12,16 +12,51 @@ fn look_up(
     start_roots: &[u64],
     end_table: &[u64],
     end_roots: &[u64],
+    time_table: &[u64],
+    time_roots: &[u64],
     tree: TreeName,
     t: u32,
     k: u32,
 ) -> Answer {
     match tree {
         TreeName::Starts => {
-            queries::lookup_starts(head, start_table, start_roots, end_table, end_roots, t, k)
+            queries::lookup_starts(
+                head,
+                start_table,
+                start_roots,
+                end_table,
+                end_roots,
+                time_table,
+                time_roots,
+                t,
+                k,
+            )
         }
         TreeName::Ends => {
-            queries::lookup_ends(head, start_table, start_roots, end_table, end_roots, t, k)
+            queries::lookup_ends(
+                head,
+                start_table,
+                start_roots,
+                end_table,
+                end_roots,
+                time_table,
+                time_roots,
+                t,
+                k,
+            )
+        }
+        TreeName::Time => {
+            queries::lookup_time(
+                head,
+                start_table,
+                start_roots,
+                end_table,
+                end_roots,
+                time_table,
+                time_roots,
+                t,
+                k,
+            )
         }
     }
 }
@@ -32,6 +67,8 @@ fn ask(
     start_roots: &[u64],
     end_table: &[u64],
     end_roots: &[u64],
+    time_table: &[u64],
+    time_roots: &[u64],
     asked: Asked,
 ) -> Answer {
     match asked {
@@ -41,6 +78,21 @@ fn ask(
             start_roots,
             end_table,
             end_roots,
+            time_table,
+            time_roots,
+            k1,
+            k2,
+            t1,
+            t2,
+        ),
+        Asked::BatTime { k1, k2, t1, t2 } => queries::bat_time(
+            head,
+            start_table,
+            start_roots,
+            end_table,
+            end_roots,
+            time_table,
+            time_roots,
             k1,
             k2,
             t1,
@@ -52,6 +104,8 @@ fn ask(
             start_roots,
             end_table,
             end_roots,
+            time_table,
+            time_roots,
             tree,
             t,
             k,
@@ -66,16 +120,28 @@ pub fn make(
     start_roots: &mut [u64],
     end_table: &mut [u64],
     end_roots: &mut [u64],
+    time_table: &mut [u64],
+    time_roots: &mut [u64],
     call: Call,
 ) -> Reply {
     match call {
-        Call::Open => opening::open(head, start_table, start_roots, end_table, end_roots),
+        Call::Open => opening::open(
+            head,
+            start_table,
+            start_roots,
+            end_table,
+            end_roots,
+            time_table,
+            time_roots,
+        ),
         Call::Start { tick, key, weight } => updates::start(
             head,
             start_table,
             start_roots,
             end_table,
             end_roots,
+            time_table,
+            time_roots,
             tick,
             key,
             weight,
@@ -86,11 +152,22 @@ pub fn make(
             start_roots,
             end_table,
             end_roots,
+            time_table,
+            time_roots,
             tick,
             number,
         ),
         Call::Ask(asked) => Reply {
-            answer: ask(head, start_table, start_roots, end_table, end_roots, asked),
+            answer: ask(
+                head,
+                start_table,
+                start_roots,
+                end_table,
+                end_roots,
+                time_table,
+                time_roots,
+                asked,
+            ),
             head,
         },
     }

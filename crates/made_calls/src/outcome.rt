@@ -60,44 +60,71 @@ fn number_if(number: u8, holds: bool) -> u8 {
 }
 
 // What the book is told of a call, since it cannot know it: the store's refusal where it is 27 or 28 and can be so, and the pages on the paths that
-// the call's lookups follow.
+// the call's lookups follow. Beside it, whether 27 came where only the tree of time may lack pages.
 pub struct Hints {
     pub lacking: u8,
     pub pages: u32,
+    pub for_time: bool,
 }
 
-// The hints for a call, by the tree that it writes or the lookups that it makes.
+// The hints for a call that writes two trees, by what each of them may lack.
+fn lacking_hints(own: u8, time: u8) -> Hints {
+    if own != 0 {
+        return Hints {
+            lacking: own,
+            pages: 0,
+            for_time: false,
+        };
+    }
+    Hints {
+        lacking: time,
+        pages: 0,
+        for_time: time == 27,
+    }
+}
+
+// The hints for a call, by the trees that it writes or the lookups that it makes.
 fn hints_of(
     head: Head,
     start_table: &[u64],
     start_roots: &[u64],
     end_table: &[u64],
     end_roots: &[u64],
+    time_table: &[u64],
+    time_roots: &[u64],
     call: Call,
     refusal: u8,
 ) -> Hints {
     let starts = head.starts;
     let ends = head.ends;
+    let time = head.time;
     match call {
-        Call::Open => Hints {
-            lacking: 0,
-            pages: 0,
-        },
+        Call::Open => lacking_hints(0, 0),
         Call::Start {
             tick,
             key: _,
             weight: _,
-        } => Hints {
-            lacking: lacking(start_table, start_roots, starts, tick, refusal),
-            pages: 0,
-        },
-        Call::End { tick, number: _ } => Hints {
-            lacking: lacking(end_table, end_roots, ends, tick, refusal),
-            pages: 0,
-        },
+        } => lacking_hints(
+            lacking(start_table, start_roots, starts, tick, refusal),
+            lacking(time_table, time_roots, time, tick, refusal),
+        ),
+        Call::End { tick, number: _ } => lacking_hints(
+            lacking(end_table, end_roots, ends, tick, refusal),
+            lacking(time_table, time_roots, time, tick, refusal),
+        ),
         Call::Ask(asked) => Hints {
             lacking: 0,
-            pages: pages_opened(head, start_table, start_roots, end_table, end_roots, asked),
+            pages: pages_opened(
+                head,
+                start_table,
+                start_roots,
+                end_table,
+                end_roots,
+                time_table,
+                time_roots,
+                asked,
+            ),
+            for_time: false,
         },
     }
 }
@@ -121,18 +148,30 @@ fn observed(
     start_roots: &[u64],
     end_table: &[u64],
     end_roots: &[u64],
+    time_table: &[u64],
+    time_roots: &[u64],
     call: Call,
 ) -> Outcome {
     let answer = reply.answer;
     let next = reply.head;
     let refusal = refusal_of(answer);
-    let now = memory_sum(next, start_table, start_roots, end_table, end_roots);
+    let now = memory_sum(
+        next,
+        start_table,
+        start_roots,
+        end_table,
+        end_roots,
+        time_table,
+        time_roots,
+    );
     let hints = hints_of(
         head,
         start_table,
         start_roots,
         end_table,
         end_roots,
+        time_table,
+        time_roots,
         call,
         refusal,
     );
@@ -151,10 +190,29 @@ pub fn made(
     start_roots: &mut [u64],
     end_table: &mut [u64],
     end_roots: &mut [u64],
+    time_table: &mut [u64],
+    time_roots: &mut [u64],
     call: Call,
 ) -> Outcome {
-    let before = memory_sum(head, start_table, start_roots, end_table, end_roots);
-    let reply = make(head, start_table, start_roots, end_table, end_roots, call);
+    let before = memory_sum(
+        head,
+        start_table,
+        start_roots,
+        end_table,
+        end_roots,
+        time_table,
+        time_roots,
+    );
+    let reply = make(
+        head,
+        start_table,
+        start_roots,
+        end_table,
+        end_roots,
+        time_table,
+        time_roots,
+        call,
+    );
     observed(
         head,
         reply,
@@ -163,6 +221,8 @@ pub fn made(
         start_roots,
         end_table,
         end_roots,
+        time_table,
+        time_roots,
         call,
     )
 }

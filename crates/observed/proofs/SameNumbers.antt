@@ -1,39 +1,31 @@
 -- Answers with the same kind and fields are the same.
-use native.Mathlib.Omega.{arith}
-use mathlib.Core.Path.{_≡_, refl, ap}
+use mathlib.Core.Path.{_≡_, refl, ap, sym, _∙_}
+use mathlib.Core.Bool.{cond}
+use lib.Dec.{eqb}
 use Rattle.store.specs.declared.types.Answer.{Answer}
 use Rattle.store.specs.declared.types.Answer.the-variants as said
 use Rattle.observed.specs.declared.counts.AnswerNumbers.{AnswerNumbers}
 use Rattle.observed.specs.Answers.{answerNumbers}
 
-same-numbers : (a b : Answer) → answerNumbers a .kind ≡ answerNumbers b .kind → answerNumbers a .number ≡ answerNumbers b .number → answerNumbers a .sum ≡ answerNumbers b .sum → answerNumbers a .pages ≡ answerNumbers b .pages → a ≡ b
-same-numbers (said.Refused n) (said.Refused m) of-kind of-number of-sum of-pages = ap said.Refused of-number
-same-numbers (said.Refused n) said.Opened of-kind of-number of-sum of-pages = absurd (omega arith)
-same-numbers (said.Refused n) (said.Started m) of-kind of-number of-sum of-pages = absurd (omega arith)
-same-numbers (said.Refused n) said.Ended of-kind of-number of-sum of-pages = absurd (omega arith)
-same-numbers (said.Refused n) (said.Totals m u q) of-kind of-number of-sum of-pages = absurd (omega arith)
-same-numbers said.Opened (said.Refused m) of-kind of-number of-sum of-pages = absurd (omega arith)
-same-numbers said.Opened said.Opened of-kind of-number of-sum of-pages = refl
-same-numbers said.Opened (said.Started m) of-kind of-number of-sum of-pages = absurd (omega arith)
-same-numbers said.Opened said.Ended of-kind of-number of-sum of-pages = absurd (omega arith)
-same-numbers said.Opened (said.Totals m u q) of-kind of-number of-sum of-pages = absurd (omega arith)
-same-numbers (said.Started n) (said.Refused m) of-kind of-number of-sum of-pages = absurd (omega arith)
-same-numbers (said.Started n) said.Opened of-kind of-number of-sum of-pages = absurd (omega arith)
-same-numbers (said.Started n) (said.Started m) of-kind of-number of-sum of-pages = ap said.Started of-number
-same-numbers (said.Started n) said.Ended of-kind of-number of-sum of-pages = absurd (omega arith)
-same-numbers (said.Started n) (said.Totals m u q) of-kind of-number of-sum of-pages = absurd (omega arith)
-same-numbers said.Ended (said.Refused m) of-kind of-number of-sum of-pages = absurd (omega arith)
-same-numbers said.Ended said.Opened of-kind of-number of-sum of-pages = absurd (omega arith)
-same-numbers said.Ended (said.Started m) of-kind of-number of-sum of-pages = absurd (omega arith)
-same-numbers said.Ended said.Ended of-kind of-number of-sum of-pages = refl
-same-numbers said.Ended (said.Totals m u q) of-kind of-number of-sum of-pages = absurd (omega arith)
-same-numbers (said.Totals n s p) (said.Refused m) of-kind of-number of-sum of-pages = absurd (omega arith)
-same-numbers (said.Totals n s p) said.Opened of-kind of-number of-sum of-pages = absurd (omega arith)
-same-numbers (said.Totals n s p) (said.Started m) of-kind of-number of-sum of-pages = absurd (omega arith)
-same-numbers (said.Totals n s p) said.Ended of-kind of-number of-sum of-pages = absurd (omega arith)
-same-numbers (said.Totals n s p) (said.Totals m u q) of-kind of-number of-sum of-pages = cc
+-- The answer that some numbers are of
+abbrev answerBack : AnswerNumbers → Answer
+answerBack n =
+    cond (eqb (n .kind) 0) (said.Refused (n .number))
+    (cond (eqb (n .kind) 1) said.Opened
+    (cond (eqb (n .kind) 2) (said.Started (n .number))
+    (cond (eqb (n .kind) 3) said.Ended
+    (cond (eqb (n .kind) 4) (said.Totals (n .number) (n .sum) (n .pages)) (said.BatTime (n .number) (n .pages))))))
+
+back : (a : Answer) → answerBack (answerNumbers a) ≡ a
+back (said.Refused n) = refl
+back said.Opened = refl
+back (said.Started n) = refl
+back said.Ended = refl
+back (said.Totals n s p) = refl
+back (said.BatTime n p) = refl
 
 module _ (a b : Answer) {left right : AnswerNumbers} (of-left : left ≡ answerNumbers a) (of-right : right ≡ answerNumbers b) where
   pub same-answers : left .kind ≡ right .kind → left .number ≡ right .number → left .sum ≡ right .sum → left .pages ≡ right .pages → a ≡ b
-  same-answers of-kind of-number of-sum of-pages =
-      same-numbers a b (rw (of-left, of-right) at of-kind) (rw (of-left, of-right) at of-number) (rw (of-left, of-right) at of-sum) (rw (of-left, of-right) at of-pages)
+  same-answers kind number sum pages =
+      let numbers : left ≡ right = λ i. record { kind = kind i; number = number i; sum = sum i; pages = pages i } in
+      sym (back a) ∙ ap answerBack (sym of-left ∙ numbers ∙ of-right) ∙ back b

@@ -10,8 +10,13 @@ pub struct Counts {
     pub compared: u64,
     pub differed: u64,
     pub lacked_pages: u64,
+    // Of these, calls whose other tree had pages enough: the tree of time alone lacked them
+    pub lacked_for_time: u64,
     pub lacked_roots: u64,
     pub refused: u64,
+    // Answers of bat-time, and how many of them were above 0
+    pub bat_times: u64,
+    pub some_time: u64,
     // Passes that ended at their own start tick, and the most ends that one tick had
     pub clicks: u64,
     pub most_ends: u64,
@@ -61,6 +66,12 @@ fn answer_numbers(answer: Answer) -> AnswerNumbers
             sum,
             pages,
         },
+        Answer::BatTime { total, pages } => AnswerNumbers {
+            kind: 5,
+            number: total,
+            sum: 0,
+            pages,
+        },
     }
 }
 
@@ -90,6 +101,18 @@ pub fn refusal_of(answer: Answer) -> u8 {
     0
 }
 
+fn is_bat_time(answer: Answer) -> bool {
+    answer_numbers(answer).kind == 5
+}
+
+// The total of bat-time, and 0 of any other answer.
+fn time_of(answer: Answer) -> u64 {
+    if let Answer::BatTime { total, pages: _ } = answer {
+        return total;
+    }
+    0
+}
+
 // One where something holds.
 fn one_if(holds: bool) -> u64 {
     if holds {
@@ -112,8 +135,11 @@ impl Counts {
             compared: 0,
             differed: 0,
             lacked_pages: 0,
+            lacked_for_time: 0,
             lacked_roots: 0,
             refused: 0,
+            bat_times: 0,
+            some_time: 0,
             clicks: 0,
             most_ends: 0,
             highest: 0,
@@ -126,8 +152,14 @@ impl Counts {
             compared: std::num::wrapping_add_u64(self.compared, other.compared),
             differed: std::num::wrapping_add_u64(self.differed, other.differed),
             lacked_pages: std::num::wrapping_add_u64(self.lacked_pages, other.lacked_pages),
+            lacked_for_time: std::num::wrapping_add_u64(
+                self.lacked_for_time,
+                other.lacked_for_time,
+            ),
             lacked_roots: std::num::wrapping_add_u64(self.lacked_roots, other.lacked_roots),
             refused: std::num::wrapping_add_u64(self.refused, other.refused),
+            bat_times: std::num::wrapping_add_u64(self.bat_times, other.bat_times),
+            some_time: std::num::wrapping_add_u64(self.some_time, other.some_time),
             clicks: std::num::wrapping_add_u64(self.clicks, other.clicks),
             most_ends: higher(self.most_ends, other.most_ends),
             highest: higher(self.highest, other.highest),
@@ -141,8 +173,11 @@ impl Counts {
             compared: 1,
             differed: one_if(!same),
             lacked_pages: 0,
+            lacked_for_time: 0,
             lacked_roots: 0,
             refused: 0,
+            bat_times: 0,
+            some_time: 0,
             clicks: 0,
             most_ends: 0,
             highest: 0,
@@ -150,15 +185,19 @@ impl Counts {
         self.plus(one)
     }
 
-    // One more call, refused or not.
-    pub fn called(self, refusal: u8) -> Counts {
+    // One more call, by its answer and by whether only the tree of time may have lacked pages for it.
+    pub fn called(self, answer: Answer, for_time: bool) -> Counts {
+        let refusal = refusal_of(answer);
         let one = Counts {
             calls: 1,
             compared: 0,
             differed: 0,
             lacked_pages: one_if(refusal == 27),
+            lacked_for_time: one_if(for_time),
             lacked_roots: one_if(refusal == 28),
             refused: one_if(refusal != 0),
+            bat_times: one_if(is_bat_time(answer)),
+            some_time: one_if(0 < time_of(answer)),
             clicks: 0,
             most_ends: 0,
             highest: 0,
@@ -166,18 +205,21 @@ impl Counts {
         self.plus(one)
     }
 
-    // At the end, with the heights of both trees and what came about of closed lives.
-    pub fn ended(self, start_height: u64, end_height: u64, lives: Lives) -> Counts {
+    // At the end, with the height of the highest tree and what came about of closed lives.
+    pub fn ended(self, height: u64, lives: Lives) -> Counts {
         let last = Counts {
             calls: 0,
             compared: 0,
             differed: 0,
             lacked_pages: 0,
+            lacked_for_time: 0,
             lacked_roots: 0,
             refused: 0,
+            bat_times: 0,
+            some_time: 0,
             clicks: lives.clicks,
             most_ends: lives.most_ends,
-            highest: higher(start_height, end_height),
+            highest: height,
         };
         self.plus(last)
     }

@@ -6,6 +6,7 @@ use random_calls::NUMBERS;
 use random_calls::PASSES;
 use store::Head;
 use store::OpenPass;
+use tree::TreeUse;
 ghost use Prim.Native.Nat.{_≤_};
 
 // "unused places zero".
@@ -112,6 +113,13 @@ fn summed(slice: &[u64], before: u64) -> u64 {
     sum
 }
 
+// A number for the words that are lent to a tree, for the pages and roots that it uses, and for a number before them.
+fn tree_sum(table: &[u64], roots: &[u64], used: TreeUse, before: u64) -> u64 {
+    let lent = summed(roots, summed(table, before));
+    let numbers = [used.pages as u64, used.roots as u64];
+    summed(&numbers, lent)
+}
+
 // A number for all the words that are lent, and for the pages and roots that the head says are in use.
 pub fn memory_sum(
     head: Head,
@@ -119,14 +127,13 @@ pub fn memory_sum(
     start_roots: &[u64],
     end_table: &[u64],
     end_roots: &[u64],
+    time_table: &[u64],
+    time_roots: &[u64],
 ) -> u64 {
-    let starts = summed(start_roots, summed(start_table, 1));
-    let both = summed(end_roots, summed(end_table, starts));
-    let used = [
-        head.starts.pages as u64,
-        head.starts.roots as u64,
-        head.ends.pages as u64,
-        head.ends.roots as u64,
-    ];
-    summed(&used, both)
+    let starts_used = head.starts;
+    let ends_used = head.ends;
+    let time_used = head.time;
+    let starts = tree_sum(start_table, start_roots, starts_used, 1);
+    let both = tree_sum(end_table, end_roots, ends_used, starts);
+    tree_sum(time_table, time_roots, time_used, both)
 }

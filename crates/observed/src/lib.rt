@@ -6,6 +6,7 @@ mod lives;
 mod paths;
 
 pub use counts::Counts;
+pub use counts::higher;
 pub use counts::refusal_of;
 pub use counts::same;
 pub use left_behind::head_agrees;

@@ -1,4 +1,4 @@
-// Pages opened, by the words that the store holds: the lengths of the paths of a question's or a lookup's lookups.
+// Pages opened, by the words that the store holds: the lengths of the paths of a call's lookups.
 use pass_book::Asked;
 use store::Head;
 use store::TreeName;
@@ -93,12 +93,12 @@ fn band_length(table: &[u64], roots: &[u64], used: u32, t: u32, k1: u32, k2: u32
     std::num::wrapping_add_u32(high, low)
 }
 
-// The paths of the ends that were heard before t1. No tick is before 0: "t1 = 0 looks up none".
-fn ended_length(table: &[u64], roots: &[u64], used: u32, t1: u32, k1: u32, k2: u32) -> u32 {
-    if t1 == 0 {
+// The paths that it follows before tick t. No tick is before 0: "t1 = 0 looks up none".
+fn length_before(table: &[u64], roots: &[u64], used: u32, t: u32, k1: u32, k2: u32) -> u32 {
+    if t == 0 {
         return 0;
     }
-    band_length(table, roots, used, t1 - 1, k1, k2)
+    band_length(table, roots, used, t - 1, k1, k2)
 }
 
 // The pages that a question opens, "a page on two paths counted twice".
@@ -113,19 +113,47 @@ fn question_pages(
     t1: u32,
     t2: u32,
 ) -> u32 {
-    let t = std::num::wrapping_sub_u32(t2, 1);
-    let starts = band_length(start_table, start_roots, head.starts.roots, t, k1, k2);
-    let ends = ended_length(end_table, end_roots, head.ends.roots, t1, k1, k2);
+    let starts = length_before(start_table, start_roots, head.starts.roots, t2, k1, k2);
+    let ends = length_before(end_table, end_roots, head.ends.roots, t1, k1, k2);
     std::num::wrapping_add_u32(starts, ends)
 }
 
-// The pages that a question or a lookup opens, if it is answered with totals.
+// The pages that bat-time opens: "its lookups are at t2 - 1 and, with t1 above 0, at t1 - 1", all in the tree of time.
+fn time_pages(table: &[u64], roots: &[u64], used: u32, k1: u32, k2: u32, t1: u32, t2: u32) -> u32 {
+    let until = length_before(table, roots, used, t2, k1, k2);
+    let before = length_before(table, roots, used, t1, k1, k2);
+    std::num::wrapping_add_u32(until, before)
+}
+
+// The pages that a lookup of one of the trees opens.
+fn lookup_pages(
+    head: Head,
+    start_table: &[u64],
+    start_roots: &[u64],
+    end_table: &[u64],
+    end_roots: &[u64],
+    time_table: &[u64],
+    time_roots: &[u64],
+    tree: TreeName,
+    t: u32,
+    k: u32,
+) -> u32 {
+    match tree {
+        TreeName::Starts => path_length(start_table, start_roots, head.starts.roots, t, k),
+        TreeName::Ends => path_length(end_table, end_roots, head.ends.roots, t, k),
+        TreeName::Time => path_length(time_table, time_roots, head.time.roots, t, k),
+    }
+}
+
+// The pages that a call opens that only reads, if it is not refused.
 pub fn pages_opened(
     head: Head,
     start_table: &[u64],
     start_roots: &[u64],
     end_table: &[u64],
     end_roots: &[u64],
+    time_table: &[u64],
+    time_roots: &[u64],
     asked: Asked,
 ) -> u32 {
     match asked {
@@ -140,10 +168,21 @@ pub fn pages_opened(
             t1,
             t2,
         ),
-        Asked::Lookup { tree, t, k } => match tree {
-            TreeName::Starts => path_length(start_table, start_roots, head.starts.roots, t, k),
-            TreeName::Ends => path_length(end_table, end_roots, head.ends.roots, t, k),
-        },
+        Asked::BatTime { k1, k2, t1, t2 } => {
+            time_pages(time_table, time_roots, head.time.roots, k1, k2, t1, t2)
+        }
+        Asked::Lookup { tree, t, k } => lookup_pages(
+            head,
+            start_table,
+            start_roots,
+            end_table,
+            end_roots,
+            time_table,
+            time_roots,
+            tree,
+            t,
+            k,
+        ),
     }
 }
 

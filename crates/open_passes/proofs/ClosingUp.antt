@@ -13,11 +13,12 @@ use Rattle.store.specs.Writing.{closedUp}
 
 -- The head with another list of passes
 abbrev pub withPasses : Head → List OpenPass → Head
-withPasses h passes = record { last = h .last; started = h .started; count = h .count; passes = passes; starts = h .starts; ends = h .ends }
+withPasses h passes = record { last = h .last; started = h .started; count = h .count; passes = passes; starts = h .starts; ends = h .ends; time = h .time }
 
 -- The head after an end, with a list of passes
-abbrev pub endedWith : Head → TreeUse → ℕ → List OpenPass → Head
-endedWith h used tick passes = record { last = tick; started = h .started; count = h .count - 1; passes = passes; starts = h .starts; ends = used }
+abbrev pub endedWith : Head → (ends time : TreeUse) → ℕ → List OpenPass → Head
+endedWith h ends time tick passes =
+    record { last = tick; started = h .started; count = h .count - 1; passes = passes; starts = h .starts; ends = ends; time = time }
 
 -- The passes behind a place moved down one place, as far as another place
 unfoldable pub movedTo : List OpenPass → ℕ → ℕ → List OpenPass

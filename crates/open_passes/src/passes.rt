@@ -4,19 +4,29 @@ use store::Head;
 use store::OpenPass;
 use tree::TreeUse;
 ghost use mathlib.Core.Path.{_≡_};
-ghost use Prim.Native.Nat.{_≤_, _<_};
+ghost use Prim.Native.Nat.{_≤_, _<_, min};
 ghost use Rattle.store.specs.Trees.{withUse};
 ghost use Rattle.store.specs.Head.{openLimit, passLimit, noPass, passOf, openedHead};
 ghost use Rattle.store.specs.Writing.{startedHead, endedHead};
-ghost use Rattle.store.specs.declared.types.TreeName.the-variants.{Starts, Ends};
+ghost use Rattle.store.specs.declared.types.TreeName.the-variants.{Starts, Ends, Time};
 ghost use Rattle.store.specs.declared.types.OpenPass.{OpenPass};
 
-// The open pass of a number, and its place.
+// How many passes a list of 64 places has, of a head that may say more.
+fn listed(count: u32) -> usize
+    ensures { λ r. ⌜ r ≡ min count openLimit ⌝ }
+{
+    let places = count as usize;
+    if places < Head::PLACES {
+        return places;
+    }
+    Head::PLACES
+}
+
+// The open pass of a number, and its place, in any head.
 pub fn find_pass(head: Head, number: u32) -> FoundPass
-    requires { ⌜ head .count ≤ openLimit ⌝ }
     ensures { λ r. ⌜ r ≡ passOf head number ⌝ }
 {
-    let count = head.count as usize;
+    let count = listed(head.count);
     let mut place: usize = 0;
     while place < count {
         let pass = head.passes[place];
@@ -28,11 +38,18 @@ pub fn find_pass(head: Head, number: u32) -> FoundPass
     FoundPass::Missing
 }
 
-// The head after a start: one more open pass, behind the others. `used` is what the tree of starts uses then.
-pub fn started_head(mut head: Head, used: TreeUse, tick: u32, key: u32, weight: u32) -> Head
+// The head after a start: one more open pass, behind the others. `starts` and `time` are what these trees use then.
+pub fn started_head(
+    mut head: Head,
+    starts: TreeUse,
+    time: TreeUse,
+    tick: u32,
+    key: u32,
+    weight: u32,
+) -> Head
     requires { ⌜ head .count < openLimit ⌝ }
     requires { ⌜ head .started < passLimit ⌝ }
-    ensures { λ r. ⌜ r ≡ startedHead (withUse head Starts used) tick key weight ⌝ }
+    ensures { λ r. ⌜ r ≡ startedHead (withUse (withUse head Starts starts) Time time) tick key weight ⌝ }
 {
     let number = head.started;
     let count = head.count;
@@ -46,7 +63,8 @@ pub fn started_head(mut head: Head, used: TreeUse, tick: u32, key: u32, weight: 
     head.last = tick;
     head.started = number + 1;
     head.count = count + 1;
-    head.starts = used;
+    head.starts = starts;
+    head.time = time;
     head
 }
 
@@ -63,11 +81,11 @@ fn no_pass() -> OpenPass
 }
 
 // The head after the end of the pass at a place: each later pass moves down one place, so that the order of opening has no gap, and the
-// place set free becomes zero. `used` is what the tree of ends uses then.
-pub fn ended_head(mut head: Head, used: TreeUse, tick: u32, place: usize) -> Head
+// place set free becomes zero. `ends` and `time` are what these trees use then.
+pub fn ended_head(mut head: Head, ends: TreeUse, time: TreeUse, tick: u32, place: usize) -> Head
     requires { ⌜ place < head .count ⌝ }
     requires { ⌜ head .count ≤ openLimit ⌝ }
-    ensures { λ r. ⌜ ((pass : OpenPass) → r ≡ endedHead (withUse head Ends used) tick (FoundPass.At place pass)) ⌝ }
+    ensures { λ r. ⌜ ((pass : OpenPass) → r ≡ endedHead (withUse (withUse head Ends ends) Time time) tick (FoundPass.At place pass)) ⌝ }
 {
     let count = head.count - 1;
     let last = count as usize;
@@ -81,7 +99,8 @@ pub fn ended_head(mut head: Head, used: TreeUse, tick: u32, place: usize) -> Hea
     head.passes[last] = empty;
     head.last = tick;
     head.count = count;
-    head.ends = used;
+    head.ends = ends;
+    head.time = time;
     head
 }
 
@@ -98,5 +117,6 @@ pub fn opened_head() -> Head
         passes: [none; Head::PLACES],
         starts: one,
         ends: one,
+        time: one,
     }
 }

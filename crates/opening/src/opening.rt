@@ -1,4 +1,4 @@
-// Opening a store: an empty tree of starts, an empty tree of ends, and a head that says so.
+// Opening a store: three empty trees, and a head that says so.
 use page::Page;
 use refusals::opening_refusal;
 use replies::Reply;
@@ -39,18 +39,28 @@ pub fn open(
     start_roots: &mut [u64],
     end_table: &mut [u64],
     end_roots: &mut [u64],
+    time_table: &mut [u64],
+    time_roots: &mut [u64],
 ) -> Reply
     ensures { λ r. do
-      let s : Store = storeOf head (now («start_table» .entry)) (now («start_roots» .entry)) (now («end_table» .entry)) (now («end_roots» .entry))
-      let left : Lent = lentOf (now («start_table» .exit)) (now («start_roots» .exit)) (now («end_table» .exit)) (now («end_roots» .exit))
+      let s : Store = storeOf head (now («start_table» .entry)) (now («start_roots» .entry)) (now («end_table» .entry)) (now («end_roots» .entry)) (now («time_table» .entry)) (now («time_roots» .entry))
+      let left : Lent = lentOf (now («start_table» .exit)) (now («start_roots» .exit)) (now («end_table» .exit)) (now («end_roots» .exit)) (now («time_table» .exit)) (now («time_roots» .exit))
       ⌜ RepliedAs (perform s opening) r left ⌝ }
 {
-    let refusal = opening_refusal(start_table, start_roots, end_table, end_roots);
+    let refusal = opening_refusal(
+        start_table,
+        start_roots,
+        end_table,
+        end_roots,
+        time_table,
+        time_roots,
+    );
     if refusal != 0 {
         return Reply::refused(refusal, head);
     }
     open_tree(start_table, start_roots);
     open_tree(end_table, end_roots);
+    open_tree(time_table, time_roots);
     Reply {
         answer: Answer::Opened,
         head: open_passes::opened_head(),

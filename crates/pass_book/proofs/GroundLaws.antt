@@ -1,7 +1,9 @@
 -- The grounds of starts and ends, by the numbers that the code compares, and what is known where none is met.
 use Prim.Native.Nat.{ℕ, _≤_, _<_}
 use native.Mathlib.Omega.{arith}
-use mathlib.Core.Path.{_≡_, refl}
+use native.Mathlib.Decide.{decLe}
+use mathlib.Core.Path.{_≡_, refl, ap, sym, _∙_}
+use mathlib.Core.Bool.{false≢true}
 use mathlib.Core.List.{List}
 use lib.ListN.{List·getD-eq-default}
 use borrow.Author.Tests.{le-ltb, le-leb, lt-leb, ne-eqb}
@@ -11,10 +13,9 @@ use Rattle.store.specs.Calls.{start, end}
 use Rattle.store.specs.Refusals.{firstMet}
 use Rattle.store.specs.Grounds.{argumentGrounds, stateGrounds}
 use Rattle.store.specs.Passes.{countWhere}
-use Rattle.store.specs.Book.{isOpen, neverStarted, bookKnows, bookRefusal}
+use Rattle.store.specs.Book.{isOpen, neverStarted, passNumbered, bookKnows, bookRefusal}
 use Rattle.store.proofs.RefusalLaws.{first-both}
 use Rattle.store.proofs.ArgumentFacts.{arguments-numbered, end-tick, may-start, may-end}
-use Rattle.store.proofs.EndReady.{open-inside}
 use Rattle.pass_book.specs.declared.types.PassBook.{PassBook}
 use Rattle.pass_book.specs.declared.types.Call.{Call}
 use Rattle.pass_book.specs.declared.types.Call.the-variants as made
@@ -80,9 +81,12 @@ module _ (ws : List ℕ) (b : PassBook) (call : Call) (none : bookRefusal (bookI
 
     pub end-known : number < b .started
     end-known =
-        let may = may-end (bookKnows (bookIn ws b) (end tick number)) tick number (both .1) in
-        omega (
-          arith,
-          open-inside number (passesIn ws (b .started)) (may .is-open),
-          passes-length ws (b .started),
-        )
+        go (decLe (b .started) number)
+      where
+        -- No pass has a number that was not given yet, and so none is open
+        go : Dec (b .started ≤ number) → number < b .started
+        go (yes beyond) =
+            let none : passNumbered (bookIn ws b) number ≡ neverStarted =
+            List·getD-eq-default (passesIn ws (b .started)) neverStarted {n = number} (omega (arith, passes-length ws (b .started))) in
+            absurd (false≢true (sym (ap isOpen none) ∙ may-end (bookKnows (bookIn ws b) (end tick number)) tick number (both .1) .is-open))
+        go (no below) = omega (arith, below)

@@ -5,7 +5,7 @@ use mathlib.Core.Path.{_≡_, refl, ap, sym, _∙_}
 use mathlib.Core.List.{List}
 use lib.ListN.{length, set}
 use Rattle.words.specs.Words.{openEnd}
-use Rattle.store.specs.Calls.{Call, start, end}
+use Rattle.store.specs.Calls.{Call, opening, start, end, question, batTime, lookupIn}
 use Rattle.store.specs.Passes.{Pass}
 use Rattle.store.specs.declared.types.Answer.the-variants.{Refused}
 use Rattle.store.specs.Book.{Book, BookTurn, Fed, neither, pagesLacked, rootLacked, refused, unlessFed, unlessMet, bookRefusal, bookDoes, bookDone, bookTurn}
@@ -14,7 +14,7 @@ use Rattle.pass_book.specs.declared.types.Asked.{Asked}
 use Rattle.pass_book.specs.declared.types.Asked.the-variants as ask
 use Rattle.pass_book.specs.BookCalls.{askedCall}
 use Rattle.pass_book.specs.PassList.{withPass, bookIn}
-use Rattle.pass_book.specs.Turns.{lacked, TurnsAs}
+use Rattle.pass_book.specs.Turns.{lacked, inWords, TurnsAs}
 use Rattle.pass_book.proofs.PassLaws.{passes-more, passes-ended}
 
 module _ (b : Book) (c : Call) where
@@ -63,10 +63,20 @@ module _ (ws vs : List ℕ) (b : PassBook) (tick : ℕ) where
       rw e (ap (λ (ps : List Pass). record { last = tick; passes = ps }) (passes-ended ws tick early number (b .started) known room))
 
 -- A refused turn
-pub stays-as : (ws : List ℕ) (b : PassBook) (n : ℕ) {t : BookTurn} → t ≡ record { book = bookIn ws b; answer = refused n } → TurnsAs t (record { answer = Refused n; book = b }) ws
-stays-as ws b n e = rw e (record { answer = refl; book = refl })
+refused-in-words : (c : Call) (n : ℕ) → refused n ≡ inWords c (refused n)
+refused-in-words opening n = refl
+refused-in-words (start tick key weight) n = refl
+refused-in-words (end tick number) n = refl
+refused-in-words (question k1 k2 t1 t2) n = refl
+refused-in-words (batTime k1 k2 t1 t2) n = refl
+refused-in-words (lookupIn tree t k) n = refl
 
--- A question or a lookup: the book stays
+pub stays-as : (ws : List ℕ) (b : PassBook) (c : Call) (n : ℕ) {t : BookTurn} → t ≡ record { book = bookIn ws b; answer = refused n }
+    → TurnsAs c t (record { answer = Refused n; book = b }) ws
+stays-as ws b c n e = rw e (record { answer = refused-in-words c n; book = refl })
+
+-- A call that only reads: the book stays
 pub asked-stays : (b : Book) (asked : Asked) → bookDoes b (askedCall asked) ≡ b
 asked-stays b (ask.Question k1 k2 t1 t2) = refl
+asked-stays b (ask.BatTime k1 k2 t1 t2) = refl
 asked-stays b (ask.Lookup tree t k) = refl

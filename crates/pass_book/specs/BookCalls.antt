@@ -7,6 +7,7 @@ use Rattle.pass_book.specs.declared.types.Call.the-variants as made
 
 abbrev pub askedCall : Asked → calls.Call
 askedCall (ask.Question k1 k2 t1 t2) = calls.question k1 k2 t1 t2
+askedCall (ask.BatTime k1 k2 t1 t2) = calls.batTime k1 k2 t1 t2
 askedCall (ask.Lookup tree t k) = calls.lookupIn tree t k
 
 abbrev pub callOf : Call → calls.Call

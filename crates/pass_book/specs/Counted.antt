@@ -1,13 +1,17 @@
--- Which passes count in a question or a lookup, and their total as a value.
-use Prim.Native.Nat.{ℕ}
+-- What each pass adds to what is asked, and the total as a value.
+use Prim.Native.Nat.{ℕ, _*_}
 use mathlib.Core.List.{List}
-use mathlib.Core.Bool.{Bool, false, cond, _&&_}
-use lib.Dec.{leb}
+use mathlib.Core.Bool.{Bool, true, cond, _&&_}
+use lib.Dec.{leb, eqb}
+use Rattle.words.specs.Words.{openEnd}
 use Rattle.words.specs.Value.{zero}
 use Rattle.words.specs.declared.value.Value.{Value}
-use Rattle.store.specs.declared.types.TreeName.{TreeName}
-use Rattle.store.specs.declared.types.TreeName.the-variants.{Starts, Ends}
-use Rattle.store.specs.Passes.{End, stillOpen, endedAt, Pass, meets, sumWhere, countWhere}
+use Rattle.tree.specs.RowSteps.{Point}
+use Rattle.tree.specs.PointSums.{dominated}
+use Rattle.tree.specs.TrueValue.{totalWhere}
+use Rattle.store.specs.Passes.{Pass, meets}
+use Rattle.store.specs.BatTime.{sharedTicks, hasKeyIn}
+use Rattle.store.specs.Points.{pointsOfPass}
 use Rattle.pass_book.specs.declared.types.Asked.{Asked}
 use Rattle.pass_book.specs.declared.types.Asked.the-variants as ask
 
@@ -15,26 +19,33 @@ use Rattle.pass_book.specs.declared.types.Asked.the-variants as ask
 abbrev pub isBelow : (t k tick key : ℕ) → Bool
 isBelow t k tick key = leb tick t && leb key k
 
--- "once ended, a point of the ends tree at its end"
-abbrev pub endBelow : (t k key : ℕ) → End → Bool
-endBelow t k key stillOpen = false
-endBelow t k key (endedAt e) = isBelow t k e key
+-- What a point adds to a lookup
+abbrev pub pointWorth : (t k tick key : ℕ) → Value → Value
+pointWorth t k tick key v = cond (isBelow t k tick key) v zero
 
-abbrev pub endsBelow : (t k : ℕ) → Pass → Bool
-endsBelow t k p = endBelow t k (p .key) (p .end)
+-- A pass has a point at its end "once ended"
+abbrev pub endWorth : (t k end key : ℕ) → Value → Value
+endWorth t k end key v = cond (eqb end openEnd) zero (pointWorth t k end key v)
 
--- A pass as a point of a tree
-abbrev pub pointBelow : TreeName → (t k : ℕ) → Pass → Bool
-pointBelow Starts t k p = isBelow t k (p .start) (p .key)
-pointBelow Ends t k p = endsBelow t k p
+-- Some points together, modulo 2^64
+abbrev pub pointsWorth : (t k : ℕ) → List Point → Value
+pointsWorth t k points = totalWhere (λ (p : Point). p .value) (dominated t k) points
 
+-- Which passes count. To a lookup every pass adds what its points do
 abbrev pub counts : Asked → Pass → Bool
 counts (ask.Question k1 k2 t1 t2) p = meets k1 k2 t1 t2 p
-counts (ask.Lookup tree t k) p = pointBelow tree t k p
+counts (ask.BatTime k1 k2 t1 t2) p = hasKeyIn k1 k2 p
+counts (ask.Lookup tree t k) p = true
 
--- What a weight adds where its pass counts or not
-abbrev pub worth : ℕ → Bool → Value
-worth weight counted = cond counted (record { count = 1; sum = weight }) zero
+-- What a pass adds that counts: to bat-time "weight times ticks shared", kept where the others have their weight sum
+abbrev pub adds : Asked → Pass → Value
+adds (ask.Question k1 k2 t1 t2) p = record { count = 1; sum = p .weight }
+adds (ask.BatTime k1 k2 t1 t2) p = record { count = 0; sum = p .weight * sharedTicks t1 t2 (p .start) (p .end) }
+adds (ask.Lookup tree t k) p = pointsWorth t k (pointsOfPass tree p)
 
+abbrev pub worth : Asked → Pass → Value
+worth asked p = cond (counts asked p) (adds asked p) zero
+
+-- The passes together, modulo 2^64
 abbrev pub totalOf : Asked → List Pass → Value
-totalOf asked passes = record { count = countWhere (counts asked) passes; sum = sumWhere (λ (p : Pass). p .weight) (counts asked) passes }
+totalOf asked passes = totalWhere (adds asked) (counts asked) passes

@@ -1,5 +1,5 @@
 -- The lent list of passes, four numbers each, as the passes of the book.
-use Prim.Native.Nat.{ℕ, zero, suc, _+_, _*_}
+use Prim.Native.Nat.{ℕ, zero, suc, _+_, _*_, _^_, _<_}
 use mathlib.Core.List.{List, [], _∷_, _++_}
 use mathlib.Core.Bool.{cond}
 use lib.ListN.{getD, set}
@@ -31,7 +31,11 @@ passAt ws number =
 abbrev pub withPass : List ℕ → ℕ → ListedPass → List ℕ
 withPass ws number p = set (set (set (set ws (number * 4) (p .key)) (number * 4 + 1) (p .weight)) (number * 4 + 2) (p .start)) (number * 4 + 3) (p .end)
 
--- So many passes from the list's beginning
+-- A weight in the list is a number of 32 bits
+abbrev pub Light : Pass → Type 0
+Light p = p .weight < 2 ^ 32
+
+-- The first passes of the list
 unfoldable pub passesIn : List ℕ → ℕ → List Pass
 passesIn ws zero = []
 passesIn ws (suc n) = passesIn ws n ++ (passOf (passAt ws n) ∷ [])

@@ -100,6 +100,7 @@ fn asked_refusal(asked: Asked) -> u8
 {
     match asked {
         Asked::Question { k1, k2, t1, t2 } => question_refusal(k1, k2, t1, t2),
+        Asked::BatTime { k1, k2, t1, t2 } => question_refusal(k1, k2, t1, t2),
         Asked::Lookup { tree: _, t, k } => lookup_refusal(t, k),
     }
 }

@@ -2,6 +2,7 @@
 // book of the definitions says (store/specs/Book), and shares no code with the store's calls.
 mod grounds;
 mod list;
+mod numbers;
 mod totals;
 mod turn;
 mod types;
@@ -9,6 +10,8 @@ mod types;
 pub use list::one_if_open;
 pub use list::open_count;
 pub use list::pass_at;
+pub use numbers::higher;
+pub use numbers::lower;
 pub use turn::book_turn;
 pub use types::Asked;
 pub use types::Call;

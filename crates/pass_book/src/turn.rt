@@ -9,16 +9,18 @@ use crate::types::ListedPass;
 use crate::types::PassBook;
 use crate::types::Turn;
 use store::Answer;
+use words::Value;
 ghost use mathlib.Core.Path.{_≡_};
 ghost use Prim.Native.Nat.{_+_, _*_, _≤_, _<_};
 ghost use lib.ListN.{length};
 ghost use Rattle.words.specs.Words.{openEnd};
 ghost use Rattle.store.specs.Head.{passLimit};
 ghost use Rattle.store.specs.Calls.{start, end};
+ghost use Rattle.store.specs.Performing.{totals};
 ghost use Rattle.store.specs.Book.{fedBy, bookRefusal, bookDoes, bookDone, bookTurn};
 ghost use Rattle.pass_book.specs.PassList.{bookIn};
 ghost use Rattle.pass_book.specs.BookCalls.{callOf, askedCall};
-ghost use Rattle.pass_book.specs.Turns.{lacked, SaysAs, TurnsAs};
+ghost use Rattle.pass_book.specs.Turns.{lacked, answerOf, SaysAs, TurnsAs};
 
 // 27 or 28, where the store's answer was one of them, else 0: of its answers the book is fed no more.
 fn lacking(refusal: u8) -> u8
@@ -33,17 +35,51 @@ fn lacking(refusal: u8) -> u8
     0
 }
 
-// The answer to a question or a lookup.
-fn totals_of(passes: &[u32], book: PassBook, asked: Asked) -> Answer
-    requires { ⌜ book .started * 4 ≤ length (now passes) ⌝ }
-    ensures { λ r. ⌜ SaysAs r (bookIn (now (passes .entry)) book) (askedCall asked) ⌝ }
+// A count and a weight sum as an answer, with no page opened.
+fn totals_answer(total: Value) -> Answer
+    ensures { λ r. ⌜ r ≡ totals total 0 ⌝ }
 {
-    let total = totals(passes, book.started, asked);
     Answer::Totals {
         count: total.count,
         sum: total.sum,
         pages: 0,
     }
+}
+
+// A total as the answer to what was asked.
+fn answer_of(asked: Asked, total: Value) -> Answer
+    ensures { λ r. ⌜ r ≡ answerOf asked total ⌝ }
+{
+    match asked {
+        Asked::Question {
+            k1: _,
+            k2: _,
+            t1: _,
+            t2: _,
+        } => totals_answer(total),
+        Asked::BatTime {
+            k1: _,
+            k2: _,
+            t1: _,
+            t2: _,
+        } => Answer::BatTime {
+            total: total.sum,
+            pages: 0,
+        },
+        Asked::Lookup {
+            tree: _,
+            t: _,
+            k: _,
+        } => totals_answer(total),
+    }
+}
+
+// The answer to a call that only reads.
+fn totals_of(passes: &[u32], book: PassBook, asked: Asked) -> Answer
+    requires { ⌜ book .started * 4 ≤ length (now passes) ⌝ }
+    ensures { λ r. ⌜ SaysAs r (bookIn (now (passes .entry)) book) (askedCall asked) ⌝ }
+{
+    answer_of(asked, totals(passes, book.started, asked))
 }
 
 // "the pass is added, open, and its tick becomes the last tick"
@@ -83,7 +119,7 @@ fn with_end(passes: &mut [u32], book: PassBook, tick: u32, number: u32) -> PassB
 fn does(passes: &mut [u32], book: PassBook, call: Call) -> Turn
     requires { ⌜ book .started * 4 + 4 ≤ length (now passes) ⌝ }
     requires { ⌜ bookRefusal (bookIn (now passes) book) (callOf call) ≡ 0 ⌝ }
-    ensures { λ r. ⌜ TurnsAs (bookDone (bookIn (now (passes .entry)) book) (callOf call)) r (now (passes .exit)) ⌝ }
+    ensures { λ r. ⌜ TurnsAs (callOf call) (bookDone (bookIn (now (passes .entry)) book) (callOf call)) r (now (passes .exit)) ⌝ }
 {
     match call {
         Call::Open => Turn {
@@ -112,7 +148,7 @@ fn does(passes: &mut [u32], book: PassBook, call: Call) -> Turn
 // one pass more.
 pub fn book_turn(passes: &mut [u32], book: PassBook, call: Call, given: u8) -> Turn
     requires { ⌜ book .started * 4 + 4 ≤ length (now passes) ⌝ }
-    ensures { λ r. ⌜ TurnsAs (bookTurn (bookIn (now (passes .entry)) book) (callOf call) (fedBy given)) r (now (passes .exit)) ⌝ }
+    ensures { λ r. ⌜ TurnsAs (callOf call) (bookTurn (bookIn (now (passes .entry)) book) (callOf call) (fedBy given)) r (now (passes .exit)) ⌝ }
 {
     let refused = refusal(passes, book, call);
     if refused != 0 {

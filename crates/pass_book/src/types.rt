@@ -16,9 +16,10 @@ pub struct PassBook {
     pub started: u32,
 }
 
-// The calls that only read, and so are answered with totals or refused.
+// The calls that only read, and so are answered with numbers of the passes or refused.
 pub enum Asked {
     Question { k1: u32, k2: u32, t1: u32, t2: u32 },
+    BatTime { k1: u32, k2: u32, t1: u32, t2: u32 },
     Lookup { tree: TreeName, t: u32, k: u32 },
 }
 

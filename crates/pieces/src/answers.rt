@@ -29,6 +29,16 @@ fn put_totals(out: &mut [u8], from: usize, count: u64, sum: u64, pages: u32)
     put_number(out, from + 17, 1, pages as u64);
 }
 
+// 04h writes "00h, total 8, pages 1".
+fn put_bat_time(out: &mut [u8], from: usize, total: u64, pages: u32)
+    requires { ⌜ from + longestAnswer ≤ length (now out) ⌝ }
+    ensures { λ _. ⌜ now (out .exit) ≡ overwrite (now (out .entry)) from (written (said.BatTime total pages)) ⌝ }
+{
+    put_number(out, from, 1, 0);
+    put_number(out, from + 1, 8, total);
+    put_number(out, from + 9, 1, pages as u64);
+}
+
 // Writes an answer into `out` from a place on and returns the place behind it. "A refusal writes its number as one byte."
 pub fn put_answer(out: &mut [u8], from: usize, answer: Answer) -> usize
     requires { ⌜ from + longestAnswer ≤ length (now out) ⌝ }
@@ -55,6 +65,10 @@ pub fn put_answer(out: &mut [u8], from: usize, answer: Answer) -> usize
         Answer::Totals { count, sum, pages } => {
             put_totals(out, from, count, sum, pages);
             from + LONGEST_ANSWER
+        }
+        Answer::BatTime { total, pages } => {
+            put_bat_time(out, from, total, pages);
+            from + 10
         }
     }
 }

@@ -56,13 +56,15 @@ pub fn run_piece(
     start_roots: &mut [u64],
     end_table: &mut [u64],
     end_roots: &mut [u64],
+    time_table: &mut [u64],
+    time_roots: &mut [u64],
     input: &[u8],
     ended: bool,
     out: &mut [u8],
 ) -> Fed
     ensures { λ r. do
-      let s : Store = storeOf head (now («start_table» .entry)) (now («start_roots» .entry)) (now («end_table» .entry)) (now («end_roots» .entry))
-      let left : Lent = lentOf (now («start_table» .exit)) (now («start_roots» .exit)) (now («end_table» .exit)) (now («end_roots» .exit))
+      let s : Store = storeOf head (now («start_table» .entry)) (now («start_roots» .entry)) (now («end_table» .entry)) (now («end_roots» .entry)) (now («time_table» .entry)) (now («time_roots» .entry))
+      let left : Lent = lentOf (now («start_table» .exit)) (now («start_roots» .exit)) (now («end_table» .exit)) (now («end_roots» .exit)) (now («time_table» .exit)) (now («time_roots» .exit))
       ⌜ FedAs (runPiece (length (now (out .entry))) ended s (now (input .entry))) r (now (out .entry)) (now (out .exit)) left ⌝ }
 {
     // A head is 1 KB, and each struct that holds one gets its own place on the stack. So the loop keeps the head in the reply alone, where a command
@@ -84,6 +86,8 @@ pub fn run_piece(
             start_roots,
             end_table,
             end_roots,
+            time_table,
+            time_roots,
             code,
             rest,
         );

@@ -1,3 +1,4 @@
 -- Laws of what the calls that read answer.
+pub mod ReadAnswers
 pub mod LookupAnswers
-pub mod QuestionAnswers
+pub mod BandAnswers

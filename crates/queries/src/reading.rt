@@ -1,4 +1,4 @@
-// The calls that only read: the lookup of each tree, and the question, which is made of lookups.
+// The calls that only read: the lookup of each tree, and the question and bat-time, which are made of lookups.
 use bands::lookup_band;
 use bands::lookup_band_before;
 use bands::without;
@@ -9,11 +9,13 @@ use store::Answer;
 use store::Head;
 use tree::Lookup;
 ghost use mathlib.Core.Path.{_≡_};
-ghost use Rattle.store.specs.declared.types.TreeName.the-variants.{Starts, Ends};
+ghost use Prim.Native.Nat.{_-_, _≤_};
+ghost use Rattle.store.specs.declared.types.TreeName.the-variants.{Starts, Ends, Time};
 ghost use Rattle.store.specs.Trees.{Store, storeOf};
-ghost use Rattle.store.specs.Calls.{question, lookupIn};
+ghost use Rattle.store.specs.Calls.{question, batTime, lookupIn};
+ghost use Rattle.store.specs.Reading.{pagesOf};
 ghost use Rattle.store.specs.Performing.{perform};
-ghost use Rattle.queries.specs.Answers.{answerOf};
+ghost use Rattle.queries.specs.Answers.{queryCall, answerOf, timeOf};
 
 // A lookup's totals, or 26 where it met a spoiled page.
 fn answer_of(found: Lookup) -> Answer
@@ -36,15 +38,26 @@ pub fn lookup_starts(
     start_roots: &[u64],
     end_table: &[u64],
     end_roots: &[u64],
+    time_table: &[u64],
+    time_roots: &[u64],
     t: u32,
     k: u32,
 ) -> Answer
     ensures { λ r. do
-      let s : Store = storeOf head (now («start_table» .entry)) (now («start_roots» .entry)) (now («end_table» .entry)) (now («end_roots» .entry))
+      let s : Store = storeOf head (now («start_table» .entry)) (now («start_roots» .entry)) (now («end_table» .entry)) (now («end_roots» .entry)) (now («time_table» .entry)) (now («time_roots» .entry))
       ⌜ r ≡ perform s (lookupIn Starts t k) .answer ⌝ }
 {
     let input = lookup_input(t, k);
-    let refusal = head_refusal(head, start_table, start_roots, end_table, end_roots, input);
+    let refusal = head_refusal(
+        head,
+        start_table,
+        start_roots,
+        end_table,
+        end_roots,
+        time_table,
+        time_roots,
+        input,
+    );
     if refusal != 0 {
         return Answer::Refused(refusal);
     }
@@ -59,15 +72,26 @@ pub fn lookup_ends(
     start_roots: &[u64],
     end_table: &[u64],
     end_roots: &[u64],
+    time_table: &[u64],
+    time_roots: &[u64],
     t: u32,
     k: u32,
 ) -> Answer
     ensures { λ r. do
-      let s : Store = storeOf head (now («start_table» .entry)) (now («start_roots» .entry)) (now («end_table» .entry)) (now («end_roots» .entry))
+      let s : Store = storeOf head (now («start_table» .entry)) (now («start_roots» .entry)) (now («end_table» .entry)) (now («end_roots» .entry)) (now («time_table» .entry)) (now («time_roots» .entry))
       ⌜ r ≡ perform s (lookupIn Ends t k) .answer ⌝ }
 {
     let input = lookup_input(t, k);
-    let refusal = head_refusal(head, start_table, start_roots, end_table, end_roots, input);
+    let refusal = head_refusal(
+        head,
+        start_table,
+        start_roots,
+        end_table,
+        end_roots,
+        time_table,
+        time_roots,
+        input,
+    );
     if refusal != 0 {
         return Answer::Refused(refusal);
     }
@@ -75,31 +99,186 @@ pub fn lookup_ends(
     answer_of(lookup::lookup(end_table, end_roots, used, t, k as u16))
 }
 
-// The passes with a key from k1 up to but not k2 that live, from their start tick to their end tick, at a tick from t1 up to but not t2: those
-// that started before t2, less those that ended before t1.
-pub fn question(
+// The lookup of the tree of time: the factor and the constant stand as count and sum.
+pub fn lookup_time(
     head: Head,
     start_table: &[u64],
     start_roots: &[u64],
     end_table: &[u64],
     end_roots: &[u64],
+    time_table: &[u64],
+    time_roots: &[u64],
+    t: u32,
+    k: u32,
+) -> Answer
+    ensures { λ r. do
+      let s : Store = storeOf head (now («start_table» .entry)) (now («start_roots» .entry)) (now («end_table» .entry)) (now («end_roots» .entry)) (now («time_table» .entry)) (now («time_roots» .entry))
+      ⌜ r ≡ perform s (lookupIn Time t k) .answer ⌝ }
+{
+    let input = lookup_input(t, k);
+    let refusal = head_refusal(
+        head,
+        start_table,
+        start_roots,
+        end_table,
+        end_roots,
+        time_table,
+        time_roots,
+        input,
+    );
+    if refusal != 0 {
+        return Answer::Refused(refusal);
+    }
+    let used = head.time;
+    answer_of(lookup::lookup(time_table, time_roots, used, t, k as u16))
+}
+
+// The last tick before t; of tick 0, which has none, tick 0 itself.
+fn tick_before(t: u32) -> u32
+    ensures { λ r. ⌜ r ≡ t - 1 ⌝ }
+{
+    if t == 0 {
+        return 0;
+    }
+    t - 1
+}
+
+// Weight times ticks: the line that was found before t2, less the one before t1, each at its own tick. 26 where a lookup met a spoiled page.
+fn time_of(until: Lookup, t2: u32, before: Lookup, t1: u32) -> Answer
+    requires { ⌜ pagesOf until ≤ 8 ⌝ }
+    requires { ⌜ pagesOf before ≤ 8 ⌝ }
+    ensures { λ r. ⌜ r ≡ timeOf until t2 before t1 ⌝ }
+{
+    let Lookup::Found { value, pages } = until else {
+        return Answer::Refused(26);
+    };
+    let Lookup::Found {
+        value: earlier,
+        pages: more,
+    } = before
+    else {
+        return Answer::Refused(26);
+    };
+    let opened = pages + more;
+    Answer::BatTime {
+        total: std::num::wrapping_sub_u64(value.at(tick_before(t2)), earlier.at(tick_before(t1))),
+        pages: opened,
+    }
+}
+
+// A question, or bat-time of the same band and interval: they take the same arguments and are refused alike. Stream and register block call this one function, so that a
+// head which is handed on needs no further copy.
+pub fn query(
+    head: Head,
+    start_table: &[u64],
+    start_roots: &[u64],
+    end_table: &[u64],
+    end_roots: &[u64],
+    time_table: &[u64],
+    time_roots: &[u64],
+    time: bool,
     k1: u32,
     k2: u32,
     t1: u32,
     t2: u32,
 ) -> Answer
     ensures { λ r. do
-      let s : Store = storeOf head (now («start_table» .entry)) (now («start_roots» .entry)) (now («end_table» .entry)) (now («end_roots» .entry))
-      ⌜ r ≡ perform s (question k1 k2 t1 t2) .answer ⌝ }
+      let s : Store = storeOf head (now («start_table» .entry)) (now («start_roots» .entry)) (now («end_table» .entry)) (now («end_roots» .entry)) (now («time_table» .entry)) (now («time_roots» .entry))
+      ⌜ r ≡ perform s (queryCall time k1 k2 t1 t2) .answer ⌝ }
 {
     let input = question_input(k1, k2, t1, t2);
-    let refusal = head_refusal(head, start_table, start_roots, end_table, end_roots, input);
+    let refusal = head_refusal(
+        head,
+        start_table,
+        start_roots,
+        end_table,
+        end_roots,
+        time_table,
+        time_roots,
+        input,
+    );
     if refusal != 0 {
         return Answer::Refused(refusal);
     }
+    if time {
+        // What has gathered before t2, less what had before t1.
+        let used = head.time;
+        let until = lookup_band(time_table, time_roots, used, t2 - 1, k1, k2);
+        let before = lookup_band_before(time_table, time_roots, used, t1, k1, k2);
+        return time_of(until, t2, before, t1);
+    }
+    // The passes that started before t2, less those that ended before t1.
     let starts_used = head.starts;
     let starts = lookup_band(start_table, start_roots, starts_used, t2 - 1, k1, k2);
     let ends_used = head.ends;
     let ends = lookup_band_before(end_table, end_roots, ends_used, t1, k1, k2);
     answer_of(without(starts, ends))
+}
+
+// The passes with a key from k1 up to but not k2 that live, from their start tick to their end tick, at a tick from t1 up to but not t2.
+pub fn question(
+    head: Head,
+    start_table: &[u64],
+    start_roots: &[u64],
+    end_table: &[u64],
+    end_roots: &[u64],
+    time_table: &[u64],
+    time_roots: &[u64],
+    k1: u32,
+    k2: u32,
+    t1: u32,
+    t2: u32,
+) -> Answer
+    ensures { λ r. do
+      let s : Store = storeOf head (now («start_table» .entry)) (now («start_roots» .entry)) (now («end_table» .entry)) (now («end_roots» .entry)) (now («time_table» .entry)) (now («time_roots» .entry))
+      ⌜ r ≡ perform s (question k1 k2 t1 t2) .answer ⌝ }
+{
+    query(
+        head,
+        start_table,
+        start_roots,
+        end_table,
+        end_roots,
+        time_table,
+        time_roots,
+        false,
+        k1,
+        k2,
+        t1,
+        t2,
+    )
+}
+
+// Weight times the ticks from t1 up to but not t2 at which a pass with a key from k1 up to but not k2 lives, over all of them.
+pub fn bat_time(
+    head: Head,
+    start_table: &[u64],
+    start_roots: &[u64],
+    end_table: &[u64],
+    end_roots: &[u64],
+    time_table: &[u64],
+    time_roots: &[u64],
+    k1: u32,
+    k2: u32,
+    t1: u32,
+    t2: u32,
+) -> Answer
+    ensures { λ r. do
+      let s : Store = storeOf head (now («start_table» .entry)) (now («start_roots» .entry)) (now («end_table» .entry)) (now («end_roots» .entry)) (now («time_table» .entry)) (now («time_roots» .entry))
+      ⌜ r ≡ perform s (batTime k1 k2 t1 t2) .answer ⌝ }
+{
+    query(
+        head,
+        start_table,
+        start_roots,
+        end_table,
+        end_roots,
+        time_table,
+        time_roots,
+        true,
+        k1,
+        k2,
+        t1,
+        t2,
+    )
 }

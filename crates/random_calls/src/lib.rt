@@ -1,4 +1,5 @@
 // The calls of random histories: of every kind, most of them accepted, drawn by the history's shape and by what the book holds.
+mod asked;
 mod list;
 mod next;
 mod random;

@@ -1,4 +1,6 @@
 // Random histories: the next call, by the history's shape and what the list holds.
+use crate::asked::band_call;
+use crate::asked::drawn_tree;
 use crate::list::NUMBERS;
 use crate::list::PASSES;
 use crate::list::open_number;
@@ -11,11 +13,11 @@ use crate::shape::tick;
 use pass_book::Asked;
 use pass_book::Call;
 use pass_book::PassBook;
+use pass_book::higher;
+use pass_book::lower;
 use pass_book::open_count;
 use pass_book::pass_at;
-use store::TreeName;
-ghost use mathlib.Core.Path.{_≡_};
-ghost use Prim.Native.Nat.{_≤_, _<_, min, max};
+ghost use Prim.Native.Nat.{_≤_, _<_};
 
 fn start_call(random: &mut u64, shape: Shape, book: PassBook) -> Call {
     let keys = shape.keys;
@@ -92,26 +94,6 @@ fn asked_tick(random: &mut u64, last: u32) -> u32 {
     }
 }
 
-// The lower of two numbers.
-fn lower(a: u32, b: u32) -> u32
-    ensures { λ r. ⌜ r ≡ min a b ⌝ }
-{
-    if a < b {
-        return a;
-    }
-    b
-}
-
-// The higher of two numbers.
-fn higher(a: u32, b: u32) -> u32
-    ensures { λ r. ⌜ r ≡ max a b ⌝ }
-{
-    if a < b {
-        return b;
-    }
-    a
-}
-
 // The first tick of a question: the one that was drawn, or the end tick of a pass, at which it is still counted, or the tick after it, from which on
 // it is not.
 fn first_tick(random: &mut u64, passes: &[u32; NUMBERS], book: PassBook, tick: u32) -> u32
@@ -125,6 +107,7 @@ fn first_tick(random: &mut u64, passes: &[u32; NUMBERS], book: PassBook, tick: u
     }
 }
 
+// A question or bat-time.
 fn question_call(random: &mut u64, shape: Shape, passes: &[u32; NUMBERS], book: PassBook) -> Call
     requires { ⌜ book .started ≤ 2000 ⌝ }
 {
@@ -133,19 +116,10 @@ fn question_call(random: &mut u64, shape: Shape, passes: &[u32; NUMBERS], book: 
     let one_tick = asked_tick(random, book.last);
     let other_tick = asked_tick(random, book.last);
     let first = first_tick(random, passes, book, lower(one_tick, other_tick));
-    Call::Ask(Asked::Question {
-        k1: lower(one_key, other_key),
-        k2: std::num::wrapping_add_u32(higher(one_key, other_key), 1),
-        t1: first,
-        t2: std::num::wrapping_add_u32(higher(higher(one_tick, other_tick), first), 1),
-    })
-}
-
-fn drawn_tree(random: &mut u64) -> TreeName {
-    if one_in(random, 2) {
-        return TreeName::Starts;
-    }
-    TreeName::Ends
+    let k1 = lower(one_key, other_key);
+    let k2 = std::num::wrapping_add_u32(higher(one_key, other_key), 1);
+    let t2 = std::num::wrapping_add_u32(higher(higher(one_tick, other_tick), first), 1);
+    band_call(random, k1, k2, first, t2)
 }
 
 fn lookup_call(random: &mut u64, shape: Shape, book: PassBook) -> Call {
@@ -174,9 +148,9 @@ pub fn next_call(
     }
     match draw(random, 100) {
         0..=3 => odd_call(random, book),
-        4..=45 => start_call(random, shape, book),
-        46..=84 => end_call(random, shape, passes, book),
-        85..=92 => lookup_call(random, shape, book),
+        4..=44 => start_call(random, shape, book),
+        45..=82 => end_call(random, shape, passes, book),
+        83..=90 => lookup_call(random, shape, book),
         _ => question_call(random, shape, passes, book),
     }
 }

@@ -1,9 +1,10 @@
 // Calls of which most are refused: an argument or more is out of its range, too early, or of no open pass.
+use crate::asked::band_call;
+use crate::asked::drawn_tree;
 use crate::random::draw;
 use pass_book::Asked;
 use pass_book::Call;
 use pass_book::PassBook;
-use store::TreeName;
 
 fn odd_key(random: &mut u64) -> u32 {
     match draw(random, 6) {
@@ -35,13 +36,13 @@ fn odd_tick(random: &mut u64, last: u32) -> u32 {
     }
 }
 
+// A question or bat-time.
 fn odd_question(random: &mut u64, last: u32) -> Call {
-    Call::Ask(Asked::Question {
-        k1: odd_key(random),
-        k2: odd_key(random),
-        t1: odd_tick(random, last),
-        t2: odd_tick(random, last),
-    })
+    let k1 = odd_key(random);
+    let k2 = odd_key(random);
+    let t1 = odd_tick(random, last);
+    let t2 = odd_tick(random, last);
+    band_call(random, k1, k2, t1, t2)
 }
 
 pub fn odd_call(random: &mut u64, book: PassBook) -> Call {
@@ -57,13 +58,8 @@ pub fn odd_call(random: &mut u64, book: PassBook) -> Call {
             tick: at,
             number: draw(random, book.started % 1000000 + 1),
         },
-        2 => Call::Ask(Asked::Lookup {
-            tree: TreeName::Starts,
-            t: at,
-            k: of,
-        }),
-        3 => Call::Ask(Asked::Lookup {
-            tree: TreeName::Ends,
+        2..=3 => Call::Ask(Asked::Lookup {
+            tree: drawn_tree(random),
             t: at,
             k: of,
         }),

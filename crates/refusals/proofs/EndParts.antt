@@ -3,20 +3,20 @@ use Prim.Native.Nat.{ℕ}
 use mathlib.Core.Path.{_≡_, ap, sym, _∙_}
 use mathlib.Core.Bool.{false≢true}
 use mathlib.Core.List.{[], _∷_}
-use Rattle.tree.specs.Plan.{plan}
 use Rattle.store.specs.declared.types.OpenPass.{OpenPass}
 use Rattle.store.specs.declared.types.FoundPass.{FoundPass}
 use Rattle.store.specs.declared.types.FoundPass.the-variants.{Missing, At}
-use Rattle.store.specs.declared.types.TreeName.the-variants.{Ends}
-use Rattle.store.specs.Trees.{Store, treeIn}
+use Rattle.store.specs.declared.types.TreeName.the-variants.{Ends, Time}
+use Rattle.store.specs.Trees.{Store}
 use Rattle.store.specs.Head.{passOf}
 use Rattle.store.specs.Calls.{end}
 use Rattle.store.specs.Refusals.{firstMet}
 use Rattle.store.specs.Grounds.{beforeLast, notOpen, stateGrounds}
-use Rattle.store.specs.Writing.{pointOf, endEntries, entryGrounds}
+use Rattle.store.specs.Writing.{pointOf, timeAtEnd, endEntries, entryGrounds}
 use Rattle.store.specs.Performing.{isFound, headKnows, pageGrounds}
 use Rattle.store.proofs.ArgumentFacts.{may-end}
-use Rattle.room.specs.PlanGrounds.{planGrounds}
+use Rattle.refusals.specs.Grounds.{lowerOf}
+use Rattle.refusals.proofs.TwoEntries.{entryRefusal, two-entries}
 
 module _ (s : Store) (tick number : ℕ) where
   abbrev stateOf : FoundPass → ℕ
@@ -32,7 +32,11 @@ module _ (s : Store) (tick number : ℕ) where
       let may = may-end (headKnows (s .head) (end tick number)) tick number e in
       false≢true (ap isFound (sym f) ∙ may .is-open)
 
-  -- The one entry of an end
+  -- The entries of an end
   pub end-pages : {place : ℕ} {pass : OpenPass} → passOf (s .head) number ≡ At place pass
-      → firstMet (planGrounds (treeIn s Ends) (plan (treeIn s Ends) (pointOf tick (pass .key) (pass .weight)))) ≡ firstMet (pageGrounds s (end tick number))
-  end-pages f = ap (λ (found : FoundPass). firstMet (entryGrounds s (endEntries tick found))) (sym f)
+      → firstMet (pageGrounds s (end tick number))
+      ≡ lowerOf (entryRefusal s Ends (pointOf tick (pass .key) (pass .weight))) (entryRefusal s Time (timeAtEnd tick (pass .key) (pass .weight)))
+  end-pages {place} {pass} f =
+      ap (λ (found : FoundPass). firstMet (entryGrounds s (endEntries tick found))) f
+      ∙ two-entries s (record { tree = Ends; point = pointOf tick (pass .key) (pass .weight) })
+      (record { tree = Time; point = timeAtEnd tick (pass .key) (pass .weight) })

@@ -1,13 +1,12 @@
 -- When a store agrees with the book: what each tree holds was grown from the latest opening by the points that the book knows, and the head
 -- says what the book says. Then both meet the same grounds of a call's arguments and of what they know.
-use Prim.Native.Nat.{ℕ, _+_, _≤_, _<_}
+use Prim.Native.Nat.{ℕ, _+_, _≤_}
 use native.Mathlib.Omega.{arith}
 use mathlib.Core.Path.{_≡_, refl, ap, ap₂, sym, subst, _∙_}
 use mathlib.Core.Bool.{Bool, true, false, _&&_, not}
 use mathlib.Core.List.{List, [], _∷_, _++_, append-assoc}
 use lib.ListN.{length}
 use borrow.Author.Tests.{le-leb, le-ltb}
-use Rattle.words.specs.Words.{openEnd}
 use Rattle.tree.specs.Row.{pageWords}
 use Rattle.tree.specs.Tree.{Tree}
 use Rattle.tree.specs.RowSteps.{Point}
@@ -17,7 +16,7 @@ use Rattle.store.specs.declared.types.OpenPass.{OpenPass}
 use Rattle.store.specs.declared.types.TreeName.{TreeName}
 use Rattle.store.specs.Trees.{lentTo, Store, treeIn}
 use Rattle.store.specs.Head.{openPasses, passOf, findPass, openLimit, passLimit, useFits, passesFit, numbersRise, headFits}
-use Rattle.store.specs.Calls.{Call, opening, start, end, question, lookupIn, isOpening}
+use Rattle.store.specs.Calls.{Call, opening, start, end, question, batTime, lookupIn, isOpening}
 use Rattle.store.specs.Refusals.{firstMet}
 use Rattle.store.specs.Grounds.{Known, soughtBy, argumentGrounds, stateGrounds}
 use Rattle.store.specs.Writing.{tooSmall, lendsTooLittle}
@@ -27,7 +26,7 @@ use Rattle.store.specs.Points.{pointsOf}
 use Rattle.store.specs.Book.{Book, isOpen, passNumbered, bookKnows}
 use Rattle.store.proofs.TreeLaws.{each-tree, no-tree}
 use Rattle.store.proofs.RefusalLaws.{first-skips}
-use Rattle.store.proofs.BookPasses.{AllKept}
+use Rattle.store.proofs.BookPasses.{BookKept}
 use Rattle.store.proofs.OpenPasses.{openOf, open-count, find-ended, find-open, open-fit, open-rise}
 
 -- A tree that took these points, in whatever order the book lists them: all sums over them are the same
@@ -42,14 +41,12 @@ pub record TreeTook (tree : Tree) (last : ℕ) (points : List Point) : Type 0 wh
 
 pub record Agrees (s : Store) (b : Book) : Type 0 where
   pub last : s .head .last ≡ b .last
-  pub now : b .last < openEnd
   pub started : s .head .started ≡ length (b .passes)
-  pub few : length (b .passes) ≤ passLimit
   pub places : length (s .head .passes) ≡ openLimit
   pub listed : openPasses (s .head) ≡ openOf 0 (b .passes)
   pub count : s .head .count ≡ length (openOf 0 (b .passes))
   pub most : s .head .count ≤ openLimit
-  pub kept : AllKept b
+  pub kept : BookKept b
   pub trees : (name : TreeName) → TreeTook (treeIn s name) (b .last) (pointsOf name (b .passes))
 
 -- 20 never: the use of each tree fits what is lent with it
@@ -73,13 +70,13 @@ head-fits s b a =
     let fit : passesFit (s .head .started) (s .head .last) (openPasses (s .head)) ≡ true =
     ap (passesFit (s .head .started) (s .head .last)) (a .listed)
     ∙ ap (λ (n : ℕ). passesFit (s .head .started) n (openOf 0 (b .passes))) (a .last)
-    ∙ open-fit (s .head .started) (b .last) 0 (b .passes) (omega (arith, a .started)) (a .kept) in
+    ∙ open-fit (s .head .started) (b .last) 0 (b .passes) (omega (arith, a .started)) (a .kept .passes) in
     let rise : numbersRise (openPasses (s .head)) ≡ true = ap numbersRise (a .listed) ∙ open-rise 0 (b .passes) in
     rw (
       le-leb (s .head .count) openLimit (a .most),
       fit,
       rise,
-      le-leb (s .head .started) passLimit (omega (arith, a .started, a .few)),
+      le-leb (s .head .started) passLimit (omega (arith, a .started, a .kept .few)),
     ) (each-tree (λ (name : TreeName). useFits (treeIn s name)) (λ name. took-fits (a .trees name)))
 
 -- 8 never: opening anew takes what it took before
@@ -116,6 +113,7 @@ sought-same opening find other h = refl
 sought-same (start tick key weight) find other h = refl
 sought-same (end tick number) find other h = h number
 sought-same (question k1 k2 t1 t2) find other h = refl
+sought-same (batTime k1 k2 t1 t2) find other h = refl
 sought-same (lookupIn tree t k) find other h = refl
 
 pub same-known : (s : Store) (b : Book) → Agrees s b → (c : Call) → headKnows (s .head) c ≡ bookKnows b c

@@ -9,23 +9,22 @@ use Rattle.words.specs.Lists.{All}
 use Rattle.tree.proofs.Lists.{all-map, all-append}
 use Rattle.store.specs.declared.types.TreeName.the-variants.{Starts}
 use Rattle.store.specs.Trees.{Store}
-use Rattle.store.specs.Calls.{Call, opening, start, end, question, lookupIn, Sent}
+use Rattle.store.specs.Calls.{Call, opening, start, end, question, batTime, lookupIn, Sent}
 use Rattle.store.specs.Refusals.{Ground}
 use Rattle.store.specs.Grounds.{Known, argumentGrounds, stateGrounds}
-use Rattle.store.specs.Answers.{Answered}
+use Rattle.store.specs.Answers.{Answered, pagesSaid}
 use Rattle.store.specs.Reading.{PointLookup, pointsBefore, nonePrecede, lookupBefore, lookupsOf}
 use Rattle.store.specs.Performing.{headKnows, pageGrounds, grounds, refusal, served, perform}
 use Rattle.store.specs.Passes.{Pass, meets}
 use Rattle.store.specs.Book.{Book, fedBy, emptyBook, neverStarted, isOpen, bookKnows, bookRefusal, bookDoes, bookTurn}
-use Rattle.store.specs.Demand.{pagesSaid}
 use Rattle.store.proofs.RefusalLaws.{first-has, first-both, first-passes}
 use Rattle.store.proofs.RefusedOrServed.{refused-or-served}
 use Rattle.store.proofs.NumberOrder.{Between, rises-between, arguments-rise, pages-rise}
 use Rattle.store.proofs.ArgumentFacts.{arguments-numbered, start-arguments, end-passes, end-may}
 use Rattle.store.proofs.Intersections.{InBand, Intersects, meets-intersects, intersects-meets}
-use Rattle.store.proofs.BookPasses.{PassKept, AllKept, turn-kept}
+use Rattle.store.proofs.BookPasses.{PassKept, BookKept, empty-kept, turn-kept}
 use Rattle.store.proofs.LookupPages.{pages-most}
-use Rattle.store.proofs.QuestionReady.{one-most}
+use Rattle.store.proofs.BandLookups.{one-most}
 
 -- The book after a list of calls, each fed with the refusal that the store gave to it, or 0
 abbrev pub bookAfter : Book → List Call → List ℕ → Book
@@ -52,7 +51,7 @@ pub record ClosedLives : Type 0 where
   pub never-23 : (s : Store) (c : Call) → refusal s c ≡ 23 → ⊥
 
 -- Every pass of the book is kept in bounds, so that it has a tick at which it lives
-all-kept : (b : Book) (calls : List Call) (refusals : List ℕ) → All Sent calls → AllKept b → AllKept (bookAfter b calls refusals)
+pub all-kept : (b : Book) (calls : List Call) (refusals : List ℕ) → All Sent calls → BookKept b → BookKept (bookAfter b calls refusals)
 all-kept b [] refusals sent kept = kept
 all-kept b (c ∷ cs) [] sent kept = kept
 all-kept b (c ∷ cs) (r ∷ rs) sent kept = all-kept (bookTurn b c (fedBy r) .book) cs rs (sent .1) (turn-kept b c (fedBy r) (sent .0) kept)
@@ -63,7 +62,7 @@ counted-exactly calls refusals sent k1 k2 t1 t2 some =
     let after : Book = bookAfter emptyBook calls refusals in
     all-map (PassKept (after .last)) (CountedExactly k1 k2 t1 t2)
     (λ p k. record { only = meets-intersects p k1 k2 t1 t2 some (k .lived); always = intersects-meets p k1 k2 t1 t2 })
-    (after .passes) (all-kept emptyBook calls refusals sent tt)
+    (after .passes) (all-kept emptyBook calls refusals sent empty-kept .passes)
 
 -- The pass that has just started is open
 last-open : (passes : List Pass) (p : Pass) → isOpen p ≡ true → isOpen (getD (passes ++ (p ∷ [])) (length passes) neverStarted) ≡ true
@@ -108,6 +107,7 @@ states-not-23 known opening = tt
 states-not-23 known (start tick key weight) = (λ e. omega (arith, e), (λ e. omega (arith, e), (λ e. omega (arith, e), tt)))
 states-not-23 known (end tick number) = (λ e. omega (arith, e), (λ e. omega (arith, e), tt))
 states-not-23 known (question k1 k2 t1 t2) = tt
+states-not-23 known (batTime k1 k2 t1 t2) = tt
 states-not-23 known (lookupIn tree t k) = tt
 
 no-23 : (s : Store) (c : Call) → refusal s c ≡ 23 → ⊥

@@ -8,10 +8,13 @@ pub mod ArgumentFacts
 pub mod PointLaws
 pub mod QuestionSums
 pub mod Intersections
+pub mod LivedTicks
+pub mod SharedTicks
 pub mod BookPasses
 pub mod OpenPasses
 pub mod HeadLists
 pub mod Agreement
+pub mod BandLookups
 pub mod LookupTotals
 pub mod Bounds
 pub mod LookupPages
@@ -24,6 +27,11 @@ pub mod EndReady
 pub mod LookupReady
 pub mod QuestionValues
 pub mod QuestionReady
+pub mod TimeValues
+pub mod BatTimeSums
+pub mod BatTimeValues
+pub mod BatTimeReady
 pub mod Outcomes
 pub mod Main
 pub mod ClosedLives
+pub mod BatTime

@@ -6,7 +6,7 @@ use mathlib.Core.List.{List, [], _∷_, _++_}
 use Rattle.words.specs.Lists.{All}
 use Rattle.tree.proofs.Lists.{all-map}
 use Rattle.store.specs.Trees.{Store, treeIn}
-use Rattle.store.specs.Calls.{Call, opening, start, end, question, lookupIn}
+use Rattle.store.specs.Calls.{Call, opening, start, end, question, batTime, lookupIn}
 use Rattle.store.specs.Refusals.{Ground}
 use Rattle.store.specs.Grounds.{Known, argumentGrounds, stateGrounds}
 use Rattle.store.specs.Writing.{Entry, planOf, planSpoiled, lacksPages, lacksRoot, entriesOf, entryGrounds}
@@ -53,6 +53,7 @@ arguments-rise opening = omega arith
 arguments-rise (start tick key weight) = (omega arith, (omega arith, (omega arith, omega arith)))
 arguments-rise (end tick number) = (omega arith, omega arith)
 arguments-rise (question k1 k2 t1 t2) = (omega arith, (omega arith, (omega arith, omega arith)))
+arguments-rise (batTime k1 k2 t1 t2) = (omega arith, (omega arith, (omega arith, omega arith)))
 arguments-rise (lookupIn tree t k) = (omega arith, (omega arith, omega arith))
 
 pub states-rise : (known : Known) (c : Call) → Rises 21 (stateGrounds known c) 25
@@ -60,6 +61,7 @@ states-rise known opening = omega arith
 states-rise known (start tick key weight) = (omega arith, (omega arith, (omega arith, omega arith)))
 states-rise known (end tick number) = (omega arith, (omega arith, omega arith))
 states-rise known (question k1 k2 t1 t2) = omega arith
+states-rise known (batTime k1 k2 t1 t2) = omega arith
 states-rise known (lookupIn tree t k) = omega arith
 
 module _ (s : Store) where

@@ -22,6 +22,7 @@ use Rattle.store.specs.Points.{pointsOf}
 use Rattle.store.specs.Book.{Book, emptyBook}
 use Rattle.store.proofs.RefusalLaws.{or-false}
 use Rattle.store.proofs.TreeLaws.{of-none, opened-tree}
+use Rattle.store.proofs.BookPasses.{empty-kept}
 use Rattle.store.proofs.OpenPasses.{openOf}
 use Rattle.store.proofs.Agreement.{TreeTook, Agrees, lends-enough}
 use Rattle.store.proofs.Ready.{Ready}
@@ -70,14 +71,12 @@ unfolding openOf
 opened-agrees m e =
     record {
       last = refl;
-      now = omega arith;
       started = refl;
-      few = omega arith;
       places = length-replicate openLimit noPass;
       listed = refl;
       count = refl;
       most = omega arith;
-      kept = tt;
+      kept = empty-kept;
       trees = opened-trees m e;
     }
 

@@ -9,15 +9,15 @@ use Rattle.words.specs.Lists.{All}
 use Rattle.tree.specs.Grown.{InTime}
 use Rattle.tree.proofs.Lists.{all-append}
 use Rattle.store.specs.Trees.{Store}
-use Rattle.store.specs.Calls.{Call, opening, start, end, question, lookupIn, Sent}
+use Rattle.store.specs.Calls.{Call, opening, start, end, question, batTime, lookupIn, Sent}
 use Rattle.store.specs.Refusals.{Ground, firstMet}
 use Rattle.store.specs.Grounds.{argumentGrounds, stateGrounds}
-use Rattle.store.specs.Answers.{refusalOf, Answered, unlessRefused}
+use Rattle.store.specs.Answers.{refusalOf, pagesSaid, Answered, unlessRefused}
 use Rattle.store.specs.Writing.{Entry, entriesOf, entryGrounds}
 use Rattle.store.specs.Reading.{isSpoiled, PointLookup, foundIn, lookupsOf}
 use Rattle.store.specs.Performing.{pageGrounds, refusal, served, perform}
 use Rattle.store.specs.Book.{Book, bookPart, Fed, fedBy, BookTurn, unlessFed, unlessMet, bookKnows, bookRefusal, bookDone, bookTurn}
-use Rattle.store.specs.Demand.{PagesLack, ListFull, Exact, ExactCall, pathsOf, pagesOn, pagesSaid, mostPages, Opens}
+use Rattle.store.specs.Demand.{PagesLack, ListFull, Exact, ExactCall, pathsOf, pagesOn, mostPages, Opens}
 use Rattle.store.proofs.RefusalLaws.{first-has, first-refuses, first-passes, first-both, each-none}
 use Rattle.store.proofs.ArgumentFacts.{Usual, AllUsual, arguments-usual, states-usual, usual-numbered, arguments-numbered, lookup-bounds, start-arguments, end-tick, asked, may-start, may-end}
 use Rattle.store.proofs.Agreement.{Agrees, same-grounds}
@@ -29,6 +29,7 @@ use Rattle.store.proofs.StartReady.{start-ready}
 use Rattle.store.proofs.EndReady.{end-ready}
 use Rattle.store.proofs.LookupReady.{lookup-ready}
 use Rattle.store.proofs.QuestionReady.{question-ready}
+use Rattle.store.proofs.BatTimeReady.{bat-time-ready}
 
 -- Both refuse for one ground; or the store lacks pages, or a place for a root; or both serve the call
 pub data Outcome (s : Store) (b : Book) (c : Call) : Type 0 where
@@ -47,6 +48,7 @@ ready s b (start tick key weight) sent a e f =
 ready s b (end tick number) sent a e f =
     end-ready s b a tick number (end-tick tick number sent e) (may-end (bookKnows b (end tick number)) tick number f)
 ready s b (question k1 k2 t1 t2) sent a e f = question-ready s b a k1 k2 t1 t2 sent (asked k1 k2 t1 t2 e)
+ready s b (batTime k1 k2 t1 t2) sent a e f = bat-time-ready s b a k1 k2 t1 t2 sent (asked k1 k2 t1 t2 e)
 ready s b (lookupIn tree t k) sent a e f = lookup-ready s b a tree t k (lookup-bounds tree t k sent e)
 
 module _ (s : Store) (b : Book) (c : Call) (sent : Sent c) (a : Agrees s b) where
@@ -103,6 +105,7 @@ served-answers s opening = refl
 served-answers s (start tick key weight) = refl
 served-answers s (end tick number) = refl
 served-answers s (question k1 k2 t1 t2) = refl
+served-answers s (batTime k1 k2 t1 t2) = refl
 served-answers s (lookupIn tree t k) = refl
 
 module _ (s : Store) (b : Book) (c : Call) where

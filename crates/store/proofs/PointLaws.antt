@@ -9,7 +9,7 @@ use Rattle.words.specs.Lists.{All}
 use Rattle.tree.specs.RowSteps.{Point}
 use Rattle.tree.proofs.Lists.{all-append}
 use Rattle.store.specs.declared.types.TreeName.{TreeName}
-use Rattle.store.specs.declared.types.TreeName.the-variants.{Starts, Ends}
+use Rattle.store.specs.declared.types.TreeName.the-variants.{Starts, Ends, Time}
 use Rattle.store.specs.Head.{weightLimit}
 use Rattle.store.specs.Passes.{End, stillOpen, endedAt, Pass, sumWhere}
 use Rattle.store.specs.Points.{endPointsOf, pointsOfPass, pointsOf}
@@ -64,7 +64,13 @@ pub record Light (p : Point) : Type 0 where
   pub count : p .value .count ≤ 1
   pub sum : p .value .sum ≤ weightLimit
 
--- A pass is at most one point of a tree, and a light one
+-- The trees whose points carry a count and a weight
+abbrev pub CountsPasses : TreeName → Type 0
+CountsPasses Starts = Unit {0}
+CountsPasses Ends = Unit {0}
+CountsPasses Time = ⊥
+
+-- A pass is at most one point of such a tree, and a light one
 abbrev AtMostOne : List Point → Type 0
 AtMostOne points = All Light points × (length points ≤ 1)
 
@@ -72,19 +78,20 @@ end-point : (p : Pass) (e : End) → p .weight ≤ weightLimit → AtMostOne (en
 end-point p stillOpen w = (tt, omega arith)
 end-point p (endedAt e) w = ((record { count = omega arith; sum = w }, tt), omega arith)
 
-pass-point : (name : TreeName) (p : Pass) → p .weight ≤ weightLimit → AtMostOne (pointsOfPass name p)
-pass-point Starts p w = ((record { count = omega arith; sum = w }, tt), omega arith)
-pass-point Ends p w = end-point p (p .end) w
+pass-point : (name : TreeName) → CountsPasses name → (p : Pass) → p .weight ≤ weightLimit → AtMostOne (pointsOfPass name p)
+pass-point Starts counts p w = ((record { count = omega arith; sum = w }, tt), omega arith)
+pass-point Ends counts p w = end-point p (p .end) w
+pass-point Time counts p w = absurd counts
 
-module _ (name : TreeName) where
+module _ (name : TreeName) (counts : CountsPasses name) where
   pub points-light : (passes : List Pass) → All (λ (p : Pass). p .weight ≤ weightLimit) passes → All Light (pointsOf name passes)
   unfolding pointsOf
   points-light [] h = tt
   points-light (p ∷ passes) h =
-      all-append Light (pointsOfPass name p) (pointsOf name passes) (pass-point name p (h .0) .0) (points-light passes (h .1))
+      all-append Light (pointsOfPass name p) (pointsOf name passes) (pass-point name counts p (h .0) .0) (points-light passes (h .1))
 
   pub points-few : (passes : List Pass) → All (λ (p : Pass). p .weight ≤ weightLimit) passes → length (pointsOf name passes) ≤ length passes
   unfolding pointsOf
   points-few [] h = omega arith
   points-few (p ∷ passes) h =
-      omega (arith, length-append (pointsOfPass name p) (pointsOf name passes), pass-point name p (h .0) .1, points-few passes (h .1))
+      omega (arith, length-append (pointsOfPass name p) (pointsOf name passes), pass-point name counts p (h .0) .1, points-few passes (h .1))

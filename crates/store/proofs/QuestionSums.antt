@@ -26,7 +26,7 @@ StartedBy start stillOpen = Unit {0}
 StartedBy start (endedAt e) = start ≤ e
 
 -- "no later than one less" is "before"
-up-to-is-before : (n x : ℕ) → 1 ≤ n → leb x (n - 1) ≡ ltb x n
+pub up-to-is-before : (n x : ℕ) → 1 ≤ n → leb x (n - 1) ≡ ltb x n
 up-to-is-before n x some = go (split n x)
   where
     go : (n ≤ x) ⊎ (x < n) → leb x (n - 1) ≡ ltb x n

@@ -10,13 +10,14 @@ use Rattle.tree.specs.Path.{path}
 use Rattle.tree.specs.Grown.{InTime}
 use Rattle.store.specs.Trees.{Store, treeIn}
 use Rattle.store.specs.Calls.{Call}
+use Rattle.store.specs.Answers.{pagesSaid}
 use Rattle.store.specs.Writing.{Entry, entriesOf}
 use Rattle.store.specs.Reading.{isSpoiled, pagesOf, PointLookup, foundIn, lookupsOf, pagesIn}
 use Rattle.store.specs.Performing.{served}
 use Rattle.store.specs.Book.{Book, bookPart, bookDoes, bookSays}
-use Rattle.store.specs.Demand.{pathsOf, pagesOn, pagesSaid, mostPages}
-use Rattle.store.proofs.ArgumentFacts.{InBounds}
+use Rattle.store.specs.Demand.{pathsOf, pagesOn, mostPages}
 use Rattle.store.proofs.Agreement.{Agrees}
+use Rattle.store.proofs.BandLookups.{LookupInBounds}
 use Rattle.store.proofs.LookupTotals.{found-as-book}
 use Rattle.store.proofs.Bounds.{took-short}
 use Rattle.store.proofs.Entering.{HasRoom}
@@ -27,9 +28,6 @@ pub record ServedAlike (s : Store) (b : Book) (c : Call) : Type 0 where
   pub next : Agrees (served s c .store) (bookDoes b c)
   pub said : pagesSaid (served s c .answer) ≡ pagesOn (pathsOf s c)
   pub most : pagesOn (pathsOf s c) ≤ mostPages c
-
-abbrev pub LookupInBounds : PointLookup → Type 0
-LookupInBounds l = InBounds (l .tick) (l .key)
 
 pub record Ready (s : Store) (b : Book) (c : Call) : Type 0 where
   pub lookups : All LookupInBounds (lookupsOf c)

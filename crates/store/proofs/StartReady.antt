@@ -8,11 +8,11 @@ use Rattle.tree.specs.RowSteps.{Point}
 use Rattle.tree.specs.Grown.{InTime, Room}
 use Rattle.store.specs.declared.types.OpenPass.{OpenPass}
 use Rattle.store.specs.declared.types.TreeName.{TreeName}
-use Rattle.store.specs.declared.types.TreeName.the-variants.{Starts, Ends}
+use Rattle.store.specs.declared.types.TreeName.the-variants.{Starts, Ends, Time}
 use Rattle.store.specs.Trees.{Store, treeIn}
 use Rattle.store.specs.Head.{openLimit}
 use Rattle.store.specs.Calls.{start}
-use Rattle.store.specs.Writing.{pointOf}
+use Rattle.store.specs.Writing.{pointOf, timeAtStart}
 use Rattle.store.specs.Performing.{served}
 use Rattle.store.specs.Passes.{stillOpen, Pass, sumWhere}
 use Rattle.store.specs.Points.{pointsOf}
@@ -38,8 +38,14 @@ module _ (s : Store) (b : Book) (a : Agrees s b) (tick key weight : ℕ) (argume
   abbrev after : Book
   after = bookDoes b (start tick key weight)
 
+  abbrev line : Point
+  line = timeAtStart tick key weight
+
   in-time : InTime (b .last) point
   in-time = record { later = may .later; tick = arguments .bounds .tick; key = arguments .bounds .key }
+
+  line-in-time : InTime (b .last) line
+  line-in-time = record { later = may .later; tick = arguments .bounds .tick; key = arguments .bounds .key }
 
   room-left : s .head .count < openLimit
   room-left = omega (arith, a .count, open-count 0 (b .passes), may .place)
@@ -56,25 +62,26 @@ module _ (s : Store) (b : Book) (a : Agrees s b) (tick key weight : ℕ) (argume
       ∙ ap₂ (λ (os : List OpenPass) (n : ℕ). os ++ (openPass n pass ∷ [])) (a .listed) number-same
       ∙ sym (open-more 0 (b .passes) pass refl)
 
-  -- The tree of starts takes the point, the others none
-  trees-after : Room (treeIn s Starts) point → (name : TreeName)
+  -- The trees of starts and of time take a point each, that of ends none
+  trees-after : Room (treeIn s Starts) point → Room (treeIn s Time) line → (name : TreeName)
       → TreeTook (treeIn (served s (start tick key weight) .store) name) tick (pointsOf name (after .passes))
   unfolding served sumWhere
-  trees-after room Starts =
+  trees-after room line-room Starts =
       took-more (a .trees Starts) point in-time room (pointsOf Starts (after .passes))
       (λ f test. omega (arith, points-more Starts f test (b .passes) pass, sum-where-one f test point))
-  trees-after room Ends =
+  trees-after room line-room Ends =
       took-same tick (pointsOf Ends (after .passes)) (may .later)
       (λ f test. omega (arith, points-more Ends f test (b .passes) pass)) (a .trees Ends)
+  trees-after room line-room Time =
+      took-more (a .trees Time) line line-in-time line-room (pointsOf Time (after .passes))
+      (λ f test. omega (arith, points-more Time f test (b .passes) pass, sum-where-one f test line))
 
-  started-agrees : Room (treeIn s Starts) point → Agrees (served s (start tick key weight) .store) after
+  started-agrees : Room (treeIn s Starts) point → Room (treeIn s Time) line → Agrees (served s (start tick key weight) .store) after
   unfolding served
-  started-agrees room =
+  started-agrees room line-room =
       record {
         last = refl;
-        now = arguments .bounds .tick;
         started = omega (arith, a .started, length-append (b .passes) (pass ∷ []));
-        few = omega (arith, may .number, length-append (b .passes) (pass ∷ []));
         places = length-set (s .head .passes) (s .head .count) _ ∙ a .places;
         listed = listed-more;
         count =
@@ -85,8 +92,8 @@ module _ (s : Store) (b : Book) (a : Agrees s b) (tick key weight : ℕ) (argume
               length-append (openOf 0 (b .passes)) (openPass (0 + length (b .passes)) pass ∷ []),
             );
         most = omega (arith, room-left);
-        kept = started-kept b tick key weight arguments (may .later) (a .kept);
-        trees = trees-after room;
+        kept = started-kept b tick key weight arguments may (a .kept);
+        trees = trees-after room line-room;
       }
 
   pub start-ready : Ready s b (start tick key weight)
@@ -94,11 +101,11 @@ module _ (s : Store) (b : Book) (a : Agrees s b) (tick key weight : ℕ) (argume
   start-ready =
       record {
         lookups = tt;
-        entries = (in-time, tt);
+        entries = (in-time, (line-in-time, tt));
         serves = λ rooms.
             record {
               answer = ap (λ (n : ℕ). says (n ∷ [])) (a .started);
-              next = started-agrees (rooms .0);
+              next = started-agrees (rooms .0) (rooms .1 .0);
               said = refl;
               most = omega arith;
             };

@@ -41,6 +41,20 @@ module _ {A : Type 0} where
   sum-where-none f test h [] = refl
   sum-where-none f test h (x ∷ xs) = rw (h x) (omega (arith, sum-where-none f test h xs))
 
+  -- Every item
+  abbrev pub every : A → Bool
+  every x = true
+
+  -- Numbers no less, and of every item
+  pub sum-where-less : (f g : A → ℕ) (test : A → Bool) → ((x : A) → f x ≤ g x) → (xs : List A) → sumWhere f test xs ≤ sumWhere g every xs
+  unfolding sumWhere
+  sum-where-less f g test h [] = omega arith
+  sum-where-less f g test h (x ∷ xs) = go (test x) (sum-where-less f g test h xs)
+    where
+      go : (b : Bool) → sumWhere f test xs ≤ sumWhere g every xs → cond b (f x) 0 + sumWhere f test xs ≤ g x + sumWhere g every xs
+      go true ih = omega (arith, h x)
+      go false ih = omega arith
+
   -- No more than so much for each item
   pub sum-where-most : (f : A → ℕ) (test : A → Bool) (most : ℕ) (xs : List A) → All (λ (x : A). f x ≤ most) xs
       → sumWhere f test xs ≤ most * length xs

@@ -2,7 +2,7 @@
 use Prim.Native.Nat.{ℕ, zero, suc}
 use mathlib.Core.List.{List, [], _∷_}
 use Rattle.store.specs.declared.types.Answer.{Answer}
-use Rattle.store.specs.declared.types.Answer.the-variants.{Refused, Opened, Started, Ended, Totals}
+use Rattle.store.specs.declared.types.Answer.the-variants.{Refused, Opened, Started, Ended, Totals, BatTime}
 use Rattle.store.specs.Trees.{Store}
 
 -- The refusal's number, or 0
@@ -12,6 +12,7 @@ refusalOf Opened = 0
 refusalOf (Started n) = 0
 refusalOf Ended = 0
 refusalOf (Totals count sum pages) = 0
+refusalOf (BatTime total pages) = 0
 
 -- The values that are returned beside it
 abbrev pub valuesOf : Answer → List ℕ
@@ -20,6 +21,24 @@ valuesOf Opened = []
 valuesOf (Started n) = n ∷ []
 valuesOf Ended = []
 valuesOf (Totals count sum pages) = count ∷ (sum ∷ (pages ∷ []))
+valuesOf (BatTime total pages) = total ∷ (pages ∷ [])
+
+-- Of these the pages opened, and the others
+abbrev pub pagesSaid : Answer → ℕ
+pagesSaid (Refused n) = 0
+pagesSaid Opened = 0
+pagesSaid (Started n) = 0
+pagesSaid Ended = 0
+pagesSaid (Totals count sum pages) = pages
+pagesSaid (BatTime total pages) = pages
+
+abbrev pub valuesBesidePages : Answer → List ℕ
+valuesBesidePages (Refused n) = []
+valuesBesidePages Opened = []
+valuesBesidePages (Started n) = n ∷ []
+valuesBesidePages Ended = []
+valuesBesidePages (Totals count sum pages) = count ∷ (sum ∷ [])
+valuesBesidePages (BatTime total pages) = total ∷ []
 
 -- What a call answers and leaves
 pub record Answered : Type 0 where

@@ -2,15 +2,16 @@
 use Prim.Native.Nat.{ℕ, zero, suc}
 use mathlib.Core.List.{List, [], _∷_, _++_}
 use mathlib.Core.Bool.{Bool, true, false, cond}
-use lib.ListN.{length, getD, take}
+use lib.ListN.{length, getD}
 use lib.Dec.{eqb}
 use Rattle.store.specs.declared.types.Answer.{Answer}
 use Rattle.store.specs.Refusals.{firstMet}
 use Rattle.store.specs.Grounds.{Known, soughtBy, argumentGrounds, stateGrounds}
-use Rattle.store.specs.Calls.{Call, opening, start, end, question, lookupIn}
-use Rattle.store.specs.Answers.{refusalOf, valuesOf}
+use Rattle.store.specs.Calls.{Call, opening, start, end, question, batTime, lookupIn}
+use Rattle.store.specs.Answers.{refusalOf, valuesBesidePages}
 use Rattle.store.specs.Passes.{End, stillOpen, endedAt, Pass, countWhere, questionCount, questionSum}
-use Rattle.store.specs.Points.{pointsOf, lookupCount, lookupSum}
+use Rattle.store.specs.BatTime.{batTimeOf}
+use Rattle.store.specs.Points.{pointsOf, lookupCount, lookupSum, answeredBy}
 
 pub record Book : Type 0 where
   pub last : ℕ
@@ -27,9 +28,9 @@ refused n = record { refusal = n; values = [] }
 abbrev pub says : List ℕ → BookAnswer
 says values = record { refusal = 0; values = values }
 
--- "The calls answer the same pass numbers, counts, sums and refusals": all but the pages opened, which come third
+-- "The calls answer the same pass numbers, counts, sums and refusals": all but the pages opened
 abbrev pub bookPart : Answer → BookAnswer
-bookPart a = record { refusal = refusalOf a; values = take 2 (valuesOf a) }
+bookPart a = record { refusal = refusalOf a; values = valuesBesidePages a }
 
 -- "of the answers only whether one was 27 or 28"
 pub data Fed : Type 0 where
@@ -85,6 +86,7 @@ bookDoes b (start tick key weight) =
     record { last = tick; passes = b .passes ++ (record { key = key; weight = weight; start = tick; end = stillOpen } ∷ []) }
 bookDoes b (end tick number) = record { last = tick; passes = endPassAt number tick (b .passes) }
 bookDoes b (question k1 k2 t1 t2) = b
+bookDoes b (batTime k1 k2 t1 t2) = b
 bookDoes b (lookupIn tree t k) = b
 
 abbrev pub bookSays : Book → Call → BookAnswer
@@ -92,7 +94,11 @@ bookSays b opening = says []
 bookSays b (start tick key weight) = says (length (b .passes) ∷ [])
 bookSays b (end tick number) = says []
 bookSays b (question k1 k2 t1 t2) = says (questionCount k1 k2 t1 t2 (b .passes) ∷ (questionSum k1 k2 t1 t2 (b .passes) ∷ []))
-bookSays b (lookupIn tree t k) = says (lookupCount t k (pointsOf tree (b .passes)) ∷ (lookupSum t k (pointsOf tree (b .passes)) ∷ []))
+bookSays b (batTime k1 k2 t1 t2) = says (batTimeOf k1 k2 t1 t2 (b .passes) ∷ [])
+bookSays b (lookupIn tree t k) =
+    says
+    (answeredBy tree (lookupCount t k (pointsOf tree (b .passes)))
+    ∷ (answeredBy tree (lookupSum t k (pointsOf tree (b .passes))) ∷ []))
 
 pub record BookTurn : Type 0 where
   pub book : Book

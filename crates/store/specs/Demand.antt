@@ -3,7 +3,7 @@ use Prim.Native.Nat.{ℕ, _+_, _-_, _*_, _/_, _^_, _≤_, _<_}
 use mathlib.Core.Path.{_≡_}
 use mathlib.Core.Logic.{_⊎_}
 use mathlib.Core.List.{List, [], _∷_, map}
-use lib.ListN.{length, getD}
+use lib.ListN.{length}
 use Rattle.words.specs.Lists.{All}
 use Rattle.tree.specs.declared.types.Plan.{Plan}
 use Rattle.tree.specs.declared.types.Plan.the-variants.{Spoiled, Ready}
@@ -17,8 +17,8 @@ use Rattle.store.specs.declared.types.Answer.{Answer}
 use Rattle.store.specs.declared.types.Head.{Head}
 use Rattle.store.specs.declared.types.TreeName.{TreeName}
 use Rattle.store.specs.Trees.{Lent, Store, treeIn}
-use Rattle.store.specs.Answers.{refusalOf, valuesOf}
-use Rattle.store.specs.Calls.{Call, opening, start, end, question, lookupIn, Sent}
+use Rattle.store.specs.Answers.{refusalOf, pagesSaid}
+use Rattle.store.specs.Calls.{Call, opening, start, end, question, batTime, lookupIn, Sent}
 use Rattle.store.specs.Writing.{Entry, entriesOf, planOf}
 use Rattle.store.specs.Reading.{PointLookup, lookupsOf}
 use Rattle.store.specs.Performing.{refusal, perform, performAll}
@@ -71,16 +71,13 @@ abbrev pub pagesOn : List (List ℕ) → ℕ
 pagesOn [] = 0
 pagesOn (p ∷ ps) = length p + pagesOn ps
 
--- The pages opened are the third of the values that an answer has
-abbrev pub pagesSaid : Answer → ℕ
-pagesSaid a = getD (valuesOf a) 2 0
-
--- "A lookup opens at most 4 pages, a question at most 16"
+-- "A lookup opens at most 4 pages, a question at most 16", and so bat-time, which is as many lookups
 abbrev pub mostPages : Call → ℕ
 mostPages opening = 0
 mostPages (start tick key weight) = 0
 mostPages (end tick number) = 0
 mostPages (question k1 k2 t1 t2) = 16
+mostPages (batTime k1 k2 t1 t2) = 16
 mostPages (lookupIn tree t k) = 4
 
 -- "the reported number is the length of the paths followed", of a call that is not refused

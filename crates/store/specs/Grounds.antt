@@ -5,7 +5,7 @@ use mathlib.Core.Bool.{Bool, false, _||_, not}
 use lib.Dec.{leb, ltb, eqb}
 use Rattle.words.specs.Words.{keyLimit, openEnd}
 use Rattle.store.specs.Head.{passLimit, openLimit, weightLimit}
-use Rattle.store.specs.Calls.{Call, opening, start, end, question, lookupIn}
+use Rattle.store.specs.Calls.{Call, opening, start, end, question, batTime, lookupIn}
 use Rattle.store.specs.Refusals.{Ground, _gives_}
 
 -- "1 key or k1 above 29,999, or k2 above 30,000."
@@ -31,12 +31,17 @@ noTick tick = eqb tick openEnd gives 4
 abbrev pub noTime : (t1 t2 : ℕ) → Ground
 noTime t1 t2 = leb t2 t1 gives 5
 
+-- What bat-time takes is "a question" (document 02, Paper 4)
+abbrev pub questionGrounds : (k1 k2 t1 t2 : ℕ) → List Ground
+questionGrounds k1 k2 t1 t2 = bandTooHigh k1 k2 ∷ (noBand k1 k2 ∷ (noTime t1 t2 ∷ []))
+
 -- "Refused because of the input", of the arguments
 abbrev pub argumentGrounds : Call → List Ground
 argumentGrounds opening = []
 argumentGrounds (start tick key weight) = keyTooHigh key ∷ (weightBeyond weight ∷ (noTick tick ∷ []))
 argumentGrounds (end tick number) = noTick tick ∷ []
-argumentGrounds (question k1 k2 t1 t2) = bandTooHigh k1 k2 ∷ (noBand k1 k2 ∷ (noTime t1 t2 ∷ []))
+argumentGrounds (question k1 k2 t1 t2) = questionGrounds k1 k2 t1 t2
+argumentGrounds (batTime k1 k2 t1 t2) = questionGrounds k1 k2 t1 t2
 argumentGrounds (lookupIn tree t k) = keyTooHigh k ∷ (noTick t ∷ [])
 
 -- What a head and a book know: the last tick, how many passes are open and were started, and whether the pass that the call seeks is open
@@ -52,6 +57,7 @@ soughtBy opening find = false
 soughtBy (start tick key weight) find = false
 soughtBy (end tick number) find = find number
 soughtBy (question k1 k2 t1 t2) find = false
+soughtBy (batTime k1 k2 t1 t2) find = false
 soughtBy (lookupIn tree t k) find = false
 
 -- "21 tick of a start or an end before the last tick."
@@ -76,4 +82,5 @@ stateGrounds known opening = []
 stateGrounds known (start tick key weight) = beforeLast (known .last) tick ∷ (allOpen (known .count) ∷ (allStarted (known .started) ∷ []))
 stateGrounds known (end tick number) = beforeLast (known .last) tick ∷ (notOpen (known .found) ∷ [])
 stateGrounds known (question k1 k2 t1 t2) = []
+stateGrounds known (batTime k1 k2 t1 t2) = []
 stateGrounds known (lookupIn tree t k) = []

@@ -92,4 +92,5 @@ openedHead =
       passes = replicate openLimit noPass;
       starts = openedUse;
       ends = openedUse;
+      time = openedUse;
     }

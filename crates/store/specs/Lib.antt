@@ -10,6 +10,7 @@ pub mod Reading
 pub mod Performing
 -- The pass book: document 01, "Terms" and "The pass book"
 pub mod Passes
+pub mod BatTime
 pub mod Points
 pub mod Book
 -- What is claimed of whole lists of calls

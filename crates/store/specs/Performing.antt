@@ -4,18 +4,18 @@ use mathlib.Core.List.{List, [], _∷_, _++_}
 use mathlib.Core.Bool.{Bool, true, false, _&&_, not}
 use Rattle.words.specs.declared.value.Value.{Value}
 use Rattle.store.specs.declared.types.Answer.{Answer}
-use Rattle.store.specs.declared.types.Answer.the-variants.{Opened, Started, Ended, Totals}
+use Rattle.store.specs.declared.types.Answer.the-variants.{Opened, Started, Ended, Totals, BatTime}
 use Rattle.store.specs.declared.types.FoundPass.{FoundPass}
 use Rattle.store.specs.declared.types.FoundPass.the-variants.{Missing, At}
 use Rattle.store.specs.declared.types.Head.{Head}
 use Rattle.store.specs.Trees.{Store}
 use Rattle.store.specs.Head.{passOf, headFits}
-use Rattle.store.specs.Calls.{Call, opening, start, end, question, lookupIn, isOpening}
+use Rattle.store.specs.Calls.{Call, opening, start, end, question, batTime, lookupIn, isOpening}
 use Rattle.store.specs.Refusals.{Ground, _gives_, firstMet}
 use Rattle.store.specs.Grounds.{Known, soughtBy, argumentGrounds, stateGrounds}
 use Rattle.store.specs.Answers.{Answered, unlessRefused}
 use Rattle.store.specs.Writing.{lendsTooLittle, openedStore, entriesOf, entryGrounds, enterAll, startedHead, endedHead}
-use Rattle.store.specs.Reading.{PointLookup, foundIn, valueOf, lookupsOf, lookupGrounds, pagesIn, questionValue}
+use Rattle.store.specs.Reading.{PointLookup, foundIn, valueOf, lookupsOf, lookupGrounds, pagesIn, questionValue, batTimeTotal}
 
 -- What a head knows
 abbrev pub isFound : FoundPass → Bool
@@ -58,6 +58,7 @@ served s (end tick number) =
     let entered = enterAll s (entriesOf (s .head) (end tick number)) in
     record { answer = Ended; store = record { head = endedHead (entered .head) tick (passOf (s .head) number); lent = entered .lent } }
 served s (question k1 k2 t1 t2) = record { answer = totals (questionValue s k1 k2 t1 t2) (pagesIn s (lookupsOf (question k1 k2 t1 t2))); store = s }
+served s (batTime k1 k2 t1 t2) = record { answer = BatTime (batTimeTotal s k1 k2 t1 t2) (pagesIn s (lookupsOf (batTime k1 k2 t1 t2))); store = s }
 served s (lookupIn tree t k) =
     let l : PointLookup = record { tree = tree; tick = t; key = k } in
     record { answer = totals (valueOf (foundIn s l)) (pagesIn s (lookupsOf (lookupIn tree t k))); store = s }

@@ -1,9 +1,10 @@
 -- What a call that writes does: opening, and the points that a start or an end enters.
-use Prim.Native.Nat.{ℕ, _+_, _-_}
+use Prim.Native.Nat.{ℕ, _+_, _*_, _-_, _%_, _^_}
 use mathlib.Core.List.{List, [], _∷_, _++_, map}
 use mathlib.Core.Bool.{Bool, true, false, _||_}
 use lib.ListN.{length, take, drop, set}
 use lib.Dec.{leb, ltb}
+use Rattle.words.specs.Value.{subtractWords, line}
 use Rattle.tree.specs.Row.{pageWords}
 use Rattle.tree.specs.declared.types.Plan.{Plan}
 use Rattle.tree.specs.declared.types.Plan.the-variants.{Spoiled, Ready}
@@ -16,11 +17,11 @@ use Rattle.store.specs.declared.types.OpenPass.{OpenPass}
 use Rattle.store.specs.declared.types.FoundPass.{FoundPass}
 use Rattle.store.specs.declared.types.FoundPass.the-variants.{Missing, At}
 use Rattle.store.specs.declared.types.TreeName.{TreeName}
-use Rattle.store.specs.declared.types.TreeName.the-variants.{Starts, Ends}
+use Rattle.store.specs.declared.types.TreeName.the-variants.{Starts, Ends, Time}
 use Rattle.store.specs.declared.types.Head.{Head}
 use Rattle.store.specs.Trees.{LentTree, Lent, lentTo, lentByName, Store, treeIn, withTree, someTree}
 use Rattle.store.specs.Head.{passOf, noPass, openedHead}
-use Rattle.store.specs.Calls.{Call, opening, start, end, question, lookupIn}
+use Rattle.store.specs.Calls.{Call, opening, start, end, question, batTime, lookupIn}
 use Rattle.store.specs.Refusals.{Ground, _gives_}
 
 -- "8 on opening, a page table under 260 words or an empty root list."
@@ -42,6 +43,13 @@ openedStore m = record { head = openedHead; lent = lentByName (λ (name : TreeNa
 abbrev pub pointOf : (tick key weight : ℕ) → Point
 pointOf tick key weight = record { tick = tick; key = key; value = record { count = 1; sum = weight } }
 
+-- "Its points carry in words 2 and 3, modulo 2^64, the factor of t and the constant: for weight w, w and w - w × s at a start, -w and w × e at an end." (document 02, Paper 4)
+abbrev pub timeAtStart : (tick key weight : ℕ) → Point
+timeAtStart tick key weight = record { tick = tick; key = key; value = line weight (subtractWords weight (weight * tick)) }
+
+abbrev pub timeAtEnd : (tick key weight : ℕ) → Point
+timeAtEnd tick key weight = record { tick = tick; key = key; value = line (subtractWords 0 weight) (weight * tick % 2 ^ 64) }
+
 -- A point that a call enters, and the tree that takes it
 pub record Entry : Type 0 where
   pub tree : TreeName
@@ -49,17 +57,21 @@ pub record Entry : Type 0 where
 
 abbrev pub endEntries : ℕ → FoundPass → List Entry
 endEntries tick Missing = []
-endEntries tick (At place p) = record { tree = Ends; point = pointOf tick (p .key) (p .weight) } ∷ []
+endEntries tick (At place p) =
+    record { tree = Ends; point = pointOf tick (p .key) (p .weight) } ∷ (record { tree = Time; point = timeAtEnd tick (p .key) (p .weight) } ∷ [])
 
--- "A pass is a point of the starts tree at its start and, once ended, a point of the ends tree at its end."
+-- "A pass is a point of the starts tree at its start and, once ended, a point of the ends tree at its end." The third tree "takes a point at every start and end" (Paper 4)
 abbrev pub entriesOf : Head → Call → List Entry
 entriesOf h opening = []
-entriesOf h (start tick key weight) = record { tree = Starts; point = pointOf tick key weight } ∷ []
+entriesOf h (start tick key weight) =
+    record { tree = Starts; point = pointOf tick key weight } ∷ (record { tree = Time; point = timeAtStart tick key weight } ∷ [])
 entriesOf h (end tick number) = endEntries tick (passOf h number)
 entriesOf h (question k1 k2 t1 t2) = []
+entriesOf h (batTime k1 k2 t1 t2) = []
 entriesOf h (lookupIn tree t k) = []
 
--- What an entry would do, and the tree that it would do it to. All entries of a call are planned before one is made.
+-- What an entry would do, and the tree that it would do it to. "Starts and ends check all trees that they write before writing any" (Paper 4): each entry is planned of
+-- the store that the call found.
 abbrev pub planOf : Store → Entry → Plan
 planOf s e = plan (treeIn s (e .tree)) (e .point)
 
@@ -104,6 +116,7 @@ startedHead h tick key weight =
       passes = set (h .passes) (h .count) (record { number = h .started; key = key; weight = weight; start = tick });
       starts = h .starts;
       ends = h .ends;
+      time = h .time;
     }
 
 -- "Ending a pass closes up the list and zeroes the place set free."
@@ -124,4 +137,5 @@ endedHead h tick found =
       passes = passesWithout h found;
       starts = h .starts;
       ends = h .ends;
+      time = h .time;
     }

@@ -1,4 +1,4 @@
-// The store, two trees and a head, as definitions and theorems: this crate has the types that they speak of and no function. The crates `head`,
+// The store, three trees and a head, as definitions and theorems: this crate has the types that they speak of and no function. The crates `head`,
 // `refusals`, `queries` and `updates` have the code.
 mod types;
 

@@ -5,6 +5,7 @@ use tree::TreeUse;
 pub enum TreeName {
     Starts,
     Ends,
+    Time,
 }
 
 // A pass that has started and not ended.
@@ -40,14 +41,19 @@ pub struct Head {
     pub passes: [OpenPass; Head::PLACES],
     pub starts: TreeUse,
     pub ends: TreeUse,
+    pub time: TreeUse,
 }
 
 impl Head {
     // Places for open passes.
     pub const PLACES: usize = 64;
 
-    // So many numbers make all places.
-    pub const PASS_NUMBERS: usize = Head::PLACES * OpenPass::NUMBERS;
+    // The numbers of a head that stand before those of the open passes: the last tick, how many passes were started and how many are open, and for each tree the pages
+    // and the roots that it uses.
+    pub const FIELDS: usize = 9;
+
+    // All numbers of a head.
+    pub const NUMBERS: usize = Head::FIELDS + Head::PLACES * OpenPass::NUMBERS;
 
     // So many passes may be open at a time.
     pub const OPEN_LIMIT: u32 = Head::PLACES as u32;
@@ -63,4 +69,5 @@ pub enum Answer {
     Started(u32),
     Ended,
     Totals { count: u64, sum: u64, pages: u32 },
+    BatTime { total: u64, pages: u32 },
 }

@@ -14,6 +14,8 @@ fn run_groups(
     start_roots: &mut [u64],
     end_table: &mut [u64],
     end_roots: &mut [u64],
+    time_table: &mut [u64],
+    time_roots: &mut [u64],
     passes: &mut [u32; NUMBERS],
 ) -> Counts {
     let mut all = Counts::none();
@@ -24,6 +26,8 @@ fn run_groups(
             start_roots,
             end_table,
             end_roots,
+            time_table,
+            time_roots,
             passes,
             number,
         );
@@ -35,18 +39,22 @@ fn run_groups(
     all
 }
 
-// On tables of 160 pages and lists of 160 roots.
+// On tables of 320 pages and lists of 320 roots.
 fn main() {
-    let mut start_table = [0u64; 41600];
-    let mut start_roots = [0u64; 160];
-    let mut end_table = [0u64; 41600];
-    let mut end_roots = [0u64; 160];
+    let mut start_table = [0u64; 83200];
+    let mut start_roots = [0u64; 320];
+    let mut end_table = [0u64; 83200];
+    let mut end_roots = [0u64; 320];
+    let mut time_table = [0u64; 83200];
+    let mut time_roots = [0u64; 320];
     let mut passes = [0u32; NUMBERS];
     let all = run_groups(
         &mut start_table,
         &mut start_roots,
         &mut end_table,
         &mut end_roots,
+        &mut time_table,
+        &mut time_roots,
         &mut passes,
     );
     say(b"all");

@@ -19,7 +19,10 @@ pub fn say_counts(counts: Counts) {
     say_number(b" comparisons, ", counts.differed);
     say_number(b" differed; refused ", counts.refused);
     say_number(b", with 27: ", counts.lacked_pages);
-    say_number(b", with 28: ", counts.lacked_roots);
+    say_number(b" (for the tree of time alone: ", counts.lacked_for_time);
+    say_number(b"), with 28: ", counts.lacked_roots);
+    say_number(b"; ", counts.bat_times);
+    say_number(b" answers of bat-time, above 0: ", counts.some_time);
     say_number(b"; ", counts.clicks);
     say_number(b" clicks, up to ", counts.most_ends);
     say(b" ends in one tick");

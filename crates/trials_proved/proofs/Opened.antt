@@ -14,7 +14,7 @@ use Rattle.tree.specs.declared.types.Lookup.the-variants.{Found}
 use Rattle.tree.specs.Tree.{Tree}
 use Rattle.tree.specs.Lookup.{lookup}
 use Rattle.store.specs.declared.types.Answer.{Answer}
-use Rattle.store.specs.declared.types.Answer.the-variants.{Refused, Opened, Started, Ended, Totals}
+use Rattle.store.specs.declared.types.Answer.the-variants.{Refused, Opened, Started, Ended, Totals, BatTime}
 use Rattle.tree.specs.Opened.{firstPage}
 use Rattle.tree.specs.Use.{openedUse}
 use Rattle.store.specs.declared.types.TreeName.{TreeName}
@@ -75,6 +75,7 @@ IsOpened Opened = Unit {0}
 IsOpened (Started n) = ⊥
 IsOpened Ended = ⊥
 IsOpened (Totals count sum pages) = ⊥
+IsOpened (BatTime total pages) = ⊥
 
 unrefused : (n : ℕ) (s : Store) (done : Answered) → unlessRefused n s done .answer ≡ Opened → unlessRefused n s done ≡ done
 unrefused zero s done e = refl

@@ -1,4 +1,4 @@
--- P1 to P8, proved by running the definitions; where a trial is claimed of any store, by its refusals and by `Opened`.
+-- P1 to P8 and the pass of Paper 4, proved by running the definitions; where a trial is claimed of any store, by its refusals and by `Opened`.
 use mathlib.Core.Path.{refl}
 use borrow.Author.Tests.{lt-leb}
 use Rattle.words.specs.Words.{keyLimit}
@@ -18,4 +18,5 @@ table =
       p6 = refl;
       p7 = refl;
       p8 = (refl, refl, refl);
+      paper4 = (refl, refl, refl, refl);
     }

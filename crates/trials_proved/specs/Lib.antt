@@ -1,3 +1,3 @@
--- Document 01, "Table of trials (P: proved)": the data that the trials name.
+-- Document 01, "Table of trials (P: proved)", and the trial in document 02, Paper 4: the data that they name.
 pub mod Computing
 pub mod Trials

@@ -1,5 +1,5 @@
 -- Document 01, "Table of trials (P: proved)": P1 to P8, of the definitions. "Trials P1, P6 and P7 are reworked" (document 02, Paper 2): the end tick is part of a pass.
--- `proofs/Table` proves it.
+-- Behind them stands what Paper 4 says of a pass. `proofs/Table` proves it.
 use Prim.Native.Nat.{ℕ, _<_}
 use mathlib.Core.Path.{_≡_}
 use mathlib.Core.List.{List, [], _∷_, _++_}
@@ -8,12 +8,14 @@ use Rattle.words.specs.Words.{keyLimit, openEnd}
 use Rattle.tree.specs.Row.{word, rowStart, rowAt}
 use Rattle.tree.specs.Fresh.{newRow}
 use Rattle.store.specs.declared.types.Answer.{Answer}
-use Rattle.store.specs.declared.types.Answer.the-variants.{Refused, Opened, Started, Ended, Totals}
+use Rattle.store.specs.declared.types.Answer.the-variants.{Refused, Opened, Started, Ended, Totals, BatTime}
 use Rattle.store.specs.declared.types.TreeName.{TreeName}
 use Rattle.store.specs.declared.types.TreeName.the-variants.{Starts}
 use Rattle.store.specs.Trees.{Store}
 use Rattle.store.specs.Head.{openedHead}
-use Rattle.store.specs.Calls.{Call, opening, start, end, question, lookupIn}
+use Rattle.store.specs.Calls.{Call, opening, start, end, question, batTime, lookupIn}
+use Rattle.store.specs.Passes.{Pass, endedAt}
+use Rattle.store.specs.BatTime.{batTimeOf}
 use Rattle.store.specs.Performing.{perform, performAll, storeAfter}
 use Rattle.command.specs.Stream.{programLent, programStore, output}
 
@@ -38,6 +40,27 @@ p1Output =
     ++ (0x00 ∷ 0x01 ∷ replicate 7 0x00 ++ (0x64 ∷ replicate 7 0x00) ++ (0x04 ∷ []))
     ++ (0x00 ∷ 0x02 ∷ replicate 7 0x00 ++ (0x96 ∷ replicate 7 0x00) ++ (0x02 ∷ []))
     ++ (0x16 ∷ [])
+
+-- The pass of Paper 4, and bat-time of its band in ticks 20 to 25 and 28 to 40 (hexadecimal): 01 0A000000 9411 6400; 02 1D000000 00000000;
+-- 04 9411 9511 14000000 19000000; 04 9411 9511 1C000000 28000000
+abbrev pub batTimeInput : List ℕ
+batTimeInput =
+    (0x01 ∷ 0x0A ∷ 0x00 ∷ 0x00 ∷ 0x00 ∷ 0x94 ∷ 0x11 ∷ 0x64 ∷ 0x00 ∷ [])
+    ++ (0x02 ∷ 0x1D ∷ 0x00 ∷ 0x00 ∷ 0x00 ∷ 0x00 ∷ 0x00 ∷ 0x00 ∷ 0x00 ∷ [])
+    ++ (0x04 ∷ 0x94 ∷ 0x11 ∷ 0x95 ∷ 0x11 ∷ 0x14 ∷ 0x00 ∷ 0x00 ∷ 0x00 ∷ 0x19 ∷ 0x00 ∷ 0x00 ∷ 0x00 ∷ [])
+    ++ (0x04 ∷ 0x94 ∷ 0x11 ∷ 0x95 ∷ 0x11 ∷ 0x1C ∷ 0x00 ∷ 0x00 ∷ 0x00 ∷ 0x28 ∷ 0x00 ∷ 0x00 ∷ 0x00 ∷ [])
+
+-- 00 00000000; 00; then "00h, total 8, pages 1" (Paper 4), twice: 00 F401 six 00, 04; 00 C8 seven 00, 04
+abbrev pub batTimeOutput : List ℕ
+batTimeOutput =
+    (0x00 ∷ 0x00 ∷ 0x00 ∷ 0x00 ∷ 0x00 ∷ [])
+    ++ (0x00 ∷ [])
+    ++ (0x00 ∷ 0xF4 ∷ 0x01 ∷ replicate 6 0x00 ++ (0x04 ∷ []))
+    ++ (0x00 ∷ 0xC8 ∷ replicate 7 0x00 ++ (0x04 ∷ []))
+
+-- "A pass of ticks 10 to 29, weight 100" (Paper 4)
+abbrev pub heardPass : Pass
+heardPass = record { key = 4500; weight = 100; start = 10; end = endedAt 29 }
 
 -- What the program opens its store over
 abbrev pub programMemory : Store
@@ -80,3 +103,10 @@ pub record Table : Type 0 where
       × (rowAt (after (start 0 0 100 ∷ start 0 0 50 ∷ []) .lent .starts .table) (rowStart 0)
       ≡ newRow 0 0 keyLimit 0 (record { count = 2; sum = 150 }))
       × (answers (start 0 0 100 ∷ start 0 0 50 ∷ lookupIn Starts 0 0 ∷ []) ≡ Started 0 ∷ Started 1 ∷ Totals 2 150 1 ∷ [])
+  -- Paper 4. "A pass of ticks 10 to 29, weight 100, gives 500 in 20 to 25." In 28 to 40 it gives 200, as its end tick is part of it (Paper 2). By the definition over passes,
+  -- by the calls of a store, and as the bytes of command 04h
+  pub paper4 : (batTimeOf 4500 4501 20 25 (heardPass ∷ []) ≡ 500)
+      × (batTimeOf 4500 4501 28 40 (heardPass ∷ []) ≡ 200)
+      × (answers (start 10 4500 100 ∷ end 29 0 ∷ batTime 4500 4501 20 25 ∷ batTime 4500 4501 28 40 ∷ [])
+      ≡ Started 0 ∷ Ended ∷ BatTime 500 4 ∷ BatTime 200 4 ∷ [])
+      × (output batTimeInput ≡ batTimeOutput)

@@ -22,11 +22,13 @@ pub fn serve(
     start_roots: &mut [u64],
     end_table: &mut [u64],
     end_roots: &mut [u64],
+    time_table: &mut [u64],
+    time_roots: &mut [u64],
 ) -> Left
     ensures { λ r. do
-      let s : Store = storeOf opened (now («start_table» .entry)) (now («start_roots» .entry)) (now («end_table» .entry)) (now («end_roots» .entry))
+      let s : Store = storeOf opened (now («start_table» .entry)) (now («start_roots» .entry)) (now («end_table» .entry)) (now («end_roots» .entry)) (now («time_table» .entry)) (now («time_roots» .entry))
       let before : Feed = record { store = s; waiting = []; over = false }
-      let after : Store = storeOf (r .head) (now («start_table» .exit)) (now («start_roots» .exit)) (now («end_table» .exit)) (now («end_roots» .exit))
+      let after : Store = storeOf (r .head) (now («start_table» .exit)) (now («start_roots» .exit)) (now («end_table» .exit)) (now («end_roots» .exit)) (now («time_table» .exit)) (now («time_roots» .exit))
       ⌜ Served before after (r .over) ⌝ }
 {
     let mut buffer = [0u8; PIECE];
@@ -45,6 +47,8 @@ pub fn serve(
             start_roots,
             end_table,
             end_roots,
+            time_table,
+            time_roots,
             &mut buffer,
             now.waiting,
             &mut out,

@@ -29,6 +29,8 @@ fn run_front(
     start_roots: &mut [u64],
     end_table: &mut [u64],
     end_roots: &mut [u64],
+    time_table: &mut [u64],
+    time_roots: &mut [u64],
     buffer: &[u8],
     count: usize,
     ended: bool,
@@ -36,8 +38,8 @@ fn run_front(
 ) -> Fed
     requires { ⌜ count ≤ length (now buffer) ⌝ }
     ensures { λ r. do
-      let s : Store = storeOf head (now («start_table» .entry)) (now («start_roots» .entry)) (now («end_table» .entry)) (now («end_roots» .entry))
-      let left : Lent = lentOf (now («start_table» .exit)) (now («start_roots» .exit)) (now («end_table» .exit)) (now («end_roots» .exit))
+      let s : Store = storeOf head (now («start_table» .entry)) (now («start_roots» .entry)) (now («end_table» .entry)) (now («end_roots» .entry)) (now («time_table» .entry)) (now («time_roots» .entry))
+      let left : Lent = lentOf (now («start_table» .exit)) (now («start_roots» .exit)) (now («end_table» .exit)) (now («end_roots» .exit)) (now («time_table» .exit)) (now («time_roots» .exit))
       ⌜ FedAs (runPiece (length (now (out .entry))) ended s (take count (now (buffer .entry)))) r (now (out .entry)) (now (out .exit)) left ⌝ }
     ensures { λ r. ⌜ r .taken ≤ count ⌝ }
     ensures { λ r. ⌜ r .written ≤ length (now (out .exit)) ⌝ }
@@ -48,6 +50,8 @@ fn run_front(
         start_roots,
         end_table,
         end_roots,
+        time_table,
+        time_roots,
         &buffer[..count],
         ended,
         out,
@@ -69,6 +73,8 @@ pub fn turn(
     start_roots: &mut [u64],
     end_table: &mut [u64],
     end_roots: &mut [u64],
+    time_table: &mut [u64],
+    time_roots: &mut [u64],
     buffer: &mut [u8],
     waiting: usize,
     out: &mut [u8],
@@ -77,8 +83,8 @@ pub fn turn(
     requires { ⌜ mostWaiting < length (now buffer) ⌝ }
     requires { ⌜ 2 * length (now buffer) + longestAnswer ≤ length (now out) ⌝ }
     ensures { λ r. do
-      let s : Store = storeOf head (now («start_table» .entry)) (now («start_roots» .entry)) (now («end_table» .entry)) (now («end_roots» .entry))
-      let after : Store = storeOf (r .head) (now («start_table» .exit)) (now («start_roots» .exit)) (now («end_table» .exit)) (now («end_roots» .exit))
+      let s : Store = storeOf head (now («start_table» .entry)) (now («start_roots» .entry)) (now («end_table» .entry)) (now («end_roots» .entry)) (now («time_table» .entry)) (now («time_roots» .entry))
+      let after : Store = storeOf (r .head) (now («start_table» .exit)) (now («start_roots» .exit)) (now («end_table» .exit)) (now («end_roots» .exit)) (now («time_table» .exit)) (now («time_roots» .exit))
       ⌜ Turned (length (now (out .entry))) (feedOf s (now (buffer .entry)) waiting false) (feedOf after (now (buffer .exit)) (r .waiting) (r .over)) ⌝ }
     ensures { λ r. ⌜ (r .over ≡ false → r .waiting ≤ mostWaiting) ⌝ }
 {
@@ -90,6 +96,8 @@ pub fn turn(
         start_roots,
         end_table,
         end_roots,
+        time_table,
+        time_roots,
         buffer,
         count,
         came == 0,

@@ -1,4 +1,4 @@
-// The calls that enter a point: start and end. None of them asks anything of what it is handed.
+// The calls that enter points: start and end. None of them asks anything of what it is handed.
 mod writing;
 
 pub use writing::end;

@@ -19,12 +19,13 @@ serve-requires c κs = search needs
 returns : tie.Need-returns
 unfolding programLent
 returns c =
-    let a = c .before .before .before .before .before .before .before .before .before .before .before .before .args in
-    let h = c .before .before .before .before .before .before .before .before .before .before .before .opened-head .ensures in
-    let p = c .before .before .before .before .before .before .before .before .before .before .before .before .pre in
-    let same : storeOf (c .before .before .before .before .before .before .before .before .before .before .before .opened-head .result) (a .start-table .now) (a .start-roots .now) (a .end-table .now) (a .end-roots .now) ≡ record { head = openedHead; lent = programLent } =
-    λ i. storeOf (h i) (p .0 i) (p .1 .0 i) (p .1 .1 .0 i) (p .1 .1 .1 i) in
-    from-opened same (c .before .before .before .before .before .before .«open» .ensures) (c .serve .ensures)
+    let a = c .before .before .before .before .before .before .before .before .before .before .before .before .before .before .before .before .args in
+    let p = c .before .before .before .before .before .before .before .before .before .before .before .before .before .before .before .before .pre in
+    let opened = c .before .before .before .before .before .before .before .before .before .before .before .before .before .before .before .opened-head in
+    let h = opened .ensures in
+    let same : storeOf (opened .result) (a .start-table .now) (a .start-roots .now) (a .end-table .now) (a .end-roots .now) (a .time-table .now) (a .time-roots .now) ≡ record { head = openedHead; lent = programLent } =
+    λ i. storeOf (h i) (p .0 i) (p .1 .0 i) (p .1 .1 .0 i) (p .1 .1 .1 .0 i) (p .1 .1 .1 .1 .0 i) (p .1 .1 .1 .1 .1 i) in
+    from-opened same (c .before .before .before .before .before .before .before .before .«open» .ensures) (c .serve .ensures)
 
 pub run-program-spec : {M : Type 1} → statement M
 run-program-spec = tie.close (tie.spec opened-head-requires open-requires serve-requires returns)

@@ -1,10 +1,3 @@
-use Prim.Native.Nat.{ℕ, _+_, _-_, _*_}
-use native.Mathlib.Omega.{arith}
-use mathlib.Core.Path.{_≡_, ap₂, sym}
-use mathlib.Core.List.{List}
-use lib.ListN.{take, drop}
-use lib.Seq.{drop-drop}
-use Rattle.store.specs.Trees.{storeOf}
 use Rattle.replies.proofs.RepliesAs.{refused-reply}
 use Rattle.burst.proofs.BurstSteps.{event-replies}
 use borrow.Author.Needs.{needs}
@@ -65,19 +58,15 @@ same-length-3 c = search needs
 same-length-4 : tie.Need-same-length-4
 same-length-4 c = search needs
 
-returns : tie.Need-returns
-returns c =
-    let a = c .before .before .before .before .before .before .before .before .before .before .before .before .before .before .before .before .before .before .before .before .args in
-    let first : ℕ = 9 * a .place in
-    let eight : first + 9 - (first + 1) ≡ 8 = omega arith in
-    let is = ap₂ (λ (n : ℕ) (l : List ℕ). take n l) eight (sym (drop-drop 1 first (a .bytes .now))) in
-    event-replies (storeOf (a .head) (a .start-table .now) (a .start-roots .now) (a .end-table .now) (a .end-roots .now)) (a .bytes .now) (a .place) (c .before .before .before .before .before .before .before .before .before .before .before .before .before .before .before .before .before .before .before .before .pre) (take (first + 9 - (first + 1)) (drop (first + 1) (a .bytes .now))) is (c .before .before .before .before .before .before .before .before .before .before .before .before .read-event .ensures) (c .before .before .before .before .before .before .before .before .before .before .event .given .1) (c .before .before .before .before .start .ensures)
-
 same-length-5 : tie.Need-same-length-5
 same-length-5 c = search needs
 
 same-length-6 : tie.Need-same-length-6
 same-length-6 c = search needs
+
+returns : tie.Need-returns
+returns c =
+    event-replies _ _ _ (c .before .before .before .before .before .before .before .before .before .before .before .before .before .before .before .before .before .before .before .before .before .before .before .before .before .before .before .before .pre) (c .before .before .before .before .before .before .before .before .before .before .before .before .before .before .before .before .before .before .read-event .ensures) (c .before .before .before .before .before .before .before .before .before .before .before .before .before .before .before .before .event .given .1) (c .before .before .before .before .before .before .before .before .start .ensures)
 
 same-length-7 : tie.Need-same-length-7
 same-length-7 c = search needs
@@ -85,21 +74,25 @@ same-length-7 c = search needs
 same-length-8 : tie.Need-same-length-8
 same-length-8 c = search needs
 
+same-length-9 : tie.Need-same-length-9
+same-length-9 c = search needs
+
+same-length-10 : tie.Need-same-length-10
+same-length-10 c = search needs
+
+same-length-11 : tie.Need-same-length-11
+same-length-11 c = search needs
+
+same-length-12 : tie.Need-same-length-12
+same-length-12 c = search needs
+
 returns-2 : tie.Need-returns-2
 returns-2 c =
-    let a = c .before .before .before .before .before .before .before .before .before .before .before .before .before .before .before .before .before .before .before .before .args in
-    let first : ℕ = 9 * a .place in
-    let eight : first + 9 - (first + 1) ≡ 8 = omega arith in
-    let is = ap₂ (λ (n : ℕ) (l : List ℕ). take n l) eight (sym (drop-drop 1 first (a .bytes .now))) in
-    event-replies (storeOf (a .head) (a .start-table .now) (a .start-roots .now) (a .end-table .now) (a .end-roots .now)) (a .bytes .now) (a .place) (c .before .before .before .before .before .before .before .before .before .before .before .before .before .before .before .before .before .before .before .before .pre) (take (first + 9 - (first + 1)) (drop (first + 1) (a .bytes .now))) is (c .before .before .before .before .before .before .before .before .before .before .before .before .read-event .ensures) (c .before .before .before .before .before .before .before .before .before .before .event2 .given .1) (c .before .before .before .before .end .ensures)
+    event-replies _ _ _ (c .before .before .before .before .before .before .before .before .before .before .before .before .before .before .before .before .before .before .before .before .before .before .before .before .before .before .before .before .pre) (c .before .before .before .before .before .before .before .before .before .before .before .before .before .before .before .before .before .before .read-event .ensures) (c .before .before .before .before .before .before .before .before .before .before .before .before .before .before .before .before .event2 .given .1) (c .before .before .before .before .before .before .before .before .end .ensures)
 
 returns-3 : tie.Need-returns-3
 returns-3 c =
-    let a = c .before .before .before .before .before .before .before .before .before .before .before .before .args in
-    let first : ℕ = 9 * a .place in
-    let eight : first + 9 - (first + 1) ≡ 8 = omega arith in
-    let is = ap₂ (λ (n : ℕ) (l : List ℕ). take n l) eight (sym (drop-drop 1 first (a .bytes .now))) in
-    event-replies (storeOf (a .head) (a .start-table .now) (a .start-roots .now) (a .end-table .now) (a .end-roots .now)) (a .bytes .now) (a .place) (c .before .before .before .before .before .before .before .before .before .before .before .before .pre) (take (first + 9 - (first + 1)) (drop (first + 1) (a .bytes .now))) is (c .before .before .before .before .read-event .ensures) (c .before .before .event3 .given .1) (refused-reply (storeOf (a .head) (a .start-table .now) (a .start-roots .now) (a .end-table .now) (a .end-roots .now)) _ (c .refused .ensures))
+    event-replies _ _ _ (c .before .before .before .before .before .before .before .before .before .before .before .before .before .before .pre) (c .before .before .before .before .read-event .ensures) (c .before .before .event3 .given .1) (refused-reply _ _ (c .refused .ensures))
 
 pub enter-event-spec : {M : Type 1} → statement M
 enter-event-spec =
@@ -123,10 +116,14 @@ enter-event-spec =
     same-length-2
     same-length-3
     same-length-4
-    returns
     same-length-5
     same-length-6
+    returns
     same-length-7
     same-length-8
+    same-length-9
+    same-length-10
+    same-length-11
+    same-length-12
     returns-2
     returns-3)

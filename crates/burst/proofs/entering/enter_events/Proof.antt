@@ -9,51 +9,39 @@ use Rattle.burst.proofs.entering.enter_events.Statement.{statement}
 use Rattle.burst.proofs.entering.enter_events.Tie as tie
 
 abbrev Inv-loop : tie.InvT-loop
-Inv-loop start-table₀ start-roots₀ end-table₀ end-roots₀ bytes results₀ count after₀ place₀ start-table start-roots end-table end-roots results after place =
+Inv-loop start-table₀ start-roots₀ end-table₀ end-roots₀ time-table₀ time-roots₀ bytes results₀ count after₀ place₀ start-table start-roots end-table end-roots time-table time-roots results after place =
     (length start-table ≡ length start-table₀)
     × (length start-roots ≡ length start-roots₀)
     × (length end-table ≡ length end-table₀)
     × (length end-roots ≡ length end-roots₀)
+    × (length time-table ≡ length time-table₀)
+    × (length time-roots ≡ length time-roots₀)
     × (length results ≡ length results₀)
-    × Going (storeOf after₀ start-table₀ start-roots₀ end-table₀ end-roots₀) bytes results₀ (storeOf after start-table start-roots end-table end-roots) results place
+    × Going (storeOf after₀ start-table₀ start-roots₀ end-table₀ end-roots₀ time-table₀ time-roots₀) bytes results₀ (storeOf after start-table start-roots end-table end-roots time-table time-roots) results place
 
 abbrev μ-loop : tie.MeasureT-loop
-μ-loop start-table₀ start-roots₀ end-table₀ end-roots₀ bytes results₀ count after₀ place₀ start-table start-roots end-table end-roots results after place =
+μ-loop start-table₀ start-roots₀ end-table₀ end-roots₀ time-table₀ time-roots₀ bytes results₀ count after₀ place₀ start-table start-roots end-table end-roots time-table time-roots results after place =
     count - place
 
 loop-holds : tie.Need-loop-holds Inv-loop μ-loop
-loop-holds c =
-    let a = c .before .before .before .before .before .before .args in
-    (refl, refl, refl, refl, refl, begin (storeOf (a .head) (a .start-table .now) (a .start-roots .now) (a .end-table .now) (a .end-roots .now)) (a .bytes .now) (a .results .now))
+loop-holds c = (refl, refl, refl, refl, refl, refl, refl, begin _ _ _)
 
 enter-event-requires : tie.Need-enter-event-requires Inv-loop μ-loop
-enter-event-requires c κs =
-    let a = c .before .before .before .before .before .before .before .before .before .before .before .before .args in
-    event-inside (storeOf (a .head) (a .start-table .now) (a .start-roots .now) (a .end-table .now) (a .end-roots .now)) (a .bytes .now) (a .results .now) (c .before .before .before .before .before .loop .inv .5) (c .before .before .before .before .loop-test .taken) (c .before .before .before .before .before .before .before .before .before .before .before .before .pre .1)
+enter-event-requires c κs = event-inside _ _ _ (c .before .before .before .before .before .before .before .loop .inv .7) (c .before .before .before .before .before .before .loop-test .taken) (c .before .before .before .before .before .before .before .before .before .before .before .before .before .before .before .before .pre .1)
 
 put-result-requires : tie.Need-put-result-requires Inv-loop μ-loop
-put-result-requires c κs =
-    let a = c .before .before .before .before .before .before .before .before .before .before .before .before .before .before .before .before .before .before .before .before .before .before .before .args in
-    words-inside (storeOf (a .head) (a .start-table .now) (a .start-roots .now) (a .end-table .now) (a .end-roots .now)) (a .bytes .now) (a .results .now) (c .before .before .before .before .before .before .before .before .before .before .before .before .before .before .before .before .loop .inv .5) (c .before .before .before .before .before .before .before .before .before .before .before .before .before .before .before .loop-test .taken) (c .before .before .before .before .before .before .before .before .before .before .before .before .before .before .before .before .before .before .before .before .before .before .before .pre .1)
+put-result-requires c κs = words-inside _ _ _ (c .before .before .before .before .before .before .before .before .before .before .before .before .before .before .before .before .before .before .before .before .before .before .loop .inv .7) (c .before .before .before .before .before .before .before .before .before .before .before .before .before .before .before .before .before .before .before .before .before .loop-test .taken) (c .before .before .before .before .before .before .before .before .before .before .before .before .before .before .before .before .before .before .before .before .before .before .before .before .before .before .before .before .before .before .before .pre .1)
 
 add-place : tie.Need-add-place Inv-loop μ-loop
-add-place c = omega (arith, c .before .before .before .before .before .before .before .before .before .before .before .before .before .before .before .before .before .before .loop-test .taken, c .before .before .before .before .before .before .before .before .before .before .before .before .before .before .before .before .before .before .before .before .before .before .before .before .before .before .pre .0)
+add-place c = omega (arith, c .before .before .before .before .before .before .before .before .before .before .before .before .before .before .before .before .before .before .before .before .before .before .before .before .loop-test .taken, c .before .before .before .before .before .before .before .before .before .before .before .before .before .before .before .before .before .before .before .before .before .before .before .before .before .before .before .before .before .before .before .before .before .before .pre .0)
 
 loop-less : tie.Need-loop-less Inv-loop μ-loop
-loop-less c = omega (arith, c .before .before .before .before .before .before .before .before .before .before .before .before .before .before .before .before .before .before .loop-test .taken)
+loop-less c = omega (arith, c .before .before .before .before .before .before .before .before .before .before .before .before .before .before .before .before .before .before .before .before .before .before .before .before .loop-test .taken)
 
 loop-again : tie.Need-loop-again Inv-loop μ-loop
 loop-again c =
-    let a = c .before .before .before .before .before .before .before .before .before .before .before .before .before .before .before .before .before .before .before .before .before .before .before .before .before .before .args in
-    let g = c .before .before .before .before .before .before .before .before .before .before .before .before .before .before .before .before .before .before .before .loop .inv .5 in
-    let more = c .before .before .before .before .before .before .before .before .before .before .before .before .before .before .before .before .before .before .loop-test .taken in (
-      search needs,
-      search needs,
-      search needs,
-      search needs,
-      search needs,
-      entered-on (storeOf (a .head) (a .start-table .now) (a .start-roots .now) (a .end-table .now) (a .end-roots .now)) (a .bytes .now) (a .results .now) g more (c .before .before .before .before .before .before .before .before .before .before .before .before .before .before .before .before .before .before .before .before .before .before .before .before .before .before .pre .1) (c .before .before .before .before .before .before .before .before .before .before .before .before .before .enter-event .ensures) (c .before .before .put-result .ensures),
-    )
+    let going = entered-on _ _ _ (c .before .before .before .before .before .before .before .before .before .before .before .before .before .before .before .before .before .before .before .before .before .before .before .before .before .loop .inv .7) (c .before .before .before .before .before .before .before .before .before .before .before .before .before .before .before .before .before .before .before .before .before .before .before .before .loop-test .taken) (c .before .before .before .before .before .before .before .before .before .before .before .before .before .before .before .before .before .before .before .before .before .before .before .before .before .before .before .before .before .before .before .before .before .before .pre .1) (c .before .before .before .before .before .before .before .before .before .before .before .before .before .before .before .before .before .enter-event .ensures) (c .before .before .put-result .ensures) in
+    (search needs, search needs, search needs, search needs, search needs, search needs, search needs, going)
 
 same-length : tie.Need-same-length Inv-loop μ-loop
 same-length c = search needs
@@ -70,10 +58,14 @@ same-length-4 c = search needs
 same-length-5 : tie.Need-same-length-5 Inv-loop μ-loop
 same-length-5 c = search needs
 
+same-length-6 : tie.Need-same-length-6 Inv-loop μ-loop
+same-length-6 c = search needs
+
+same-length-7 : tie.Need-same-length-7 Inv-loop μ-loop
+same-length-7 c = search needs
+
 returns : tie.Need-returns Inv-loop μ-loop
-returns c =
-    let a = c .before .before .before .before .before .before .before .before .args in
-    all-entered (storeOf (a .head) (a .start-table .now) (a .start-roots .now) (a .end-table .now) (a .end-roots .now)) (a .bytes .now) (a .results .now) (c .before .loop .inv .5) (c .loop-test .left)
+returns c = all-entered _ _ _ (c .before .loop .inv .7) (c .loop-test .left)
 
 pub enter-events-spec : {M : Type 1} → statement M
 enter-events-spec =
@@ -92,4 +84,6 @@ enter-events-spec =
     same-length-3
     same-length-4
     same-length-5
+    same-length-6
+    same-length-7
     returns)

@@ -1,11 +1,11 @@
-use Prim.Native.Nat.{ℕ, _+_, _-_, _*_, _≤_, _<_}
+use Prim.Native.Nat.{ℕ, _-_, _≤_}
 use native.Mathlib.Omega.{arith}
-use mathlib.Core.Path.{_≡_, ap, sym, _∙_}
+use mathlib.Core.Path.{_≡_, ap, _∙_}
 use lib.ListN.{length, take}
 use Rattle.words.specs.Overwrite.{overwrite}
 use Rattle.tree.proofs.Lists.{length-mapped}
 use Rattle.store.specs.Head.{openLimit}
-use Rattle.c_numbers.specs.Heads.{passNumbers, numbersOf}
+use Rattle.c_numbers.specs.Heads.{fieldNumbers, headNumbers, numbersOfPasses}
 use Rattle.c_numbers.proofs.HeadNumbers.{write-none, write-more}
 use borrow.Author.Needs.{needs}
 use Rattle.c_numbers.proofs.head_written.write_passes.Statement.{statement}
@@ -13,7 +13,7 @@ use Rattle.c_numbers.proofs.head_written.write_passes.Tie as tie
 
 abbrev Inv-loop : tie.InvT-loop
 Inv-loop numbers₀ places head place₀ numbers place =
-    (place ≤ places) × (length numbers ≡ passNumbers) × (numbers ≡ overwrite numbers₀ 0 (numbersOf (take place (head .passes))))
+    (place ≤ places) × (length numbers ≡ headNumbers) × (numbers ≡ overwrite numbers₀ fieldNumbers (numbersOfPasses (take place (head .passes))))
 
 abbrev μ-loop : tie.MeasureT-loop
 μ-loop numbers₀ places head place₀ numbers place = places - place
@@ -32,6 +32,9 @@ element-copy-out-pass c = search needs
 
 mul-write-pass : tie.Need-mul-write-pass Inv-loop μ-loop
 mul-write-pass c = search needs
+
+add-write-pass : tie.Need-add-write-pass Inv-loop μ-loop
+add-write-pass c = search needs
 
 write-pass-requires : tie.Need-write-pass-requires Inv-loop μ-loop
 write-pass-requires c κs = search needs
@@ -61,7 +64,7 @@ returns c =
     let a = c .before .before .before .args in
     let l = c .before .loop in
     let done : l .place ≡ a .places = omega (arith, l .inv .0, c .loop-test .left) in
-    l .inv .2 ∙ ap (λ (n : ℕ). overwrite (a .numbers .now) 0 (numbersOf (take n (a .t2 .passes)))) done
+    l .inv .2 ∙ ap (λ (n : ℕ). overwrite (a .numbers .now) fieldNumbers (numbersOfPasses (take n (a .t2 .passes)))) done
 
 pub write-passes-spec : {M : Type 1} → statement M
 write-passes-spec =
@@ -73,6 +76,7 @@ write-passes-spec =
     mul-pass
     element-copy-out-pass
     mul-write-pass
+    add-write-pass
     write-pass-requires
     add-place
     loop-less

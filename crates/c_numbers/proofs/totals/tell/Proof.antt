@@ -18,20 +18,26 @@ enum-told-3 c = search needs
 enum-known-answer-2 : tie.Need-enum-known-answer-2
 enum-known-answer-2 c = search needs
 
+enum-told-4 : tie.Need-enum-told-4
+enum-told-4 c = search needs
+
 returns : tie.Need-returns
-returns c = rw (c .before .answer .given .1) (record { refusal = refl; totals = refl; kept = λ n. refl })
+returns c = rw (c .before .answer .given .1) (record { refusal = refl; values = refl; kept = λ n. refl })
 
 returns-2 : tie.Need-returns-2
-returns-2 c = rw (c .enum-told .given .1) (record { refusal = refl; totals = refl; kept = λ n. refl })
+returns-2 c = rw (c .enum-told .given .1) (record { refusal = refl; values = refl; kept = λ n. refl })
 
 returns-3 : tie.Need-returns-3
-returns-3 c = rw (c .enum-told2 .given .1) (record { refusal = refl; totals = refl; kept = λ n. refl })
+returns-3 c = rw (c .enum-told2 .given .1) (record { refusal = refl; values = refl; kept = λ n. refl })
 
 returns-4 : tie.Need-returns-4
-returns-4 c = rw (c .enum-told3 .given .1) (record { refusal = refl; totals = refl; kept = λ n. refl })
+returns-4 c = rw (c .enum-told3 .given .1) (record { refusal = refl; values = refl; kept = λ n. refl })
 
 returns-5 : tie.Need-returns-5
-returns-5 c = rw (c .before .answer2 .given .1) (record { refusal = refl; totals = refl; kept = λ n. absurd (n refl) })
+returns-5 c = rw (c .before .answer2 .given .1) (record { refusal = refl; values = refl; kept = λ n. absurd (n refl) })
+
+returns-6 : tie.Need-returns-6
+returns-6 c = rw (c .enum-told4 .given .1) (record { refusal = refl; values = refl; kept = λ n. refl })
 
 pub tell-spec : {M : Type 1} → statement M
 tell-spec =
@@ -42,8 +48,10 @@ tell-spec =
     enum-told-2
     enum-told-3
     enum-known-answer-2
+    enum-told-4
     returns
     returns-2
     returns-3
     returns-4
-    returns-5)
+    returns-5
+    returns-6)

@@ -1,5 +1,5 @@
-use Rattle.store.specs.Trees.{lentOf}
-use Rattle.firmware.proofs.BlockLaws.{question-answers}
+use Rattle.firmware.specs.Exported.{handedOf}
+use Rattle.firmware.proofs.BlockLaws.{query-answers}
 use borrow.Author.Needs.{needs}
 use Rattle.firmware.proofs.blocks.answer_in_block.Statement.{statement}
 use Rattle.firmware.proofs.blocks.answer_in_block.Tie as tie
@@ -7,47 +7,35 @@ use Rattle.firmware.proofs.blocks.answer_in_block.Tie as tie
 head-of-requires : tie.Need-head-of-requires
 head-of-requires c κs = search needs
 
-sub-answer-question : tie.Need-sub-answer-question
-sub-answer-question c = search needs
+sub-answer-query : tie.Need-sub-answer-query
+sub-answer-query c = search needs
 
-part-answer-question-start : tie.Need-part-answer-question-start
-part-answer-question-start c = search needs
+part-answer-query-start : tie.Need-part-answer-query-start
+part-answer-query-start c = search needs
 
-part-answer-question-end : tie.Need-part-answer-question-end
-part-answer-question-end c = search needs
+part-answer-query-end : tie.Need-part-answer-query-end
+part-answer-query-end c = search needs
 
-answer-question-requires : tie.Need-answer-question-requires
-answer-question-requires c κs = search needs
+answer-query-requires : tie.Need-answer-query-requires
+answer-query-requires c κs = search needs
 
 answer-bytes-requires : tie.Need-answer-bytes-requires
 answer-bytes-requires c κs = search needs
 
 returns : tie.Need-returns
 returns c =
-    let a = c .before .before .before .before .before .before .before .before .before .before .args in
-    question-answers
-    (record {
-      fields =
-          record {
-            last = a .last;
-            started = a .started;
-            count = a .count-open;
-            starts = record { pages = a .start-pages-used; roots = a .start-roots-used };
-            ends = record { pages = a .end-pages-used; roots = a .end-roots-used };
-          };
-      passes = a .passes .now;
-      lent = lentOf (a .start-table .now) (a .start-roots .now) (a .end-table .now) (a .end-roots .now);
-    })
-    (a .block .now) (c .before .before .before .head-of .ensures) (c .before .answer-question .ensures) (c .answer-bytes .ensures)
+    let a = c .before .before .before .before .before .before .before .before .before .before .before .before .args in
+    let before = handedOf (a .head .now) (a .start-table .now) (a .start-roots .now) (a .end-table .now) (a .end-roots .now) (a .time-table .now) (a .time-roots .now) in
+    query-answers before (a .block .now) (a .code) (c .before .before .before .head-of .ensures) (c .before .answer-query .ensures) (c .answer-bytes .ensures)
 
 pub answer-in-block-spec : {M : Type 1} → statement M
 answer-in-block-spec =
     tie.close
     (tie.spec
     head-of-requires
-    sub-answer-question
-    part-answer-question-start
-    part-answer-question-end
-    answer-question-requires
+    sub-answer-query
+    part-answer-query-start
+    part-answer-query-end
+    answer-query-requires
     answer-bytes-requires
     returns)

@@ -1,9 +1,3 @@
-use mathlib.Core.Path.{ap, _∙_}
-use Rattle.store.specs.declared.types.Head.{Head}
-use Rattle.store.specs.declared.types.TreeName.the-variants.{Starts}
-use Rattle.store.specs.Trees.{storeOf}
-use Rattle.store.specs.Calls.{lookupIn}
-use Rattle.store.specs.Performing.{perform}
 use Rattle.firmware.proofs.ExportedLaws.{told}
 use borrow.Author.Needs.{needs}
 use Rattle.firmware.proofs.lookups.nimbleshale_lookup_starts.Statement.{statement}
@@ -19,12 +13,7 @@ tell-requires : tie.Need-tell-requires
 tell-requires c κs = search needs
 
 returns : tie.Need-returns
-returns c =
-    let a = c .before .before .before .before .before .before .before .before .before .before .before .args in
-    let is =
-    c .before .before .before .before .lookup-starts .ensures
-    ∙ ap (λ (h : Head). perform (storeOf h (a .start-table .now) (a .start-roots .now) (a .end-table .now) (a .end-roots .now)) (lookupIn Starts (a .t) (a .k)) .answer) (c .before .before .before .before .before .head-of .ensures) in
-    told is (c .tell .ensures)
+returns c = search (told, needs)
 
 pub nimbleshale-lookup-starts-spec : {M : Type 1} → statement M
 nimbleshale-lookup-starts-spec =

@@ -1,8 +1,3 @@
-use mathlib.Core.Path.{ap, _∙_}
-use Rattle.store.specs.declared.types.Head.{Head}
-use Rattle.store.specs.Trees.{storeOf}
-use Rattle.store.specs.Calls.{question}
-use Rattle.store.specs.Performing.{perform}
 use Rattle.firmware.proofs.ExportedLaws.{told}
 use borrow.Author.Needs.{needs}
 use Rattle.firmware.proofs.question.nimbleshale_question.Statement.{statement}
@@ -18,12 +13,7 @@ tell-requires : tie.Need-tell-requires
 tell-requires c κs = search needs
 
 returns : tie.Need-returns
-returns c =
-    let a = c .before .before .before .before .before .before .before .before .before .before .before .args in
-    let is =
-    c .before .before .before .before .question .ensures
-    ∙ ap (λ (h : Head). perform (storeOf h (a .start-table .now) (a .start-roots .now) (a .end-table .now) (a .end-roots .now)) (question (a .k1) (a .k2) (a .t1) (a .t2)) .answer) (c .before .before .before .before .before .head-of .ensures) in
-    told is (c .tell .ensures)
+returns c = search (told, needs)
 
 pub nimbleshale-question-spec : {M : Type 1} → statement M
 nimbleshale-question-spec =

@@ -1,12 +1,10 @@
-use Prim.Native.Nat.{_+_}
 use mathlib.Core.Path.{_≡_}
 use lib.ListN.{length}
-use Rattle.store.specs.Trees.{lentOf}
+use Rattle.c_numbers.specs.Heads.{headNumbers}
 use Rattle.store.specs.Calls.{end}
-use Rattle.c_numbers.specs.Heads.{passNumbers}
-use Rattle.firmware.specs.Exported.{Handed}
+use Rattle.firmware.specs.Exported.{handedOf}
+use Rattle.firmware.proofs.ExportedLaws.{replied-in, leaves-refused, leaves-done}
 use Rattle.firmware.proofs.KeptPlaces.{after-end}
-use Rattle.firmware.proofs.ExportedLaws.{leaves-refused, leaves-done}
 use borrow.Author.Needs.{needs}
 use Rattle.firmware.proofs.writing.nimbleshale_end.Statement.{statement}
 use Rattle.firmware.proofs.writing.nimbleshale_end.Tie as tie
@@ -21,29 +19,21 @@ refusal-of-requires : tie.Need-refusal-of-requires
 refusal-of-requires c κs = search needs
 
 same-length : tie.Need-same-length
-same-length c = c .before .before .before .before .before .before .end .kept .1 .1 .1 .0
+same-length c = search needs
 
 same-length-2 : tie.Need-same-length-2
-same-length-2 c = c .before .before .before .before .before .before .end .kept .1 .1 .1 .1 .0
+same-length-2 c = search needs
+
+same-length-3 : tie.Need-same-length-3
+same-length-3 c = search needs
+
+same-length-4 : tie.Need-same-length-4
+same-length-4 c = search needs
 
 returns : tie.Need-returns
 returns c =
-    let a = c .before .before .before .before .before .before .before .before .before .before .before .before .before .before .before .before .before .before .before .before .before .before .before .args in
-    let before : Handed =
-    record {
-      fields =
-          record {
-            last = a .last .now;
-            started = a .started .now;
-            count = a .count-open .now;
-            starts = record { pages = a .start-pages-used .now; roots = a .start-roots-used .now };
-            ends = record { pages = a .end-pages-used .now; roots = a .end-roots-used .now };
-          };
-      passes = a .passes .now;
-      lent = lentOf (a .start-table .now) (a .start-roots .now) (a .end-table .now) (a .end-roots .now);
-    } in
-    let long : length (a .passes .now) ≡ passNumbers = search needs in
-    leaves-refused (end (a .tick) (a .number)) before long (c .before .before .before .before .before .before .before .before .before .head-of .ensures) (c .before .before .before .before .before .before .end .ensures) (c .before .refusal-of .ensures) (c .if1 .taken)
+    let long : length (c .before .before .before .before .before .before .before .before .before .before .before .before .before .before .before .before .before .before .before .before .before .before .before .before .args .head .now) ≡ headNumbers = search needs in
+    leaves-refused _ _ (replied-in _ _ (c .before .before .before .before .before .before .before .before .before .before .before .before .before .before .before .head-of .ensures) (c .before .before .before .before .before .before .before .before .before .before .end .ensures)) long (c .before .refusal-of .ensures) (c .if1 .taken)
 
 cast-put-head : tie.Need-cast-put-head
 cast-put-head c = search needs
@@ -53,48 +43,28 @@ add-put-head c = search needs
 
 put-head-requires : tie.Need-put-head-requires
 put-head-requires c κs =
-    let a = c .before .before .before .before .before .before .before .before .before .before .before .before .before .before .before .before .before .before .before .before .before .before .before .before .before .before .before .before .before .before .before .before .before .args in
-    let before : Handed =
-    record {
-      fields =
-          record {
-            last = a .last .now;
-            started = a .started .now;
-            count = a .count-open .now;
-            starts = record { pages = a .start-pages-used .now; roots = a .start-roots-used .now };
-            ends = record { pages = a .end-pages-used .now; roots = a .end-roots-used .now };
-          };
-      passes = a .passes .now;
-      lent = lentOf (a .start-table .now) (a .start-roots .now) (a .end-table .now) (a .end-roots .now);
-    } in
-    let long : length (a .passes .now) ≡ passNumbers = search needs in
-    let kept = after-end before long (c .before .before .before .before .before .before .before .before .before .before .before .before .before .before .before .before .before .before .before .head-of .ensures) (a .tick) (a .number) (c .before .before .before .before .before .before .before .before .before .before .before .before .before .before .before .before .end .ensures) (c .before .before .before .before .before .before .before .before .before .before .before .refusal-of .ensures) (c .before .before .before .before .before .before .before .before .before .before .if1 .left) in
-    (long, kept .few)
+    let a = c .before .before .before .before .before .before .before .before .before .before .before .before .before .before .before .before .before .before .before .before .before .before .before .before .before .before .before .args in
+    let before = handedOf (a .head .now) (a .start-table .now) (a .start-roots .now) (a .end-table .now) (a .end-roots .now) (a .time-table .now) (a .time-roots .now) in
+    let long : length (c .before .before .before .before .before .before .before .before .before .before .before .before .before .before .before .before .before .before .before .before .before .before .before .before .before .before .before .args .head .now) ≡ headNumbers = search needs in
+    let is = replied-in (end (a .tick) (a .number)) before (c .before .before .before .before .before .before .before .before .before .before .before .before .before .before .before .before .before .before .head-of .ensures) (c .before .before .before .before .before .before .before .before .before .before .before .before .before .end .ensures) in
+    (long, after-end before _ _ is (c .before .before .before .before .refusal-of .ensures) (c .before .before .before .if1 .left) .few)
 
-same-length-3 : tie.Need-same-length-3
-same-length-3 c = c .before .before .before .before .before .before .before .before .before .before .before .before .before .before .before .before .before .end .kept .1 .1 .1 .0
+same-length-5 : tie.Need-same-length-5
+same-length-5 c = search needs
 
-same-length-4 : tie.Need-same-length-4
-same-length-4 c = c .before .before .before .before .before .before .before .before .before .before .before .before .before .before .before .before .before .end .kept .1 .1 .1 .1 .0
+same-length-6 : tie.Need-same-length-6
+same-length-6 c = search needs
+
+same-length-7 : tie.Need-same-length-7
+same-length-7 c = search needs
+
+same-length-8 : tie.Need-same-length-8
+same-length-8 c = search needs
 
 returns-2 : tie.Need-returns-2
 returns-2 c =
-    let a = c .before .before .before .before .before .before .before .before .before .before .before .before .before .before .before .before .before .before .before .before .before .before .before .before .before .before .before .before .before .before .before .before .before .before .args in
-    let before : Handed =
-    record {
-      fields =
-          record {
-            last = a .last .now;
-            started = a .started .now;
-            count = a .count-open .now;
-            starts = record { pages = a .start-pages-used .now; roots = a .start-roots-used .now };
-            ends = record { pages = a .end-pages-used .now; roots = a .end-roots-used .now };
-          };
-      passes = a .passes .now;
-      lent = lentOf (a .start-table .now) (a .start-roots .now) (a .end-table .now) (a .end-roots .now);
-    } in
-    let long : length (a .passes .now) ≡ passNumbers = search needs in
-    leaves-done (end (a .tick) (a .number)) before long (c .before .before .before .before .before .before .before .before .before .before .before .before .before .before .before .before .before .before .before .before .head-of .ensures) (c .before .before .before .before .before .before .before .before .before .before .before .before .before .before .before .before .before .end .ensures) (c .before .before .before .before .before .before .before .before .before .before .before .before .refusal-of .ensures) (c .before .before .before .before .before .before .before .before .before .before .before .if1 .left) (c .put-head .ensures .0) (c .before .before .before .before .before .before .before .before .before .before .before .before .before .before .before .before .before .end .result .head .count + 1) (after-end before long (c .before .before .before .before .before .before .before .before .before .before .before .before .before .before .before .before .before .before .before .before .head-of .ensures) (a .tick) (a .number) (c .before .before .before .before .before .before .before .before .before .before .before .before .before .before .before .before .before .end .ensures) (c .before .before .before .before .before .before .before .before .before .before .before .before .refusal-of .ensures) (c .before .before .before .before .before .before .before .before .before .before .before .if1 .left)) (c .put-head .ensures .1)
+    let long : length (c .before .before .before .before .before .before .before .before .before .before .before .before .before .before .before .before .before .before .before .before .before .before .before .before .before .before .before .before .args .head .now) ≡ headNumbers = search needs in
+    leaves-done _ _ (replied-in _ _ (c .before .before .before .before .before .before .before .before .before .before .before .before .before .before .before .before .before .before .before .head-of .ensures) (c .before .before .before .before .before .before .before .before .before .before .before .before .before .before .end .ensures)) long (c .before .before .before .before .before .refusal-of .ensures) (c .before .before .before .before .if1 .left) (after-end _ _ _ (replied-in _ _ (c .before .before .before .before .before .before .before .before .before .before .before .before .before .before .before .before .before .before .before .head-of .ensures) (c .before .before .before .before .before .before .before .before .before .before .before .before .before .before .end .ensures)) (c .before .before .before .before .before .refusal-of .ensures) (c .before .before .before .before .if1 .left)) (c .put-head .ensures)
 
 pub nimbleshale-end-spec : {M : Type 1} → statement M
 nimbleshale-end-spec =
@@ -105,10 +75,14 @@ nimbleshale-end-spec =
     refusal-of-requires
     same-length
     same-length-2
+    same-length-3
+    same-length-4
     returns
     cast-put-head
     add-put-head
     put-head-requires
-    same-length-3
-    same-length-4
+    same-length-5
+    same-length-6
+    same-length-7
+    same-length-8
     returns-2)

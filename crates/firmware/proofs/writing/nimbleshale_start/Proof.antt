@@ -1,11 +1,10 @@
 use mathlib.Core.Path.{_≡_}
 use lib.ListN.{length}
-use Rattle.store.specs.Trees.{lentOf}
+use Rattle.c_numbers.specs.Heads.{headNumbers}
 use Rattle.store.specs.Calls.{start}
-use Rattle.c_numbers.specs.Heads.{passNumbers}
-use Rattle.firmware.specs.Exported.{Handed}
+use Rattle.firmware.specs.Exported.{handedOf}
+use Rattle.firmware.proofs.ExportedLaws.{replied-in, start-refused, start-done}
 use Rattle.firmware.proofs.KeptPlaces.{after-start}
-use Rattle.firmware.proofs.ExportedLaws.{leaves-refused, leaves-done, number-said, number-kept}
 use borrow.Author.Needs.{needs}
 use Rattle.firmware.proofs.writing.nimbleshale_start.Statement.{statement}
 use Rattle.firmware.proofs.writing.nimbleshale_start.Tie as tie
@@ -20,29 +19,21 @@ refusal-of-requires : tie.Need-refusal-of-requires
 refusal-of-requires c κs = search needs
 
 same-length : tie.Need-same-length
-same-length c = c .before .before .before .before .before .before .start .kept .1 .0
+same-length c = search needs
 
 same-length-2 : tie.Need-same-length-2
-same-length-2 c = c .before .before .before .before .before .before .start .kept .1 .1 .0
+same-length-2 c = search needs
+
+same-length-3 : tie.Need-same-length-3
+same-length-3 c = search needs
+
+same-length-4 : tie.Need-same-length-4
+same-length-4 c = search needs
 
 returns : tie.Need-returns
 returns c =
-    let a = c .before .before .before .before .before .before .before .before .before .before .before .before .before .before .before .before .before .before .before .before .before .before .before .args in
-    let before : Handed =
-    record {
-      fields =
-          record {
-            last = a .last .now;
-            started = a .started .now;
-            count = a .count-open .now;
-            starts = record { pages = a .start-pages-used .now; roots = a .start-roots-used .now };
-            ends = record { pages = a .end-pages-used .now; roots = a .end-roots-used .now };
-          };
-      passes = a .passes .now;
-      lent = lentOf (a .start-table .now) (a .start-roots .now) (a .end-table .now) (a .end-roots .now);
-    } in
-    let long : length (a .passes .now) ≡ passNumbers = search needs in
-    (leaves-refused (start (a .tick) (a .key) (a .weight)) before long (c .before .before .before .before .before .before .before .before .before .head-of .ensures) (c .before .before .before .before .before .before .start .ensures) (c .before .refusal-of .ensures) (c .if1 .taken), number-kept (start (a .tick) (a .key) (a .weight)) before long (c .before .before .before .before .before .before .before .before .before .head-of .ensures) (c .before .before .before .before .before .before .start .ensures) (a .number .now) (c .before .refusal-of .ensures) (c .if1 .taken))
+    let long : length (c .before .before .before .before .before .before .before .before .before .before .before .before .before .before .before .before .before .before .before .before .before .before .before .before .args .head .now) ≡ headNumbers = search needs in
+    start-refused _ _ (replied-in _ _ (c .before .before .before .before .before .before .before .before .before .before .before .before .before .before .before .head-of .ensures) (c .before .before .before .before .before .before .before .before .before .before .start .ensures)) long (c .before .refusal-of .ensures) (c .if1 .taken)
 
 number-of-requires : tie.Need-number-of-requires
 number-of-requires c κs = search needs
@@ -52,48 +43,28 @@ cast-put-head c = search needs
 
 put-head-requires : tie.Need-put-head-requires
 put-head-requires c κs =
-    let a = c .before .before .before .before .before .before .before .before .before .before .before .before .before .before .before .before .before .before .before .before .before .before .before .before .before .before .before .before .before .before .before .before .before .before .before .args in
-    let before : Handed =
-    record {
-      fields =
-          record {
-            last = a .last .now;
-            started = a .started .now;
-            count = a .count-open .now;
-            starts = record { pages = a .start-pages-used .now; roots = a .start-roots-used .now };
-            ends = record { pages = a .end-pages-used .now; roots = a .end-roots-used .now };
-          };
-      passes = a .passes .now;
-      lent = lentOf (a .start-table .now) (a .start-roots .now) (a .end-table .now) (a .end-roots .now);
-    } in
-    let long : length (a .passes .now) ≡ passNumbers = search needs in
-    let kept = after-start before long (c .before .before .before .before .before .before .before .before .before .before .before .before .before .before .before .before .before .before .before .before .before .head-of .ensures) (a .tick) (a .key) (a .weight) (c .before .before .before .before .before .before .before .before .before .before .before .before .before .before .before .before .before .before .start .ensures) (c .before .before .before .before .before .before .before .before .before .before .before .before .before .refusal-of .ensures) (c .before .before .before .before .before .before .before .before .before .before .before .before .if1 .left) in
-    (long, kept .few)
+    let a = c .before .before .before .before .before .before .before .before .before .before .before .before .before .before .before .before .before .before .before .before .before .before .before .before .before .before .before .before .before .args in
+    let before = handedOf (a .head .now) (a .start-table .now) (a .start-roots .now) (a .end-table .now) (a .end-roots .now) (a .time-table .now) (a .time-roots .now) in
+    let long : length (c .before .before .before .before .before .before .before .before .before .before .before .before .before .before .before .before .before .before .before .before .before .before .before .before .before .before .before .before .before .args .head .now) ≡ headNumbers = search needs in
+    let is = replied-in (start (a .tick) (a .key) (a .weight)) before (c .before .before .before .before .before .before .before .before .before .before .before .before .before .before .before .before .before .before .before .before .head-of .ensures) (c .before .before .before .before .before .before .before .before .before .before .before .before .before .before .before .start .ensures) in
+    (long, after-start before _ _ _ is (c .before .before .before .before .before .before .refusal-of .ensures) (c .before .before .before .before .before .if1 .left) .few)
 
-same-length-3 : tie.Need-same-length-3
-same-length-3 c = c .before .before .before .before .before .before .before .before .before .before .before .before .before .before .before .before .before .before .before .start .kept .1 .0
+same-length-5 : tie.Need-same-length-5
+same-length-5 c = search needs
 
-same-length-4 : tie.Need-same-length-4
-same-length-4 c = c .before .before .before .before .before .before .before .before .before .before .before .before .before .before .before .before .before .before .before .start .kept .1 .1 .0
+same-length-6 : tie.Need-same-length-6
+same-length-6 c = search needs
+
+same-length-7 : tie.Need-same-length-7
+same-length-7 c = search needs
+
+same-length-8 : tie.Need-same-length-8
+same-length-8 c = search needs
 
 returns-2 : tie.Need-returns-2
 returns-2 c =
-    let a = c .before .before .before .before .before .before .before .before .before .before .before .before .before .before .before .before .before .before .before .before .before .before .before .before .before .before .before .before .before .before .before .before .before .before .before .before .args in
-    let before : Handed =
-    record {
-      fields =
-          record {
-            last = a .last .now;
-            started = a .started .now;
-            count = a .count-open .now;
-            starts = record { pages = a .start-pages-used .now; roots = a .start-roots-used .now };
-            ends = record { pages = a .end-pages-used .now; roots = a .end-roots-used .now };
-          };
-      passes = a .passes .now;
-      lent = lentOf (a .start-table .now) (a .start-roots .now) (a .end-table .now) (a .end-roots .now);
-    } in
-    let long : length (a .passes .now) ≡ passNumbers = search needs in
-    (leaves-done (start (a .tick) (a .key) (a .weight)) before long (c .before .before .before .before .before .before .before .before .before .before .before .before .before .before .before .before .before .before .before .before .before .before .head-of .ensures) (c .before .before .before .before .before .before .before .before .before .before .before .before .before .before .before .before .before .before .before .start .ensures) (c .before .before .before .before .before .before .before .before .before .before .before .before .before .before .refusal-of .ensures) (c .before .before .before .before .before .before .before .before .before .before .before .before .before .if1 .left) (c .put-head .ensures .0) (c .before .before .before .before .before .before .before .before .before .before .before .before .before .before .before .before .before .before .before .start .result .head .count) (after-start before long (c .before .before .before .before .before .before .before .before .before .before .before .before .before .before .before .before .before .before .before .before .before .before .head-of .ensures) (a .tick) (a .key) (a .weight) (c .before .before .before .before .before .before .before .before .before .before .before .before .before .before .before .before .before .before .before .start .ensures) (c .before .before .before .before .before .before .before .before .before .before .before .before .before .before .refusal-of .ensures) (c .before .before .before .before .before .before .before .before .before .before .before .before .before .if1 .left)) (c .put-head .ensures .1), number-said (start (a .tick) (a .key) (a .weight)) before long (c .before .before .before .before .before .before .before .before .before .before .before .before .before .before .before .before .before .before .before .before .before .before .head-of .ensures) (c .before .before .before .before .before .before .before .before .before .before .before .before .before .before .before .before .before .before .before .start .ensures) (a .number .now) (c .before .before .before .before .before .before .before .before .before .before .number-of .ensures))
+    let long : length (c .before .before .before .before .before .before .before .before .before .before .before .before .before .before .before .before .before .before .before .before .before .before .before .before .before .before .before .before .before .before .args .head .now) ≡ headNumbers = search needs in
+    start-done _ _ (replied-in _ _ (c .before .before .before .before .before .before .before .before .before .before .before .before .before .before .before .before .before .before .before .before .before .head-of .ensures) (c .before .before .before .before .before .before .before .before .before .before .before .before .before .before .before .before .start .ensures)) long (c .before .before .before .before .before .before .before .refusal-of .ensures) (c .before .before .before .before .before .before .if1 .left) (after-start _ _ _ _ (replied-in _ _ (c .before .before .before .before .before .before .before .before .before .before .before .before .before .before .before .before .before .before .before .before .before .head-of .ensures) (c .before .before .before .before .before .before .before .before .before .before .before .before .before .before .before .before .start .ensures)) (c .before .before .before .before .before .before .before .refusal-of .ensures) (c .before .before .before .before .before .before .if1 .left)) (c .put-head .ensures) (c .before .before .before .before .before .before .before .before .before .before .before .before .before .before .before .before .before .before .before .before .before .before .before .before .before .before .before .before .before .before .args .number .now) (c .before .before .before .number-of .ensures)
 
 pub nimbleshale-start-spec : {M : Type 1} → statement M
 nimbleshale-start-spec =
@@ -104,10 +75,14 @@ nimbleshale-start-spec =
     refusal-of-requires
     same-length
     same-length-2
+    same-length-3
+    same-length-4
     returns
     number-of-requires
     cast-put-head
     put-head-requires
-    same-length-3
-    same-length-4
+    same-length-5
+    same-length-6
+    same-length-7
+    same-length-8
     returns-2)

@@ -1,18 +1,21 @@
-use mathlib.Core.Path.{_≡_}
+use native.Mathlib.Omega.{arith}
+use mathlib.Core.Path.{_≡_, _∙_}
 use lib.ListN.{length}
 use borrow.Author.Needs.{needs}
 use Rattle.histories.proofs.group.group_of.Statement.{statement}
 use Rattle.histories.proofs.group.group_of.Tie as tie
 
 abbrev Inv-loop : tie.InvT-loop
-Inv-loop start-table₀ start-roots₀ end-table₀ end-roots₀ passes₀ number shape random₀ counts₀ left₀ start-table start-roots end-table end-roots passes random counts left =
+Inv-loop start-table₀ start-roots₀ end-table₀ end-roots₀ time-table₀ time-roots₀ passes₀ number shape random₀ counts₀ left₀ start-table start-roots end-table end-roots time-table time-roots passes random counts left =
     (length start-table ≡ length start-table₀)
     × (length start-roots ≡ length start-roots₀)
     × (length end-table ≡ length end-table₀)
     × (length end-roots ≡ length end-roots₀)
+    × (length time-table ≡ length time-table₀)
+    × (length time-roots ≡ length time-roots₀)
 
 abbrev μ-loop : tie.MeasureT-loop
-μ-loop start-table₀ start-roots₀ end-table₀ end-roots₀ passes₀ number shape random₀ counts₀ left₀ start-table start-roots end-table end-roots passes random counts left = left
+μ-loop start-table₀ start-roots₀ end-table₀ end-roots₀ time-table₀ time-roots₀ passes₀ number shape random₀ counts₀ left₀ start-table start-roots end-table end-roots time-table time-roots passes random counts left = left
 
 shape-of-requires : tie.Need-shape-of-requires Inv-loop μ-loop
 shape-of-requires c κs = search needs
@@ -39,10 +42,19 @@ plus-requires : tie.Need-plus-requires Inv-loop μ-loop
 plus-requires c κs = search needs
 
 loop-less : tie.Need-loop-less Inv-loop μ-loop
-loop-less c = search needs
+loop-less c = omega (arith, c .before .before .before .before .before .before .before .before .before .before .before .before .before .before .before .before .before .before .before .before .before .before .loop-test .taken)
 
 loop-again : tie.Need-loop-again Inv-loop μ-loop
-loop-again c = search needs
+loop-again c =
+    let made = c .before .before .before .before .before .before .before .before .before .before .before .before .before .history-on in
+    let l = c .before .before .before .before .before .before .before .before .before .before .before .before .before .before .before .before .before .before .before .before .before .before .before .loop in (
+      made .kept .0 ∙ l .inv .0,
+      made .kept .1 .0 ∙ l .inv .1,
+      made .kept .1 .1 .0 ∙ l .inv .2,
+      made .kept .1 .1 .1 .0 ∙ l .inv .3,
+      made .kept .1 .1 .1 .1 .0 ∙ l .inv .4,
+      made .kept .1 .1 .1 .1 .1 .0 ∙ l .inv .5,
+    )
 
 same-length : tie.Need-same-length Inv-loop μ-loop
 same-length c = search needs
@@ -55,6 +67,12 @@ same-length-3 c = search needs
 
 same-length-4 : tie.Need-same-length-4 Inv-loop μ-loop
 same-length-4 c = search needs
+
+same-length-5 : tie.Need-same-length-5 Inv-loop μ-loop
+same-length-5 c = search needs
+
+same-length-6 : tie.Need-same-length-6 Inv-loop μ-loop
+same-length-6 c = search needs
 
 returns : tie.Need-returns Inv-loop μ-loop
 returns c = search needs
@@ -79,4 +97,6 @@ group-of-spec =
     same-length-2
     same-length-3
     same-length-4
+    same-length-5
+    same-length-6
     returns)

@@ -4,11 +4,11 @@ use borrow.Author.Needs.{needs}
 use Rattle.histories.proofs.group.history_on.Statement.{statement}
 use Rattle.histories.proofs.group.history_on.Tie as tie
 
-lesser-requires : tie.Need-lesser-requires
-lesser-requires c κs = search needs
+least-requires : tie.Need-least-requires
+least-requires c κs = search needs
 
-lesser-requires-2 : tie.Need-lesser-requires-2
-lesser-requires-2 c κs = search needs
+least-requires-2 : tie.Need-least-requires-2
+least-requires-2 c κs = search needs
 
 part-of-requires : tie.Need-part-of-requires
 part-of-requires c κs = search needs
@@ -37,6 +37,18 @@ slice-relend-prefix-history-4 c = search needs
 slice-aggregate-history-4 : tie.Need-slice-aggregate-history-4
 slice-aggregate-history-4 c = sym (length-take-le _ _ (search needs))
 
+slice-relend-prefix-history-5 : tie.Need-slice-relend-prefix-history-5
+slice-relend-prefix-history-5 c = search needs
+
+slice-aggregate-history-5 : tie.Need-slice-aggregate-history-5
+slice-aggregate-history-5 c = sym (length-take-le _ _ (search needs))
+
+slice-relend-prefix-history-6 : tie.Need-slice-relend-prefix-history-6
+slice-relend-prefix-history-6 c = search needs
+
+slice-aggregate-history-6 : tie.Need-slice-aggregate-history-6
+slice-aggregate-history-6 c = sym (length-take-le _ _ (search needs))
+
 history-requires : tie.Need-history-requires
 history-requires c κs = search needs
 
@@ -52,6 +64,12 @@ same-length-3 c = search needs
 same-length-4 : tie.Need-same-length-4
 same-length-4 c = search needs
 
+same-length-5 : tie.Need-same-length-5
+same-length-5 c = search needs
+
+same-length-6 : tie.Need-same-length-6
+same-length-6 c = search needs
+
 returns : tie.Need-returns
 returns c = search needs
 
@@ -59,8 +77,8 @@ pub history-on-spec : {M : Type 1} → statement M
 history-on-spec =
     tie.close
     (tie.spec
-    lesser-requires
-    lesser-requires-2
+    least-requires
+    least-requires-2
     part-of-requires
     slice-relend-prefix-history
     slice-aggregate-history
@@ -70,9 +88,15 @@ history-on-spec =
     slice-aggregate-history-3
     slice-relend-prefix-history-4
     slice-aggregate-history-4
+    slice-relend-prefix-history-5
+    slice-aggregate-history-5
+    slice-relend-prefix-history-6
+    slice-aggregate-history-6
     history-requires
     same-length
     same-length-2
     same-length-3
     same-length-4
+    same-length-5
+    same-length-6
     returns)

@@ -1,14 +1,16 @@
-use Rattle.command.specs.Stream.{eventKind}
-use Rattle.command.proofs.KindLaws.{kind-question, kind-event}
-use Rattle.interpret.proofs.RunLaws.{question-replies, of-kind, event-replies}
-use Rattle.replies.proofs.RepliesAs.{refused-reply}
-use Rattle.store.specs.Trees.{storeOf}
+use Rattle.command.proofs.KindLaws.{kind-query, kind-event}
+use Rattle.interpret.proofs.RunLaws.{query-replies, of-kind}
+use Rattle.store.specs.Trees.{Store, storeOf}
+use mathlib.Core.Path.{sym, _∙_}
 use borrow.Author.Needs.{needs}
 use Rattle.interpret.proofs.run.run_command.Statement.{statement}
 use Rattle.interpret.proofs.run.run_command.Tie as tie
 
-answer-question-requires : tie.Need-answer-question-requires
-answer-question-requires c κs = search needs
+is-query-requires : tie.Need-is-query-requires
+is-query-requires c κs = search needs
+
+answer-query-requires : tie.Need-answer-query-requires
+answer-query-requires c κs = search needs
 
 same-length : tie.Need-same-length
 same-length c = search needs
@@ -22,49 +24,26 @@ same-length-3 c = search needs
 same-length-4 : tie.Need-same-length-4
 same-length-4 c = search needs
 
-returns : tie.Need-returns
-returns c =
-    let a = c .before .before .before .before .before .before .before .before .before .before .before .args in
-    of-kind (storeOf (a .head) (a .start-table .now) (a .start-roots .now) (a .end-table .now) (a .end-roots .now)) (a .operands .now) (kind-question (a .code) (c .before .before .before .before .before .if1 .taken)) (question-replies (storeOf (a .head) (a .start-table .now) (a .start-roots .now) (a .end-table .now) (a .end-roots .now)) (a .operands .now) (c .answer-question .ensures))
-
-read-event-requires : tie.Need-read-event-requires
-read-event-requires c κs = search needs
-
-enum-known-event : tie.Need-enum-known-event
-enum-known-event c = search needs
-
-start-requires : tie.Need-start-requires
-start-requires c κs = search needs
-
-enum-known-event-2 : tie.Need-enum-known-event-2
-enum-known-event-2 c = search needs
-
-end-requires : tie.Need-end-requires
-end-requires c κs = search needs
-
-enum-known-event-3 : tie.Need-enum-known-event-3
-enum-known-event-3 c = search needs
-
-refused-requires : tie.Need-refused-requires
-refused-requires c κs = search needs
-
 same-length-5 : tie.Need-same-length-5
 same-length-5 c = search needs
 
 same-length-6 : tie.Need-same-length-6
 same-length-6 c = search needs
 
+returns : tie.Need-returns
+returns c =
+    let a = c .before .before .before .before .before .before .before .before .before .before .before .before .before .before .before .before .args in
+    let s : Store = storeOf (a .head) (a .start-table .now) (a .start-roots .now) (a .end-table .now) (a .end-roots .now) (a .time-table .now) (a .time-roots .now) in
+    of-kind s (a .operands .now) (kind-query (a .code) (sym (c .before .before .before .before .before .before .before .before .is-query .ensures) ∙ c .before .before .before .before .before .before .before .if1 .taken)) (query-replies s (a .operands .now) (a .code) (c .answer-query .ensures))
+
+run-event-requires : tie.Need-run-event-requires
+run-event-requires c κs = search needs
+
 same-length-7 : tie.Need-same-length-7
 same-length-7 c = search needs
 
 same-length-8 : tie.Need-same-length-8
 same-length-8 c = search needs
-
-returns-2 : tie.Need-returns-2
-returns-2 c =
-    let a = c .before .before .before .before .before .before .before .before .before .before .before .before .before .before .before .before .before .before .before .args in
-    of-kind (storeOf (a .head) (a .start-table .now) (a .start-roots .now) (a .end-table .now) (a .end-roots .now)) (a .operands .now) (kind-event (a .code) (c .before .before .before .before .before .before .before .before .before .before .before .before .before .if1 .left))
-    (event-replies (storeOf (a .head) (a .start-table .now) (a .start-roots .now) (a .end-table .now) (a .end-roots .now)) (a .operands .now) (eventKind (a .code)) (c .before .before .before .before .before .before .before .before .before .before .before .before .read-event .ensures) (c .before .before .before .before .before .before .before .before .before .before .event .given .1) (c .before .before .before .before .start .ensures))
 
 same-length-9 : tie.Need-same-length-9
 same-length-9 c = search needs
@@ -78,43 +57,32 @@ same-length-11 c = search needs
 same-length-12 : tie.Need-same-length-12
 same-length-12 c = search needs
 
-returns-3 : tie.Need-returns-3
-returns-3 c =
-    let a = c .before .before .before .before .before .before .before .before .before .before .before .before .before .before .before .before .before .before .before .args in
-    of-kind (storeOf (a .head) (a .start-table .now) (a .start-roots .now) (a .end-table .now) (a .end-roots .now)) (a .operands .now) (kind-event (a .code) (c .before .before .before .before .before .before .before .before .before .before .before .before .before .if1 .left))
-    (event-replies (storeOf (a .head) (a .start-table .now) (a .start-roots .now) (a .end-table .now) (a .end-roots .now)) (a .operands .now) (eventKind (a .code)) (c .before .before .before .before .before .before .before .before .before .before .before .before .read-event .ensures) (c .before .before .before .before .before .before .before .before .before .before .event2 .given .1) (c .before .before .before .before .end .ensures))
-
-returns-4 : tie.Need-returns-4
-returns-4 c =
-    let a = c .before .before .before .before .before .before .before .before .before .before .before .args in
-    of-kind (storeOf (a .head) (a .start-table .now) (a .start-roots .now) (a .end-table .now) (a .end-roots .now)) (a .operands .now) (kind-event (a .code) (c .before .before .before .before .before .if1 .left))
-    (event-replies (storeOf (a .head) (a .start-table .now) (a .start-roots .now) (a .end-table .now) (a .end-roots .now)) (a .operands .now) (eventKind (a .code)) (c .before .before .before .before .read-event .ensures) (c .before .before .event3 .given .1) (refused-reply (storeOf (a .head) (a .start-table .now) (a .start-roots .now) (a .end-table .now) (a .end-roots .now)) _ (c .refused .ensures)))
+returns-2 : tie.Need-returns-2
+returns-2 c =
+    let done = c .before .before .before .before .before .before .before .before .before .before .before .before in
+    let left = done .before .before .before .before .before .before .before in
+    let a = left .before .before .before .before .before .before .before .before .before .args in
+    let s : Store = storeOf (a .head) (a .start-table .now) (a .start-roots .now) (a .end-table .now) (a .end-roots .now) (a .time-table .now) (a .time-roots .now) in
+    of-kind s (a .operands .now) (kind-event (a .code) (sym (left .before .is-query .ensures) ∙ left .if1 .left)) (done .run-event .ensures)
 
 pub run-command-spec : {M : Type 1} → statement M
 run-command-spec =
     tie.close
     (tie.spec
-    answer-question-requires
+    is-query-requires
+    answer-query-requires
     same-length
     same-length-2
     same-length-3
     same-length-4
-    returns
-    read-event-requires
-    enum-known-event
-    start-requires
-    enum-known-event-2
-    end-requires
-    enum-known-event-3
-    refused-requires
     same-length-5
     same-length-6
+    returns
+    run-event-requires
     same-length-7
     same-length-8
-    returns-2
     same-length-9
     same-length-10
     same-length-11
     same-length-12
-    returns-3
-    returns-4)
+    returns-2)

@@ -10,12 +10,12 @@ use Rattle.open_passes.proofs.passes.ended_head.Statement.{statement}
 use Rattle.open_passes.proofs.passes.ended_head.Tie as tie
 
 abbrev Inv-loop : tie.InvT-loop
-Inv-loop used tick place head₀ count last at₀ head at =
+Inv-loop ends time tick place head₀ count last at₀ head at =
     (place ≤ at) × (at ≤ last) × (last + 1 ≤ length (head₀ .passes))
     × (head ≡ withPasses head₀ (movedTo (head₀ .passes) place at))
 
 abbrev μ-loop : tie.MeasureT-loop
-μ-loop used tick place head₀ count last at₀ head at = last - at
+μ-loop ends time tick place head₀ count last at₀ head at = last - at
 
 sub-count : tie.Need-sub-count Inv-loop μ-loop
 sub-count c = search needs
@@ -72,8 +72,8 @@ returns c = λ pass. let a = c .before .before .before .args in
     let l = c .before .before .loop in
     let here : a .t1 .count - 1 ≡ l .at = omega arith in
     rw (c .no-pass .ensures, l .inv .3)
-    (ap (λ (n : ℕ). endedWith (a .t1) (a .used) (a .tick) (set (movedTo (a .t1 .passes) (a .place) (l .at)) n noPass)) here
-    ∙ ap (endedWith (a .t1) (a .used) (a .tick)) (move-done (a .t1 .passes) (a .place) (l .at) (l .inv .0) (a .t1 .count) (omega arith) (omega arith)))
+    (ap (λ (n : ℕ). endedWith (a .t1) (a .ends) (a .time) (a .tick) (set (movedTo (a .t1 .passes) (a .place) (l .at)) n noPass)) here
+    ∙ ap (endedWith (a .t1) (a .ends) (a .time) (a .tick)) (move-done (a .t1 .passes) (a .place) (l .at) (l .inv .0) (a .t1 .count) (omega arith) (omega arith)))
 
 pub ended-head-spec : {M : Type 1} → statement M
 ended-head-spec =

@@ -12,6 +12,12 @@ question-refusal-requires c κs = search needs
 enum-known-asked-2 : tie.Need-enum-known-asked-2
 enum-known-asked-2 c = search needs
 
+question-refusal-requires-2 : tie.Need-question-refusal-requires-2
+question-refusal-requires-2 c κs = search needs
+
+enum-known-asked-3 : tie.Need-enum-known-asked-3
+enum-known-asked-3 c = search needs
+
 lookup-refusal-requires : tie.Need-lookup-refusal-requires
 lookup-refusal-requires c κs = search needs
 
@@ -21,7 +27,11 @@ returns c = λ b. rw (c .before .before .asked .given .1) (c .question-refusal .
 
 returns-2 : tie.Need-returns-2
 unfolding bookRefusal
-returns-2 c = λ b. rw (c .before .before .asked2 .given .1) (c .lookup-refusal .ensures)
+returns-2 c = λ b. rw (c .before .before .asked2 .given .1) (c .question-refusal2 .ensures)
+
+returns-3 : tie.Need-returns-3
+unfolding bookRefusal
+returns-3 c = λ b. rw (c .before .before .asked3 .given .1) (c .lookup-refusal .ensures)
 
 pub asked-refusal-spec : {M : Type 1} → statement M
 asked-refusal-spec =
@@ -30,6 +40,9 @@ asked-refusal-spec =
     enum-known-asked
     question-refusal-requires
     enum-known-asked-2
+    question-refusal-requires-2
+    enum-known-asked-3
     lookup-refusal-requires
     returns
-    returns-2)
+    returns-2
+    returns-3)

@@ -1,7 +1,6 @@
 use Prim.Native.Nat.{_-_, _≤_}
 use native.Mathlib.Omega.{arith}
-use mathlib.Core.Path.{_≡_, ap, _∙_}
-use Rattle.pass_book.specs.Counted.{worth}
+use mathlib.Core.Path.{_≡_}
 use Rattle.pass_book.proofs.TotalLaws.{TotalSoFar, total-none, total-next}
 use borrow.Author.Needs.{needs}
 use Rattle.pass_book.proofs.totals.totals.Statement.{statement}
@@ -23,11 +22,8 @@ loop-holds c = (search needs, total-none _ _ (c .zero .ensures))
 pass-at-requires : tie.Need-pass-at-requires Inv-loop μ-loop
 pass-at-requires c κs = search needs
 
-is-counted-requires : tie.Need-is-counted-requires Inv-loop μ-loop
-is-counted-requires c κs = search needs
-
-worth-requires : tie.Need-worth-requires Inv-loop μ-loop
-worth-requires c κs = search needs
+worth-of-requires : tie.Need-worth-of-requires Inv-loop μ-loop
+worth-of-requires c κs = search needs
 
 plus-requires : tie.Need-plus-requires Inv-loop μ-loop
 plus-requires c κs = search needs
@@ -40,15 +36,14 @@ loop-less c = search needs
 
 loop-again : tie.Need-loop-again Inv-loop μ-loop
 loop-again c =
-    let l = c .before .before .before .before .before .loop in
-    let valued = c .before .worth .ensures ∙ ap (worth _) (c .before .before .is-counted .ensures) in
-    (search needs, total-next _ _ (l .number) (omega arith) _ (search needs) (l .inv .1) (c .before .before .before .pass-at .ensures) valued (c .plus .ensures))
+    let l = c .before .before .before .before .loop in
+    (search needs, total-next _ _ (l .number) _ (search needs) (l .inv .1) (c .before .before .pass-at .ensures) (c .before .worth-of .ensures) (c .plus .ensures))
 
 returns : tie.Need-returns Inv-loop μ-loop
 returns c =
     let l = c .before .loop in
     let e : l .number ≡ c .before .before .before .before .args .started = omega arith in
-    rw (← e) (l .inv .1 .is)
+    rw (← e) (l .inv .1 .is, l .inv .1 .light)
 
 pub totals-spec : {M : Type 1} → statement M
 totals-spec =
@@ -59,8 +54,7 @@ totals-spec =
     zero-requires
     loop-holds
     pass-at-requires
-    is-counted-requires
-    worth-requires
+    worth-of-requires
     plus-requires
     add-number
     loop-less

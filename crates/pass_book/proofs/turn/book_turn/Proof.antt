@@ -13,7 +13,7 @@ same-length c = search needs
 returns : tie.Need-returns
 returns c =
     let a = c .before .before .before .before .args in
-    stays-as (a .passes .now) (a .book) _ (turn-refused _ _ _ _ (c .before .refusal .ensures) (c .if1 .taken))
+    stays-as (a .passes .now) (a .book) _ _ (turn-refused _ _ _ _ (c .before .refusal .ensures) (c .if1 .taken))
 
 lacking-requires : tie.Need-lacking-requires
 lacking-requires c κs = search needs
@@ -25,7 +25,7 @@ returns-2 : tie.Need-returns-2
 returns-2 c =
     let free = c .before .before in
     let a = free .before .before .before .before .args in
-    stays-as (a .passes .now) (a .book) _ (turn-lacks _ _ _ _ (free .before .refusal .ensures) (free .if1 .left) _ (c .before .lacking .ensures) (c .if2 .taken))
+    stays-as (a .passes .now) (a .book) _ _ (turn-lacks _ _ _ _ (free .before .refusal .ensures) (free .if1 .left) _ (c .before .lacking .ensures) (c .if2 .taken))
 
 does-requires : tie.Need-does-requires
 does-requires c κs = (search needs, sym (c .before .before .before .before .refusal .ensures) ∙ c .before .before .before .if1 .left)

@@ -1,10 +1,9 @@
+use native.Mathlib.Omega.{arith}
+use mathlib.Core.Path.{ap, _∙_}
+use Rattle.store.specs.Book.{bookPart}
 use Rattle.pass_book.specs.PassList.{bookIn}
-use mathlib.Core.Path.{ap, ap₂, sym, _∙_}
-use Rattle.words.specs.declared.value.Value.{Value}
-use Prim.Native.Nat.{ℕ}
-use mathlib.Core.List.{[], _∷_}
-use Rattle.store.specs.Book.{says}
-use Rattle.pass_book.proofs.TotalLaws.{totals-said}
+use Rattle.pass_book.proofs.PassLaws.{passes-length}
+use Rattle.pass_book.proofs.TotalLaws.{said-as}
 use borrow.Author.Needs.{needs}
 use Rattle.pass_book.proofs.turn.totals_of.Statement.{statement}
 use Rattle.pass_book.proofs.turn.totals_of.Tie as tie
@@ -12,10 +11,15 @@ use Rattle.pass_book.proofs.turn.totals_of.Tie as tie
 totals-requires : tie.Need-totals-requires
 totals-requires c κs = search needs
 
+answer-of-requires : tie.Need-answer-of-requires
+answer-of-requires c κs = search needs
+
 returns : tie.Need-returns
 returns c =
-    let a = c .before .before .args in
-    ap₂ (λ (count sum : ℕ). says (count ∷ (sum ∷ []))) (ap (λ (v : Value). v .count) (c .totals .ensures)) (ap (λ (v : Value). v .sum) (c .totals .ensures)) ∙ sym (totals-said (bookIn (a .passes .now) (a .book)) (a .asked))
+    let a = c .before .before .before .args in
+    let totals = c .before .totals .ensures in
+    ap bookPart (c .answer-of .ensures)
+    ∙ said-as (bookIn (a .passes .now) (a .book)) (omega (arith, passes-length (a .passes .now) (a .book .started))) (totals .1) (a .asked) (totals .0)
 
 pub totals-of-spec : {M : Type 1} → statement M
-totals-of-spec = tie.close (tie.spec totals-requires returns)
+totals-of-spec = tie.close (tie.spec totals-requires answer-of-requires returns)

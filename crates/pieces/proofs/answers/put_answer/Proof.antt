@@ -5,7 +5,7 @@ use lib.ListN.{length}
 use Rattle.words.specs.Overwrite.{overwrite}
 use Rattle.store.specs.declared.types.Answer.{Answer}
 use Rattle.command.specs.Stream.{written}
-use Rattle.command.proofs.AnswerLengths.{code-only, code-length, started-length, totals-length}
+use Rattle.command.proofs.AnswerLengths.{code-only, code-length, started-length, totals-length, bat-time-length}
 use borrow.Author.Needs.{needs}
 use Rattle.pieces.proofs.answers.put_answer.Statement.{statement}
 use Rattle.pieces.proofs.answers.put_answer.Tie as tie
@@ -57,6 +57,15 @@ put-totals-requires c κs = search needs
 
 add-result-5 : tie.Need-add-result-5
 add-result-5 c = search needs
+
+enum-known-answer-4 : tie.Need-enum-known-answer-4
+enum-known-answer-4 c = search needs
+
+put-bat-time-requires : tie.Need-put-bat-time-requires
+put-bat-time-requires c κs = search needs
+
+add-result-6 : tie.Need-add-result-6
+add-result-6 c = search needs
 
 same-length : tie.Need-same-length
 same-length c = search needs
@@ -113,6 +122,17 @@ returns-5 c =
       sym (ap (λ (x : Answer). a .from + length (written x)) is ∙ ap (λ (n : ℕ). a .from + n) (totals-length _ _ _)),
     )
 
+same-length-6 : tie.Need-same-length-6
+same-length-6 c = search needs
+
+returns-6 : tie.Need-returns-6
+returns-6 c =
+    let a = c .before .before .before .before .before .before .before .before .args in
+    let is = c .before .before .before .before .before .answer4 .given .1 in (
+      c .before .before .put-bat-time .ensures ∙ ap (λ (x : Answer). overwrite (a .out .now) (a .from) (written x)) (sym is),
+      sym (ap (λ (x : Answer). a .from + length (written x)) is ∙ ap (λ (n : ℕ). a .from + n) (bat-time-length _ _)),
+    )
+
 pub put-answer-spec : {M : Type 1} → statement M
 put-answer-spec =
     tie.close
@@ -133,6 +153,9 @@ put-answer-spec =
     enum-known-answer-3
     put-totals-requires
     add-result-5
+    enum-known-answer-4
+    put-bat-time-requires
+    add-result-6
     same-length
     returns
     same-length-2
@@ -142,4 +165,6 @@ put-answer-spec =
     same-length-4
     returns-4
     same-length-5
-    returns-5)
+    returns-5
+    same-length-6
+    returns-6)

@@ -7,7 +7,8 @@ use Rattle.store.proofs.ArgumentFacts.{lookup-bounds}
 use Rattle.refusals.proofs.HeadFacts.{use-words}
 use Rattle.refusals.proofs.RefusalParts.{arguments-pass, head-passes}
 use Rattle.queries.specs.Answers.{answerOf}
-use Rattle.queries.proofs.LookupAnswers.{lookup-refused, lookup-answered}
+use Rattle.queries.proofs.LookupAnswers.{lookup-answered}
+use Rattle.queries.proofs.ReadAnswers.{head-refuses}
 use borrow.Author.Needs.{needs}
 use Rattle.queries.proofs.reading.lookup_ends.Statement.{statement}
 use Rattle.queries.proofs.reading.lookup_ends.Tie as tie
@@ -21,22 +22,22 @@ head-refusal-requires c κs = search needs
 returns : tie.Need-returns
 returns c =
     let h = c .before in
-    let a = h .before .before .before .before .before .before .args in
-    let s : Store = storeOf (a .head) (a .start-table .now) (a .start-roots .now) (a .end-table .now) (a .end-roots .now) in
-    lookup-refused s Ends (a .t) (a .k) (h .before .lookup-input .ensures) (h .head-refusal .ensures) (c .if1 .taken)
+    let a = h .before .before .before .before .before .before .before .before .args in
+    let s : Store = storeOf (a .head) (a .start-table .now) (a .start-roots .now) (a .end-table .now) (a .end-roots .now) (a .time-table .now) (a .time-roots .now) in
+    head-refuses s (lookupIn Ends (a .t) (a .k)) refl (h .before .lookup-input .ensures) (h .head-refusal .ensures) (c .if1 .taken)
 
 cast-lookup : tie.Need-cast-lookup
 cast-lookup c =
     let h = c .before .before in
-    let a = h .before .before .before .before .before .before .args in
-    let s : Store = storeOf (a .head) (a .start-table .now) (a .start-roots .now) (a .end-table .now) (a .end-roots .now) in
-    omega (arith, lookup-bounds Ends (a .t) (a .k) (omega (arith, h .before .before .before .before .before .before .fits .t .fits)) (arguments-pass s (lookupIn Ends (a .t) (a .k)) refl (h .before .lookup-input .ensures) (h .head-refusal .ensures) (c .before .if1 .left)) .key)
+    let a = h .before .before .before .before .before .before .before .before .args in
+    let s : Store = storeOf (a .head) (a .start-table .now) (a .start-roots .now) (a .end-table .now) (a .end-roots .now) (a .time-table .now) (a .time-roots .now) in
+    omega (arith, lookup-bounds Ends (a .t) (a .k) (omega (arith, h .before .before .before .before .before .before .before .before .fits .t .fits)) (arguments-pass s (lookupIn Ends (a .t) (a .k)) refl (h .before .lookup-input .ensures) (h .head-refusal .ensures) (c .before .if1 .left)) .key)
 
 lookup-requires : tie.Need-lookup-requires
 lookup-requires c κs =
     let h = c .before .before in
-    let a = h .before .before .before .before .before .before .args in
-    let s : Store = storeOf (a .head) (a .start-table .now) (a .start-roots .now) (a .end-table .now) (a .end-roots .now) in
+    let a = h .before .before .before .before .before .before .before .before .args in
+    let s : Store = storeOf (a .head) (a .start-table .now) (a .start-roots .now) (a .end-table .now) (a .end-roots .now) (a .time-table .now) (a .time-roots .now) in
     let fit = head-passes s (lookupIn Ends (a .t) (a .k)) refl (h .before .lookup-input .ensures) (h .head-refusal .ensures) (c .before .if1 .left) .trees Ends in
     (use-words fit, fit .roots-listed)
 
@@ -46,8 +47,8 @@ answer-of-requires c κs = search needs
 returns-2 : tie.Need-returns-2
 returns-2 c =
     let h = c .before .before .before .before in
-    let a = h .before .before .before .before .before .before .args in
-    let s : Store = storeOf (a .head) (a .start-table .now) (a .start-roots .now) (a .end-table .now) (a .end-roots .now) in
+    let a = h .before .before .before .before .before .before .before .before .args in
+    let s : Store = storeOf (a .head) (a .start-table .now) (a .start-roots .now) (a .end-table .now) (a .end-roots .now) (a .time-table .now) (a .time-roots .now) in
     c .answer-of .ensures
     ∙ ap answerOf (c .before .lookup .ensures)
     ∙ lookup-answered s Ends (a .t) (a .k) (h .before .lookup-input .ensures) (h .head-refusal .ensures) (c .before .before .before .if1 .left)

@@ -1,18 +1,16 @@
 use native.Mathlib.Omega.{arith}
-use mathlib.Core.Path.{refl, ap, _∙_}
-use Rattle.tree.specs.declared.types.Plan.{Plan}
-use Rattle.store.specs.declared.types.TreeName.the-variants.{Starts}
-use Rattle.store.specs.Trees.{Store, treeIn, storeOf}
+use mathlib.Core.Path.{refl, ap₂, sym, _∙_}
+use Rattle.store.specs.declared.types.TreeName.the-variants.{Starts, Time}
+use Rattle.store.specs.Trees.{Store, storeOf}
 use Rattle.store.specs.Calls.{start}
-use Rattle.store.specs.Refusals.{firstMet}
+use Rattle.store.specs.Writing.{pointOf, timeAtStart}
 use Rattle.store.proofs.ArgumentFacts.{start-arguments}
-use Rattle.room.specs.PlanGrounds.{planGrounds}
-use Rattle.refusals.proofs.HeadFacts.{use-words}
+use Rattle.refusals.specs.Grounds.{lowerOf}
 use Rattle.refusals.proofs.RefusalParts.{by-head, arguments-pass, head-passes, by-state, by-pages}
+use Rattle.refusals.proofs.StartParts.{start-pages}
 use borrow.Author.Needs.{needs}
 use Rattle.refusals.proofs.refusals.start_refusal.Statement.{statement}
 use Rattle.refusals.proofs.refusals.start_refusal.Tie as tie
-use Rattle.tree.proofs.Main.{fits-takes}
 
 start-input-requires : tie.Need-start-input-requires
 start-input-requires c κs = search needs
@@ -23,8 +21,8 @@ head-refusal-requires c κs = search needs
 returns : tie.Need-returns
 returns c =
     let h = c .before in
-    let a = h .before .before .before .before .before .before .args in
-    let s : Store = storeOf (a .head) (a .start-table .now) (a .start-roots .now) (a .end-table .now) (a .end-roots .now) in
+    let a = h .before .before .before .before .before .before .before .before .args in
+    let s : Store = storeOf (a .head) (a .start-table .now) (a .start-roots .now) (a .end-table .now) (a .end-roots .now) (a .time-table .now) (a .time-roots .now) in
     by-head s (start (a .tick) (a .key) (a .weight)) refl (h .before .start-input .ensures) (h .head-refusal .ensures) (c .if1 .taken)
 
 start-state-requires : tie.Need-start-state-requires
@@ -33,43 +31,68 @@ start-state-requires c κs = search needs
 returns-2 : tie.Need-returns-2
 returns-2 c =
     let h = c .before .before .before in
-    let a = h .before .before .before .before .before .before .args in
-    let s : Store = storeOf (a .head) (a .start-table .now) (a .start-roots .now) (a .end-table .now) (a .end-roots .now) in
+    let a = h .before .before .before .before .before .before .before .before .args in
+    let s : Store = storeOf (a .head) (a .start-table .now) (a .start-roots .now) (a .end-table .now) (a .end-roots .now) (a .time-table .now) (a .time-roots .now) in
     by-state s (start (a .tick) (a .key) (a .weight)) refl (h .before .start-input .ensures) (h .head-refusal .ensures) (c .before .before .if1 .left) (c .before .start-state .ensures) (c .if2 .taken)
 
-cast-plan : tie.Need-cast-plan
-cast-plan c =
+cast-planned-refusal : tie.Need-cast-planned-refusal
+cast-planned-refusal c =
     let h = c .before .before .before .before in
-    let a = h .before .before .before .before .before .before .args in
-    let s : Store = storeOf (a .head) (a .start-table .now) (a .start-roots .now) (a .end-table .now) (a .end-roots .now) in
-    let point = start-arguments (a .tick) (a .key) (a .weight) (omega (arith, h .before .before .before .before .before .before .fits .tick .fits)) (arguments-pass s (start (a .tick) (a .key) (a .weight)) refl (h .before .start-input .ensures) (h .head-refusal .ensures) (c .before .before .before .if1 .left)) .bounds in
+    let from = h .before .before .before .before .before .before .before .before in
+    let a = from .args in
+    let s : Store = storeOf (a .head) (a .start-table .now) (a .start-roots .now) (a .end-table .now) (a .end-roots .now) (a .time-table .now) (a .time-roots .now) in
+    let call = start (a .tick) (a .key) (a .weight) in
+    let passed = arguments-pass s call refl (h .before .start-input .ensures) (h .head-refusal .ensures) (c .before .before .before .if1 .left) in
+    let point = start-arguments (a .tick) (a .key) (a .weight) (omega (arith, from .fits .tick .fits)) passed .bounds in
     omega (arith, point .key)
 
-plan-requires : tie.Need-plan-requires
-plan-requires c κs =
+planned-refusal-requires : tie.Need-planned-refusal-requires
+planned-refusal-requires c κs =
     let h = c .before .before .before .before in
-    let a = h .before .before .before .before .before .before .args in
-    let s : Store = storeOf (a .head) (a .start-table .now) (a .start-roots .now) (a .end-table .now) (a .end-roots .now) in
-    let fit = head-passes s (start (a .tick) (a .key) (a .weight)) refl (h .before .start-input .ensures) (h .head-refusal .ensures) (c .before .before .before .if1 .left) .trees Starts in
-    let point = start-arguments (a .tick) (a .key) (a .weight) (omega (arith, h .before .before .before .before .before .before .fits .tick .fits)) (arguments-pass s (start (a .tick) (a .key) (a .weight)) refl (h .before .start-input .ensures) (h .head-refusal .ensures) (c .before .before .before .if1 .left)) .bounds in
-    (use-words fit, (fit .roots-listed, point .tick))
+    let from = h .before .before .before .before .before .before .before .before in
+    let a = from .args in
+    let s : Store = storeOf (a .head) (a .start-table .now) (a .start-roots .now) (a .end-table .now) (a .end-roots .now) (a .time-table .now) (a .time-roots .now) in
+    let call = start (a .tick) (a .key) (a .weight) in
+    let passed = arguments-pass s call refl (h .before .start-input .ensures) (h .head-refusal .ensures) (c .before .before .before .if1 .left) in
+    let point = start-arguments (a .tick) (a .key) (a .weight) (omega (arith, from .fits .tick .fits)) passed .bounds in
+    (head-passes s call refl (h .before .start-input .ensures) (h .head-refusal .ensures) (c .before .before .before .if1 .left) .trees Starts, point .tick)
 
-entry-refusal-requires : tie.Need-entry-refusal-requires
-entry-refusal-requires c κs =
-    let h = c .before .before .before .before .before in
-    let a = h .before .before .before .before .before .before .args in
-    let s : Store = storeOf (a .head) (a .start-table .now) (a .start-roots .now) (a .end-table .now) (a .end-roots .now) in
-    let fit = head-passes s (start (a .tick) (a .key) (a .weight)) refl (h .before .start-input .ensures) (h .head-refusal .ensures) (c .before .before .before .before .if1 .left) .trees Starts in
-    (fit .pages-held, fits-takes fit)
+cast-planned-refusal-2 : tie.Need-cast-planned-refusal-2
+cast-planned-refusal-2 c =
+    let h = c .before .before .before .before .before .before in
+    let from = h .before .before .before .before .before .before .before .before in
+    let a = from .args in
+    let s : Store = storeOf (a .head) (a .start-table .now) (a .start-roots .now) (a .end-table .now) (a .end-roots .now) (a .time-table .now) (a .time-roots .now) in
+    let call = start (a .tick) (a .key) (a .weight) in
+    let passed = arguments-pass s call refl (h .before .start-input .ensures) (h .head-refusal .ensures) (c .before .before .before .before .before .if1 .left) in
+    let point = start-arguments (a .tick) (a .key) (a .weight) (omega (arith, from .fits .tick .fits)) passed .bounds in
+    omega (arith, point .key)
+
+planned-refusal-requires-2 : tie.Need-planned-refusal-requires-2
+planned-refusal-requires-2 c κs =
+    let h = c .before .before .before .before .before .before in
+    let from = h .before .before .before .before .before .before .before .before in
+    let a = from .args in
+    let s : Store = storeOf (a .head) (a .start-table .now) (a .start-roots .now) (a .end-table .now) (a .end-roots .now) (a .time-table .now) (a .time-roots .now) in
+    let call = start (a .tick) (a .key) (a .weight) in
+    let passed = arguments-pass s call refl (h .before .start-input .ensures) (h .head-refusal .ensures) (c .before .before .before .before .before .if1 .left) in
+    let point = start-arguments (a .tick) (a .key) (a .weight) (omega (arith, from .fits .tick .fits)) passed .bounds in
+    (head-passes s call refl (h .before .start-input .ensures) (h .head-refusal .ensures) (c .before .before .before .before .before .if1 .left) .trees Time, point .tick)
+
+lower-refusal-requires : tie.Need-lower-refusal-requires
+lower-refusal-requires c κs = search needs
 
 returns-3 : tie.Need-returns-3
 returns-3 c =
-    let h = c .before .before .before .before .before .before in
-    let a = h .before .before .before .before .before .before .args in
-    let s : Store = storeOf (a .head) (a .start-table .now) (a .start-roots .now) (a .end-table .now) (a .end-roots .now) in
-    let planned = c .before .plan .ensures (record { count = 1; sum = a .weight }) in
-    by-pages s (start (a .tick) (a .key) (a .weight)) refl (h .before .start-input .ensures) (h .head-refusal .ensures) (c .before .before .before .before .before .if1 .left) (c .before .before .before .before .start-state .ensures) (c .before .before .before .if2 .left)
-    (c .entry-refusal .ensures ∙ ap (λ (p : Plan). firstMet (planGrounds (treeIn s Starts) p)) planned)
+    let p = c .before in
+    let n = p .before .before .before .before in
+    let h = n .before .before .before in
+    let a = h .before .before .before .before .before .before .before .before .args in
+    let s : Store = storeOf (a .head) (a .start-table .now) (a .start-roots .now) (a .end-table .now) (a .end-roots .now) (a .time-table .now) (a .time-roots .now) in
+    by-pages s (start (a .tick) (a .key) (a .weight)) refl (h .before .start-input .ensures) (h .head-refusal .ensures) (n .before .before .if1 .left) (n .before .start-state .ensures) (n .if2 .left)
+    (c .lower-refusal .ensures
+    ∙ ap₂ lowerOf (p .before .before .planned-refusal .ensures (pointOf (a .tick) (a .key) (a .weight) .value)) (p .planned-refusal2 .ensures (timeAtStart (a .tick) (a .key) (a .weight) .value))
+    ∙ sym (start-pages s (a .tick) (a .key) (a .weight)))
 
 pub start-refusal-spec : {M : Type 1} → statement M
 start-refusal-spec =
@@ -80,7 +103,9 @@ start-refusal-spec =
     returns
     start-state-requires
     returns-2
-    cast-plan
-    plan-requires
-    entry-refusal-requires
+    cast-planned-refusal
+    planned-refusal-requires
+    cast-planned-refusal-2
+    planned-refusal-requires-2
+    lower-refusal-requires
     returns-3)

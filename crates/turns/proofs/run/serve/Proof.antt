@@ -13,24 +13,28 @@ use Rattle.turns.proofs.run.serve.Statement.{statement}
 use Rattle.turns.proofs.run.serve.Tie as tie
 
 abbrev Inv-loop : tie.InvT-loop
-Inv-loop start-table₀ start-roots₀ end-table₀ end-roots₀ buffer₀ out₀ now₀ left₀ start-table start-roots end-table end-roots buffer out now left =
+Inv-loop start-table₀ start-roots₀ end-table₀ end-roots₀ time-table₀ time-roots₀ buffer₀ out₀ now₀ left₀ start-table start-roots end-table end-roots time-table time-roots buffer out now left =
     (length start-table ≡ length start-table₀)
     × (length start-roots ≡ length start-roots₀)
     × (length end-table ≡ length end-table₀)
     × (length end-roots ≡ length end-roots₀)
+    × (length time-table ≡ length time-table₀)
+    × (length time-roots ≡ length time-roots₀)
     × (length buffer ≡ 4096)
     × (length out ≡ 8210)
     × (left ≤ mostTurns)
     × (now .waiting ≤ mostWaiting)
     × (now .over ≡ false)
-    × Going (record { store = storeOf (now₀ .head) start-table₀ start-roots₀ end-table₀ end-roots₀; waiting = []; over = false }) (feedOf (storeOf (now .head) start-table start-roots end-table end-roots) buffer (now .waiting) false) (mostTurns - left)
+    × Going (record { store = storeOf (now₀ .head) start-table₀ start-roots₀ end-table₀ end-roots₀ time-table₀ time-roots₀; waiting = []; over = false }) (feedOf (storeOf (now .head) start-table start-roots end-table end-roots time-table time-roots) buffer (now .waiting) false) (mostTurns - left)
 
 abbrev μ-loop : tie.MeasureT-loop
-μ-loop start-table₀ start-roots₀ end-table₀ end-roots₀ buffer₀ out₀ now₀ left₀ start-table start-roots end-table end-roots buffer out now left = left
+μ-loop start-table₀ start-roots₀ end-table₀ end-roots₀ time-table₀ time-roots₀ buffer₀ out₀ now₀ left₀ start-table start-roots end-table end-roots time-table time-roots buffer out now left = left
 
 loop-holds : tie.Need-loop-holds Inv-loop μ-loop
 loop-holds c =
-    let a = c .before .before .before .before .args in (
+    let a = c .before .before .before .before .before .before .args in (
+      search needs,
+      search needs,
       search needs,
       search needs,
       search needs,
@@ -40,7 +44,7 @@ loop-holds c =
       omega arith,
       omega arith,
       refl,
-      first-turn (record { store = storeOf (a .opened) (a .start-table .now) (a .start-roots .now) (a .end-table .now) (a .end-roots .now); waiting = []; over = false }),
+      first-turn (record { store = storeOf (a .opened) (a .start-table .now) (a .start-roots .now) (a .end-table .now) (a .end-roots .now) (a .time-table .now) (a .time-roots .now); waiting = []; over = false }),
     )
 
 slice-aggregate-turn : tie.Need-slice-aggregate-turn Inv-loop μ-loop
@@ -64,8 +68,14 @@ same-length-3 c = search needs
 same-length-4 : tie.Need-same-length-4 Inv-loop μ-loop
 same-length-4 c = search needs
 
+same-length-5 : tie.Need-same-length-5 Inv-loop μ-loop
+same-length-5 c = search needs
+
+same-length-6 : tie.Need-same-length-6 Inv-loop μ-loop
+same-length-6 c = search needs
+
 returns : tie.Need-returns Inv-loop μ-loop
-returns c = last-turn (c .before .before .before .before .before .before .before .before .before .before .before .before .before .before .before .before .before .before .before .before .loop .inv .9) (c .before .before .before .before .before .before .before .before .before .before .before .turn .ensures .0) (c .if1 .taken)
+returns c = last-turn (c .before .before .before .before .before .before .before .before .before .before .before .before .before .before .before .before .before .before .before .before .before .before .before .before .before .before .loop .inv .11) (c .before .before .before .before .before .before .before .before .before .before .before .before .before .before .before .turn .ensures .0) (c .if1 .taken)
 
 sub-left : tie.Need-sub-left Inv-loop μ-loop
 sub-left c = search needs
@@ -75,7 +85,8 @@ loop-less c = search needs
 
 loop-again : tie.Need-loop-again Inv-loop μ-loop
 loop-again c =
-    let l = c .before .before .before .before .before .before .before .before .before .before .before .before .before .before .before .before .before .before .before .before .loop in (
+    let l = c .before .before .before .before .before .before .before .before .before .before .before .before .before .before .before .before .before .before .before .before .before .before .before .before .before .before .loop in
+    let turned = c .before .before .before .before .before .before .before .before .before .before .before .before .before .before .before .turn .ensures in (
       search needs,
       search needs,
       search needs,
@@ -83,16 +94,12 @@ loop-again c =
       search needs,
       search needs,
       search needs,
-      c .before .before .before .before .before .before .before .before .before .before .before .turn .ensures .1 (c .if1 .left),
+      search needs,
+      search needs,
+      turned .1 (c .if1 .left),
       c .if1 .left,
-      one-turn-more (l .inv .9) (c .before .before .before .before .before .before .before .before .before .before .before .turn .ensures .0) (omega (arith, c .before .before .before .before .before .before .before .before .before .before .before .before .before .before .before .before .before .before .before .loop-test .taken, l .inv .6)) (c .if1 .left),
+      one-turn-more (l .inv .11) (turned .0) (omega (arith, c .before .before .before .before .before .before .before .before .before .before .before .before .before .before .before .before .before .before .before .before .before .before .before .before .before .loop-test .taken, l .inv .8)) (c .if1 .left),
     )
-
-same-length-5 : tie.Need-same-length-5 Inv-loop μ-loop
-same-length-5 c = search needs
-
-same-length-6 : tie.Need-same-length-6 Inv-loop μ-loop
-same-length-6 c = search needs
 
 same-length-7 : tie.Need-same-length-7 Inv-loop μ-loop
 same-length-7 c = search needs
@@ -100,10 +107,22 @@ same-length-7 c = search needs
 same-length-8 : tie.Need-same-length-8 Inv-loop μ-loop
 same-length-8 c = search needs
 
+same-length-9 : tie.Need-same-length-9 Inv-loop μ-loop
+same-length-9 c = search needs
+
+same-length-10 : tie.Need-same-length-10 Inv-loop μ-loop
+same-length-10 c = search needs
+
+same-length-11 : tie.Need-same-length-11 Inv-loop μ-loop
+same-length-11 c = search needs
+
+same-length-12 : tie.Need-same-length-12 Inv-loop μ-loop
+same-length-12 c = search needs
+
 returns-2 : tie.Need-returns-2 Inv-loop μ-loop
 returns-2 c =
     let l = c .before .loop in
-    no-turn-left (l .inv .9) (omega (arith, c .loop-test .left)) (l .inv .8)
+    no-turn-left (l .inv .11) (omega (arith, c .loop-test .left)) (l .inv .10)
 
 pub serve-spec : {M : Type 1} → statement M
 serve-spec =
@@ -119,12 +138,16 @@ serve-spec =
     same-length-2
     same-length-3
     same-length-4
+    same-length-5
+    same-length-6
     returns
     sub-left
     loop-less
     loop-again
-    same-length-5
-    same-length-6
     same-length-7
     same-length-8
+    same-length-9
+    same-length-10
+    same-length-11
+    same-length-12
     returns-2)

@@ -22,10 +22,10 @@ write-front-requires : tie.Need-write-front-requires
 write-front-requires c κs = search needs
 
 keep-rest-requires : tie.Need-keep-rest-requires
-keep-rest-requires c κs = search needs
+keep-rest-requires c κs = (c .before .before .before .before .before .before .before .before .before .before .before .before .before .before .before .before .before .run-front .ensures .1 .0, c .before .before .before .before .before .before .before .before .before .before .before .before .before .before .before .before .before .before .before .before .before .before .before .before .before .before .before .before .read-behind .ensures .0)
 
-sub-t33 : tie.Need-sub-t33
-sub-t33 c = search needs
+sub-t39 : tie.Need-sub-t39
+sub-t39 c = search needs
 
 same-length : tie.Need-same-length
 same-length c = search needs
@@ -40,18 +40,25 @@ same-length-4 : tie.Need-same-length-4
 same-length-4 c = search needs
 
 same-length-5 : tie.Need-same-length-5
-same-length-5 c = c .before .before .before .before .keep-rest .kept .0 ∙ c .before .before .before .before .before .before .before .before .before .before .before .before .before .before .before .before .before .before .before .before .before .before .before .before .before .before .before .read-behind .kept .0
+same-length-5 c = search needs
 
 same-length-6 : tie.Need-same-length-6
 same-length-6 c = search needs
 
+same-length-7 : tie.Need-same-length-7
+same-length-7 c = c .before .before .before .before .keep-rest .kept .0 ∙ c .before .before .before .before .before .before .before .before .before .before .before .before .before .before .before .before .before .before .before .before .before .before .before .before .before .before .before .before .before .before .before .before .before .read-behind .kept .0
+
+same-length-8 : tie.Need-same-length-8
+same-length-8 c = search needs
+
 returns : tie.Need-returns
 returns c =
-    let a = c .before .before .before .before .before .before .before .before .before .before .before .before .before .before .before .before .before .before .before .before .before .before .before .before .before .before .before .before .before .before .before .before .before .before .before .args in
-    let read = c .before .before .before .before .before .before .before .before .before .before .before .before .before .before .before .before .before .before .before .before .before .before .before .before .before .before .before .read-behind in
-    let s : Store = (storeOf (a .head) (a .start-table .now) (a .start-roots .now) (a .end-table .now) (a .end-roots .now)) in
-    let roomy : 2 * length (read .last .0) + longestAnswer ≤ length (a .out .now) = omega (arith, read .kept .0, c .before .before .before .before .before .before .before .before .before .before .before .before .before .before .before .before .before .before .before .before .before .before .before .before .before .before .before .before .before .before .before .before .before .before .before .pre .1 .1) in
-    let is = c .before .before .before .before .before .before .before .before .before .before .before .before .before .before .before .before .before .before .run-front .ensures .0 in
+    let start = c .before .before .before .before .before .before .before .before .before .before .before .before .before .before .before .before .before .before .before .before .before .before .before .before .before .before .before .before .before .before .before .before .before .before .before .before .before .before .before .before .before .before .before in
+    let a = start .args in
+    let read = c .before .before .before .before .before .before .before .before .before .before .before .before .before .before .before .before .before .before .before .before .before .before .before .before .before .before .before .before .before .before .before .before .before .read-behind in
+    let s : Store = storeOf (a .head) (a .start-table .now) (a .start-roots .now) (a .end-table .now) (a .end-roots .now) (a .time-table .now) (a .time-roots .now) in
+    let roomy : 2 * length (read .last .0) + longestAnswer ≤ length (a .out .now) = omega (arith, read .kept .0, start .pre .1 .1) in
+    let is = c .before .before .before .before .before .before .before .before .before .before .before .before .before .before .before .before .before .before .before .before .before .before .run-front .ensures .0 in
     let moved = c .before .before .before .before .keep-rest .ensures in (
       turned s (length (a .out .now)) (a .buffer .now) (a .waiting) (read .last .0) (read .result) (read .ensures .1) (read .ensures .0) is moved refl roomy,
       waits-short s (length (a .out .now)) (a .buffer .now) (a .waiting) (read .last .0) (read .result) (read .ensures .1) (read .ensures .0) is moved refl roomy,
@@ -66,11 +73,13 @@ turn-spec =
     run-front-requires
     write-front-requires
     keep-rest-requires
-    sub-t33
+    sub-t39
     same-length
     same-length-2
     same-length-3
     same-length-4
     same-length-5
     same-length-6
+    same-length-7
+    same-length-8
     returns)

@@ -1,0 +1,2 @@
+-- Starts and ends that are accepted.
+pub mod Accepted
