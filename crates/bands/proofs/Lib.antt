@@ -2,3 +2,4 @@
 pub mod Differences
 pub mod BandLaws
 pub mod BandLookups
+pub mod FewerRoots

@@ -5,9 +5,11 @@ use bands::without;
 use grounds::lookup_input;
 use grounds::question_input;
 use refusals::head_refusal;
+use roots::skip_later;
 use store::Answer;
 use store::Head;
 use tree::Lookup;
+use tree::TreeUse;
 ghost use mathlib.Core.Path.{_≡_};
 ghost use Prim.Native.Nat.{_-_, _≤_};
 ghost use Rattle.store.specs.declared.types.TreeName.the-variants.{Starts, Ends, Time};
@@ -201,8 +203,13 @@ pub fn query(
         return Answer::Refused(refusal);
     }
     if time {
-        // What has gathered before t2, less what had before t1.
-        let used = head.time;
+        // What has gathered before t2, less what had before t1. Both are in one tree: the root list is walked once.
+        let newest = head.time;
+        let entries = skip_later(time_roots, newest.roots as usize, t2 - 1);
+        let used = TreeUse {
+            pages: newest.pages,
+            roots: entries as u32,
+        };
         let until = lookup_band(time_table, time_roots, used, t2 - 1, k1, k2);
         let before = lookup_band_before(time_table, time_roots, used, t1, k1, k2);
         return time_of(until, t2, before, t1);

@@ -3,5 +3,6 @@ mod search;
 mod top;
 
 pub use search::find_root;
+pub use search::skip_later;
 pub use top::Top;
 pub use top::find_top;

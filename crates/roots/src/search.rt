@@ -37,11 +37,12 @@ fn all_later(roots: &[u64], from: usize, t: u32) -> bool
     later as usize == BLOCK
 }
 
-// How many entries are left, of the first `used`, when those at the end are left out that are born after t, a block at a time.
-fn skip_later(roots: &[u64], used: usize, t: u32) -> usize
+// How many entries are left, of the first `used`, when those at the end are left out that are born after t, a block at a time. They are born after every earlier tick too,
+// so that whoever looks up several ticks begins with the latest and walks the list once.
+pub fn skip_later(roots: &[u64], used: usize, t: u32) -> usize
     requires { ⌜ used ≤ length (now roots) ⌝ }
-    ensures { λ r. ⌜ r ≤ length (now (roots .entry)) ⌝ }
-    ensures { λ r. ⌜ rootFor t (take r (now (roots .entry))) ≡ rootFor t (take used (now (roots .entry))) ⌝ }
+    ensures { λ r. ⌜ r ≤ used ⌝ }
+    ensures { λ r. ⌜ ((u : ℕ) → u ≤ t → rootFor u (take r (now (roots .entry))) ≡ rootFor u (take used (now (roots .entry)))) ⌝ }
 {
     let mut left = used;
     while BLOCK <= left {

@@ -1,3 +1,4 @@
+use native.Mathlib.Omega.{arith}
 use mathlib.Core.Path.{_∙_}
 use borrow.Author.Needs.{needs}
 use Rattle.roots.proofs.search.find_root.Statement.{statement}
@@ -10,7 +11,7 @@ walk-roots-requires : tie.Need-walk-roots-requires
 walk-roots-requires c κs = search needs
 
 returns : tie.Need-returns
-returns c = c .walk-roots .ensures ∙ c .before .skip-later .ensures .1
+returns c = c .walk-roots .ensures ∙ c .before .skip-later .ensures .1 (c .before .before .before .args .t) (omega arith)
 
 pub find-root-spec : {M : Type 1} → statement M
 find-root-spec = tie.close (tie.spec skip-later-requires walk-roots-requires returns)

@@ -1,6 +1,6 @@
 use Prim.Native.Nat.{ℕ, _+_, _-_, _≤_, _<_}
 use native.Mathlib.Omega.{arith}
-use mathlib.Core.Path.{_≡_, ap, sym, _∙_}
+use mathlib.Core.Path.{_≡_, refl, ap, sym, _∙_}
 use lib.ListN.{length, take}
 use borrow.Author.Tests.{not-false}
 use Rattle.tree.specs.Tree.{rootFor}
@@ -10,13 +10,13 @@ use Rattle.roots.proofs.search.skip_later.Statement.{statement}
 use Rattle.roots.proofs.search.skip_later.Tie as tie
 
 abbrev Inv-loop : tie.InvT-loop
-Inv-loop roots used t left₀ left = (left ≤ length roots) × (rootFor t (take left roots) ≡ rootFor t (take used roots))
+Inv-loop roots used t left₀ left = (left ≤ used) × (used ≤ length roots) × ((u : ℕ) → u ≤ t → rootFor u (take left roots) ≡ rootFor u (take used roots))
 
 abbrev μ-loop : tie.MeasureT-loop
 μ-loop roots used t left₀ left = left
 
 loop-holds : tie.Need-loop-holds Inv-loop μ-loop
-loop-holds c = search needs
+loop-holds c = (search needs, search needs, λ u earlier. refl)
 
 all-later-requires : tie.Need-all-later-requires Inv-loop μ-loop
 all-later-requires c κs = search needs
@@ -32,9 +32,14 @@ loop-again c =
     let a = c .before .before .before .before .before .args in
     let l = c .before .before .before .loop in
     let whole : l .left - 32 + 32 ≡ l .left = omega arith in
-    let later = root-skip (a .roots .now) (a .t) (l .left - 32) 32 (omega (arith, l .inv .0))
-    (c .before .all-later .ensures (not-false (c .before .all-later .result) (c .if1 .left))) in
-    (omega (arith, l .inv .0), sym later ∙ ap (λ (k : ℕ). rootFor (a .t) (take k (a .roots .now))) whole ∙ l .inv .1)
+    let born = c .before .all-later .ensures (not-false (c .before .all-later .result) (c .if1 .left)) in (
+      omega (arith, l .inv .0),
+      l .inv .1,
+      λ u earlier.
+          sym (root-skip (a .roots .now) u (l .left - 32) 32 (omega (arith, l .inv .0, l .inv .1)) (λ i inside. omega (arith, born i inside)))
+          ∙ ap (λ (k : ℕ). rootFor u (take k (a .roots .now))) whole
+          ∙ l .inv .2 u earlier,
+    )
 
 returns-2 : tie.Need-returns-2 Inv-loop μ-loop
 returns-2 c = search needs
