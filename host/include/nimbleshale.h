@@ -222,7 +222,7 @@ uint8_t nimbleshale_end(uint32_t head[NIMBLESHALE_HEAD_NUMBERS],
  * Accepted: *count becomes the number of passes with k1 <= key < k2 that started before t2 and are open or ended at t1 or later: those that live
  * at some tick of the question. *sum becomes the sum of their weights, *pages the pages opened, at most 16. Nothing else changes, accepted or not.
  * With t1 = 0 no page of the tree of ends is opened, be it spoiled or not: no pass ended before tick 0.
- * Stack: 5,232 bytes.
+ * Stack: 5,200 bytes.
  */
 NIMBLESHALE_MUST_USE
 uint8_t nimbleshale_question(const uint32_t head[NIMBLESHALE_HEAD_NUMBERS],
@@ -239,7 +239,7 @@ uint8_t nimbleshale_question(const uint32_t head[NIMBLESHALE_HEAD_NUMBERS],
  * Refusals: 1, 2, 5, 20, 26, as of a question. It looks at the tree of time alone; those of starts and of ends may be spoiled.
  * Accepted: *total becomes the sum of these products, *pages the pages opened, at most 16. Nothing else changes, accepted or not.
  * The total is exact: it is the sum itself, and not the sum modulo something. With t1 = 0 half as many lookups are made.
- * Stack: 5,232 bytes.
+ * Stack: 5,200 bytes.
  */
 NIMBLESHALE_MUST_USE
 uint8_t nimbleshale_bat_time(const uint32_t head[NIMBLESHALE_HEAD_NUMBERS],
@@ -254,7 +254,7 @@ uint8_t nimbleshale_bat_time(const uint32_t head[NIMBLESHALE_HEAD_NUMBERS],
  * Refusals: 1, 4, 20, 26.
  * Accepted: *count becomes the number of passes with start <= t and key <= k, *sum the sum of their weights, *pages the pages opened, at
  * most 4. Nothing else changes, accepted or not.
- * Stack: 3,088 bytes.
+ * Stack: 3,072 bytes.
  */
 NIMBLESHALE_MUST_USE
 uint8_t nimbleshale_lookup_starts(const uint32_t head[NIMBLESHALE_HEAD_NUMBERS],
@@ -279,7 +279,7 @@ uint8_t nimbleshale_lookup_ends(const uint32_t head[NIMBLESHALE_HEAD_NUMBERS],
  * Accepted: *factor and *constant become the sums of what the starts and ends with tick <= t and key <= k carry, modulo 2^64, and *pages the pages
  * opened, at most 4. Then *factor * t + *constant, modulo 2^64, is weight times ticks lived up to tick t, that tick included, by the passes with
  * key <= k: what bat-time is made of. Nothing else changes, accepted or not.
- * Stack: 3,088 bytes.
+ * Stack: 3,072 bytes.
  */
 NIMBLESHALE_MUST_USE
 uint8_t nimbleshale_lookup_time(const uint32_t head[NIMBLESHALE_HEAD_NUMBERS],
@@ -412,7 +412,7 @@ uint8_t nimbleshale_block_line(const uint8_t block[NIMBLESHALE_BLOCK_BYTES]);
  * are left as the stream's command leaves them.
  *
  * Refusals: none of its own.
- * Stack: 14,376 bytes; a question and a bat-time take 5,216, and a write to another byte than 0 takes 104, which are its arguments.
+ * Stack: 14,376 bytes; a question and a bat-time take 5,184, and a write to another byte than 0 takes 104, which are its arguments.
  */
 void nimbleshale_block_write(uint8_t block[NIMBLESHALE_BLOCK_BYTES], size_t offset, uint8_t value, uint32_t head[NIMBLESHALE_HEAD_NUMBERS],
                              uint64_t *start_table, size_t start_table_length, uint64_t *start_roots, size_t start_roots_length,
