@@ -1,10 +1,11 @@
 -- A head as numbers: its fields and its open passes read and written, and back again.
-use Prim.Native.Nat.{ℕ, zero, suc, _+_, _*_, _≤_, _<_}
+use Prim.Native.Nat.{ℕ, zero, suc, _+_, _*_, _≤_, _<_, min}
 use native.Mathlib.Nat.{add-zero}
 use native.Mathlib.Omega.{arith}
+use native.Mathlib.Decide.{decLe}
 use mathlib.Core.Path.{_≡_, refl, ap, ap₂, sym, _∙_}
 use mathlib.Core.List.{List, [], _∷_, _++_, append-assoc, append-nil}
-use lib.ListN.{length, getD, set, take, drop, length-append, length-drop, take-append-drop}
+use lib.ListN.{length, getD, set, take, drop, length-append, length-take, length-drop, take-append-drop}
 use lib.Seq.{take-suc, take-suc-set, take-all, take-add, length-take-le, drop-cons, drop-drop, drop-at, getD-append-add}
 use Rattle.words.specs.Overwrite.{overwrite}
 use Rattle.words.proofs.OverwriteLaws.{overwrite-none, overwrite-sets, overwrite-more}
@@ -89,6 +90,16 @@ module _ (out : List ℕ) (passes : List OpenPass) (long : length passes ≡ ope
       ∙ sym (numbers-append (take place passes) (p ∷ []))
       ∙ ap numbersOfPasses (sym (take-suc passes place d (omega arith)) ∙ ap (λ (n : ℕ). take n passes) (sym next)))
 
+-- Of the first places there are no more than all
+pub first-places : (passes : List OpenPass) → length passes ≡ openLimit → (places : ℕ) → take (min places openLimit) passes ≡ take places passes
+first-places passes full places = go (decLe places openLimit)
+  where
+    go : Dec (places ≤ openLimit) → take (min places openLimit) passes ≡ take places passes
+    go (yes few) =
+        let same : min places openLimit ≡ places = omega (arith, few) in
+        ap (λ (n : ℕ). take n passes) same
+    go (no more) = take-all (min places openLimit) passes (omega (arith, more, full)) ∙ sym (take-all places passes (omega (arith, more, full)))
+
 -- The fields are set one behind the other, and the passes written behind them
 abbrev pub fieldsSet : List ℕ → Head → List ℕ
 fieldsSet l h =
@@ -165,16 +176,16 @@ pub head-back : (h : Head) → length (h .passes) ≡ openLimit → headOf (numb
 head-back h long = ap (withPasses h) (ap (passesFrom (numbersOf h) fieldNumbers) (sym long) ∙ passes-behind (fieldsOf h) (h .passes) fieldNumbers refl)
 
 -- Where the passes of the other places are those that the numbers have, writing those of the first places is writing them all
-pub others-kept : (ns : List ℕ) (h : Head) (places : ℕ) → length ns ≡ headNumbers → length (h .passes) ≡ openLimit → places ≤ openLimit
+pub others-kept : (ns : List ℕ) (h : Head) (places : ℕ) → length ns ≡ headNumbers → length (h .passes) ≡ openLimit
     → drop places (h .passes) ≡ drop places (headOf ns .passes)
     → headOver ns places h ≡ numbersOf h
 unfolding overwrite
-others-kept ns h places long full few same =
+others-kept ns h places long full same =
     let old : List OpenPass = headOf ns .passes in
     let front : List ℕ = fieldsOf h ++ numbersOfPasses (take places (h .passes)) in
     let old-front : List ℕ = fieldsOf (headOf ns) ++ numbersOfPasses (take places old) in
-    let size = numbers-length (take places (h .passes)) ∙ ap (_*_ numbersOfPass) (length-take-le places (h .passes) (omega (arith, full, few))) in
-    let old-size = numbers-length (take places old) ∙ ap (_*_ numbersOfPass) (length-take-le places old (omega (arith, passes-length ns fieldNumbers openLimit, few))) in
+    let size = numbers-length (take places (h .passes)) ∙ ap (_*_ numbersOfPass) (length-take places (h .passes) ∙ ap (min places) full) in
+    let old-size = numbers-length (take places old) ∙ ap (_*_ numbersOfPass) (length-take places old ∙ ap (min places) (passes-length ns fieldNumbers openLimit)) in
     let as-long : length old-front ≡ 0 + length front = omega (arith, size, old-size) in
     let apart : (xs : List OpenPass) → numbersOfPasses xs ≡ numbersOfPasses (take places xs) ++ numbersOfPasses (drop places xs) =
     λ xs. ap numbersOfPasses (sym (take-append-drop places xs)) ∙ numbers-append (take places xs) (drop places xs) in

@@ -2,7 +2,7 @@
 use store::Head;
 use store::OpenPass;
 ghost use mathlib.Core.Path.{_≡_};
-ghost use Prim.Native.Nat.{_+_, _≤_};
+ghost use Prim.Native.Nat.{_+_, _≤_, min};
 ghost use lib.ListN.{length, take};
 ghost use Rattle.store.specs.Head.{openLimit};
 ghost use Rattle.words.specs.Overwrite.{overwrite};
@@ -33,11 +33,20 @@ fn write_passes(numbers: &mut [u32], head: Head, places: usize)
     }
 }
 
+// A head has no more places than these.
+fn first_places(places: usize) -> usize
+    ensures { λ r. ⌜ r ≡ min places openLimit ⌝ }
+{
+    if places < Head::PLACES {
+        return places;
+    }
+    Head::PLACES
+}
+
 // Writes a head into its lent numbers. Of its open passes only those of the first places are written: the caller knows which places a call may have changed, and they
 // are few.
 pub fn put_head(head: Head, places: usize, numbers: &mut [u32])
     requires { ⌜ length (now numbers) ≡ headNumbers ⌝ }
-    requires { ⌜ places ≤ openLimit ⌝ }
     ensures { λ _. ⌜ now (numbers .exit) ≡ headOver (now (numbers .entry)) places head ⌝ }
 {
     numbers[0] = head.last;
@@ -52,5 +61,5 @@ pub fn put_head(head: Head, places: usize, numbers: &mut [u32])
     let time = head.time;
     numbers[7] = time.pages;
     numbers[8] = time.roots;
-    write_passes(numbers, head, places);
+    write_passes(numbers, head, first_places(places));
 }

@@ -1,6 +1,6 @@
 -- Bursts of events: what an exported call leaves, from what entering the burst hands back.
 use Prim.Native.Nat.{ℕ, zero, suc}
-use mathlib.Core.Path.{_≡_, refl, ap, sym, _∙_}
+use mathlib.Core.Path.{_≡_, refl, ap, _∙_}
 use mathlib.Core.List.{List, []}
 use lib.ListN.{length}
 use Rattle.words.specs.Overwrite.{overwrite}
@@ -14,7 +14,7 @@ use Rattle.burst.specs.BurstReplies.{BurstAs}
 use Rattle.c_numbers.specs.Heads.{fieldNumbers, headNumbers, headOf, headOver}
 use Rattle.firmware.specs.Exported.{Handed, storeIn, handedBack}
 use Rattle.c_numbers.proofs.HeadNumbers.{passes-length}
-use Rattle.firmware.proofs.ExportedLaws.{of-handed, handed-again, all-kept, written-back}
+use Rattle.firmware.proofs.ExportedLaws.{of-handed, handed-again, written-back}
 use Rattle.firmware.proofs.ExportedLists.{tried-places}
 use Rattle.firmware.proofs.KeptPlaces.{all-places}
 use Rattle.firmware.specs.BurstCalls.{LeavesBurst}
@@ -37,30 +37,24 @@ module _ (before : Handed) (events results : List ℕ) {r : BurstReply} {results
   abbrev b : Entered
   b = enterBurst (storeIn before) events (length results)
 
-  -- Refused: nothing was written
-  pub burst-refused : (r .refusal ≡ 0 → ⊥) → LeavesBurst b (r .refusal) (record { handed = before; results = results })
-      (record { handed = record { numbers = before .numbers; lent = lent }; results = results′ })
+  -- The head that the burst handed back was written. A burst that is refused hands back the head that it got
+  pub burst-leaves : {numbers : List ℕ} → numbers ≡ headOver (before .numbers) openLimit (r .head)
+      → LeavesBurst b (r .refusal) (record { handed = before; results = results })
+      (record { handed = record { numbers = numbers; lent = lent }; results = results′ })
   unfolding resultWords
-  burst-refused some =
-      let none = none-tried (burstRefusal events (length results)) (storeIn before) (eventsOf events) (λ z. some (is .refusal ∙ z)) in
-      let list : results′ ≡ results = is .words ∙ ap (λ (l : List _). overwrite results 0 (resultWords l)) (none .0) ∙ overwrite-none results 0 in
-      let kept = all-kept before (none .1) (is .lent-is) in
+  burst-leaves {numbers} put =
+      let places = passes-length (before .numbers) fieldNumbers openLimit in
+      let new = tried-places (burstRefusal events (length results)) (storeIn before) places (eventsOf events) in
+      let left-is = written-back before long (b .store) (all-places (storeIn before .head) (b .store .head) places new) (is .head) (is .lent-is) put in
+      let none : (r .refusal ≡ 0 → ⊥) → (b .answers ≡ []) × (b .store ≡ storeIn before) =
+      λ some. none-tried (burstRefusal events (length results)) (storeIn before) (eventsOf events) (λ z. some (is .refusal ∙ z)) in
+      let list : (r .refusal ≡ 0 → ⊥) → results′ ≡ results =
+      λ some. is .words ∙ ap (λ (l : List _). overwrite results 0 (resultWords l)) (none some .0) ∙ overwrite-none results 0 in
+      let kept : (r .refusal ≡ 0 → ⊥) → record { numbers = numbers; lent = lent } ≡ before =
+      λ some. left-is ∙ ap handedBack (none some .1) ∙ handed-again before long in
       record {
         refusal = is .refusal;
         words = is .words;
-        left = kept ∙ sym (ap handedBack (none .1) ∙ handed-again before long);
-        kept = λ n. λ i. record { handed = kept i; results = list i };
-      }
-
-  -- Entered: the head that the burst handed back was written
-  pub burst-done : r .refusal ≡ 0 → {numbers : List ℕ} → numbers ≡ headOver (before .numbers) openLimit (r .head)
-      → LeavesBurst b 0 (record { handed = before; results = results }) (record { handed = record { numbers = numbers; lent = lent }; results = results′ })
-  burst-done none put =
-      let places = passes-length (before .numbers) fieldNumbers openLimit in
-      let new = tried-places (burstRefusal events (length results)) (storeIn before) places (eventsOf events) in
-      record {
-        refusal = sym none ∙ is .refusal;
-        words = is .words;
-        left = written-back before long (b .store) (all-places (storeIn before .head) (b .store .head) places new) (is .head) (is .lent-is) put;
-        kept = λ some. absurd (some refl);
+        left = left-is;
+        kept = λ some. λ i. record { handed = kept some i; results = list some i };
       }

@@ -1,11 +1,10 @@
 -- Exported calls: what they say and leave, from what the calls of the store hand back.
-use Prim.Native.Nat.{ℕ, _≤_}
-use mathlib.Core.Path.{_≡_, refl, ap, sym, subst, _∙_}
+use Prim.Native.Nat.{ℕ}
+use mathlib.Core.Path.{_≡_, refl, ap, subst, _∙_}
 use mathlib.Core.List.{List}
 use lib.ListN.{length, drop}
 use Rattle.store.specs.declared.types.Head.{Head}
 use Rattle.store.specs.declared.types.Answer.{Answer}
-use Rattle.store.specs.declared.types.Answer.the-variants.{Refused, Opened, Started, Ended, Totals, BatTime}
 use Rattle.store.specs.Trees.{Lent, Store}
 use Rattle.store.specs.Head.{openLimit}
 use Rattle.store.specs.Answers.{refusalOf, valuesOf, Answered}
@@ -44,14 +43,9 @@ call-unchanged s c =
 pub handed-again : (h : Handed) → length (h .numbers) ≡ headNumbers → handedBack (storeIn h) ≡ h
 handed-again h long = ap (λ (ns : List ℕ). record { numbers = ns; lent = h .lent }) (numbers-back (h .numbers) long)
 
--- Slices that were left as a store has them which is the one handed over
-pub all-kept : (h : Handed) {s : Store} → s ≡ storeIn h → {lent : Lent} → lent ≡ s .lent → record { numbers = h .numbers; lent = lent } ≡ h
-all-kept h stays e = ap (λ (l : Lent). record { numbers = h .numbers; lent = l }) (e ∙ ap (λ (s : Store). s .lent) stays)
-
 -- A call leaves the passes from a place on as they were
 pub record KeepsFrom (places : ℕ) (before after : Head) : Type 0 where
   pub full : length (after .passes) ≡ openLimit
-  pub few : places ≤ openLimit
   pub rest : drop places (after .passes) ≡ drop places (before .passes)
 
 -- A head is written in the place of the one before it, its passes as far as they may have changed
@@ -60,7 +54,7 @@ pub written-back : (before : Handed) → length (before .numbers) ≡ headNumber
     → {numbers : List ℕ} → numbers ≡ headOver (before .numbers) places head → record { numbers = numbers; lent = lent } ≡ handedBack s
 written-back before long s {places} kept is lent-is put =
     let numbers-are =
-    put ∙ ap (headOver (before .numbers) places) is ∙ others-kept (before .numbers) (s .head) places long (kept .full) (kept .few) (kept .rest) in
+    put ∙ ap (headOver (before .numbers) places) is ∙ others-kept (before .numbers) (s .head) places long (kept .full) (kept .rest) in
     λ i. record { numbers = numbers-are i; lent = lent-is i }
 
 module _ (c : Call) (before : Handed) {reply : Reply} {lent : Lent} (is : RepliedAs (perform (storeIn before) c) reply lent) where
@@ -70,38 +64,14 @@ module _ (c : Call) (before : Handed) {reply : Reply} {lent : Lent} (is : Replie
   said : (r : ℕ) → r ≡ refusalOf (reply .answer) → r ≡ refusalOf (a .answer)
   said r e = e ∙ ap refusalOf (is .answer)
 
-  -- Refused: no number of the head was written
-  pub leaves-refused : length (before .numbers) ≡ headNumbers → {r : ℕ} → r ≡ refusalOf (reply .answer) → (r ≡ 0 → ⊥)
-      → Leaves a r before (record { numbers = before .numbers; lent = lent })
-  leaves-refused long {r} e some =
-      let stays = call-unchanged (storeIn before) c (λ z. some (said r e ∙ z)) in
-      let kept = all-kept before stays (is .lent-is) in
-      record { refusal = said r e; left = kept ∙ sym (ap handedBack stays ∙ handed-again before long); kept = λ n. kept }
+  -- The head that the call handed back was written, its passes as far as the call may have changed them. A refused call hands back the head that it got
+  pub leaves : length (before .numbers) ≡ headNumbers → {r : ℕ} → r ≡ refusalOf (reply .answer) → {places : ℕ} → KeepsFrom places (storeIn before .head) (a .store .head)
+      → {numbers : List ℕ} → numbers ≡ headOver (before .numbers) places (reply .head) → Leaves a r before (record { numbers = numbers; lent = lent })
+  leaves long {r} e kept put =
+      let left-is = written-back before long (a .store) kept (is .head) (is .lent-is) put in
+      let unchanged : (r ≡ 0 → ⊥) → a .store ≡ storeIn before = λ some. call-unchanged (storeIn before) c (λ z. some (said r e ∙ z)) in
+      record { refusal = said r e; left = left-is; kept = λ some. left-is ∙ ap handedBack (unchanged some) ∙ handed-again before long }
 
-  -- Done: the head that the call handed back was written, its passes as far as the call may have changed them
-  pub leaves-done : length (before .numbers) ≡ headNumbers → {r : ℕ} → r ≡ refusalOf (reply .answer) → r ≡ 0 → {places : ℕ} → KeepsFrom places (storeIn before .head) (a .store .head)
-      → {numbers : List ℕ} → numbers ≡ headOver (before .numbers) places (reply .head) → Leaves a 0 before (record { numbers = numbers; lent = lent })
-  leaves-done long {r} e none kept put =
-      record {
-        refusal = sym none ∙ said r e;
-        left = written-back before long (a .store) kept (is .head) (is .lent-is) put;
-        kept = λ some. absurd (some refl);
-      }
-
-  -- The same of a start, with the pass number that it says, and that a refused one leaves as it was
-  number-kept : (old : ℕ) (b : Answer) → (refusalOf b ≡ 0 → ⊥) → old ≡ numberSaid old (valuesOf b)
-  number-kept old (Refused n) f = refl
-  number-kept old Opened f = refl
-  number-kept old (Started n) f = absurd (f refl)
-  number-kept old Ended f = refl
-  number-kept old (Totals count sum pages) f = refl
-  number-kept old (BatTime total pages) f = refl
-
-  pub start-refused : length (before .numbers) ≡ headNumbers → {r : ℕ} → r ≡ refusalOf (reply .answer) → (r ≡ 0 → ⊥) → {old : ℕ}
-      → Leaves a r before (record { numbers = before .numbers; lent = lent }) × (old ≡ numberSaid old (valuesOf (a .answer)))
-  start-refused long {r} e some {old} = (leaves-refused long e some, number-kept old (a .answer) (λ z. some (said r e ∙ z)))
-
-  pub start-done : length (before .numbers) ≡ headNumbers → {r : ℕ} → r ≡ refusalOf (reply .answer) → r ≡ 0 → {places : ℕ} → KeepsFrom places (storeIn before .head) (a .store .head)
-      → {numbers : List ℕ} → numbers ≡ headOver (before .numbers) places (reply .head) → (old : ℕ) {n : ℕ} → n ≡ numberSaid old (valuesOf (reply .answer))
-      → Leaves a 0 before (record { numbers = numbers; lent = lent }) × (n ≡ numberSaid old (valuesOf (a .answer)))
-  start-done long e none kept put old counts = (leaves-done long e none kept put, counts ∙ ap (λ (x : Answer). numberSaid old (valuesOf x)) (is .answer))
+  -- The pass number that a start says
+  pub number-said : (old : ℕ) {n : ℕ} → n ≡ numberSaid old (valuesOf (reply .answer)) → n ≡ numberSaid old (valuesOf (a .answer))
+  number-said old counts = counts ∙ ap (λ (x : Answer). numberSaid old (valuesOf x)) (is .answer)

@@ -1,7 +1,6 @@
 -- The places of open passes that a packet may change: each start takes the place behind the passes that are open, and its command has as many bytes as an event.
 use Prim.Native.Nat.{ℕ, suc, _+_, _-_, _/_, _≤_, min}
 use native.Mathlib.Omega.{arith}
-use native.Mathlib.Decide.{decLe}
 use mathlib.Core.Path.{_≡_, refl, ap, sym, subst, _∙_}
 use mathlib.Core.Bool.{Bool, true, false, cond}
 use mathlib.Core.List.{List}
@@ -13,7 +12,7 @@ use Rattle.store.specs.declared.types.Head.{Head}
 use Rattle.store.specs.declared.types.FoundPass.{FoundPass}
 use Rattle.store.specs.declared.types.FoundPass.the-variants.{Missing, At}
 use Rattle.store.specs.Trees.{Store}
-use Rattle.store.specs.Head.{openLimit, passOf}
+use Rattle.store.specs.Head.{passOf}
 use Rattle.store.specs.Answers.{Answered, refusedWith}
 use Rattle.store.specs.Calls.{start, end}
 use Rattle.store.specs.Performing.{refusal, served, perform}
@@ -30,7 +29,7 @@ use Rattle.demand.specs.Bursts.{eventBytes}
 use Rattle.firmware.specs.Packets.{changedPlaces}
 use Rattle.firmware.proofs.ExportedLaws.{KeepsFrom}
 use Rattle.firmware.proofs.ExportedLists.{Places, places-stay}
-use Rattle.firmware.proofs.KeptPlaces.{all-places, started, headAfter, by-place}
+use Rattle.firmware.proofs.KeptPlaces.{started, headAfter, by-place}
 
 -- At most n passes more are open, and no place behind these was changed
 pub record Grows (n : ℕ) (a b : Head) : Type 0 where
@@ -138,17 +137,8 @@ packet-grows =
 pub packet-keeps : (room : ℕ) (ended : Bool) (s : Store) (bytes : List ℕ) → Places s
     → KeepsFrom (changedPlaces (s .head .count) (runPiece room ended s bytes .taken)) (s .head) (runPiece room ended s bytes .store .head)
 packet-keeps room ended s bytes long =
-    record { full = new; few = omega arith; rest = go (decLe (s .head .count + f .taken / eventBytes) openLimit) }
-  where
-    f : Fed
-    f = runPiece room ended s bytes
-
-    new : Places (f .store)
-    new = packet-places room ended s bytes long
-
-    places : ℕ
-    places = changedPlaces (s .head .count) (f .taken)
-
-    go : Dec (s .head .count + f .taken / eventBytes ≤ openLimit) → drop places (f .store .head .passes) ≡ drop places (s .head .passes)
-    go (yes less) = packet-grows room ended s bytes long .rest places (omega (arith, less))
-    go (no more) = later (all-places (s .head) (f .store .head) long new) places (omega (arith, more))
+    let taken : ℕ = runPiece room ended s bytes .taken in
+    record {
+      full = packet-places room ended s bytes long;
+      rest = packet-grows room ended s bytes long .rest (changedPlaces (s .head .count) taken) (omega arith);
+    }

@@ -1,11 +1,10 @@
 -- What an exported call says of a packet of commands, and leaves.
-use Prim.Native.Nat.{ℕ, _+_, _/_, min}
+use Prim.Native.Nat.{ℕ, _+_, _/_}
 use mathlib.Core.Path.{_≡_}
 use mathlib.Core.Bool.{cond}
 use mathlib.Core.List.{List, [], _∷_, _++_}
 use lib.ListN.{length}
 use Rattle.words.specs.Overwrite.{overwrite}
-use Rattle.store.specs.Head.{openLimit}
 use Rattle.command.specs.Pieces.{Fed, Piece, Feed, fedWith, feedAfter}
 use Rattle.demand.specs.Bursts.{eventBytes}
 use Rattle.firmware.specs.Exported.{Handed, storeIn, handedBack}
@@ -36,4 +35,4 @@ exportPackets f (p ∷ packets) = fedWith f p .output ++ exportPackets (handedOn
 -- For an inner promise alone: how many places of open passes a packet may change, by the passes that were open and the bytes that it took. A start takes the place
 -- behind the open passes, and its command has as many bytes as an event
 abbrev pub changedPlaces : (count taken : ℕ) → ℕ
-changedPlaces count taken = min (count + taken / eventBytes) openLimit
+changedPlaces count taken = count + taken / eventBytes

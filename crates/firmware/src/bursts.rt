@@ -40,11 +40,6 @@ pub extern "C" fn nimbleshale_burst(
         events,
         results,
     );
-    let refusal = reply.refusal;
-    if refusal != 0 {
-        return refusal;
-    }
-    let after = reply.head;
-    put_head(after, Head::PLACES, head);
-    0
+    put_head(reply.head, Head::PLACES, head);
+    reply.refusal
 }

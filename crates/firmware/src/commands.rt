@@ -18,11 +18,7 @@ ghost use Rattle.firmware.specs.Packets.{changedPlaces, Packet, LeavesOf
 fn changed_places(count: u32, taken: usize) -> usize
     ensures { λ r. ⌜ r ≡ changedPlaces count taken ⌝ }
 {
-    let places = count as usize + taken / EVENT_BYTES;
-    if places < Head::PLACES {
-        return places;
-    }
-    Head::PLACES
+    count as usize + taken / EVENT_BYTES
 }
 
 // Runs as many commands of a packet as have come whole and have room for their answers. Where `ended` is not 0 no byte comes after these, so that a

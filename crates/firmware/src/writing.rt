@@ -1,4 +1,5 @@
-// The calls that write, for C: opening, start and end. The head is lent as an array of numbers; where a call is refused, they and every lent word stay as they are.
+// The calls that write, for C: opening, start and end. The head is lent as an array of numbers; where a call is refused, they and every lent word stay as they are: the
+// head that it hands back is the one that it got.
 use c_numbers::head_of;
 use c_numbers::number_of;
 use c_numbers::put_head;
@@ -46,15 +47,11 @@ pub extern "C" fn nimbleshale_start(
         key,
         weight,
     );
-    let answer = reply.answer;
-    let refusal = refusal_of(answer);
-    if refusal != 0 {
-        return refusal;
-    }
     let after = reply.head;
-    *number = number_of(answer, *number);
     put_head(after, after.count as usize, head);
-    0
+    let answer = reply.answer;
+    *number = number_of(answer, *number);
+    refusal_of(answer)
 }
 
 // The pass of a number ends.
@@ -86,14 +83,10 @@ pub extern "C" fn nimbleshale_end(
         tick,
         number,
     );
-    let answer = reply.answer;
-    let refusal = refusal_of(answer);
-    if refusal != 0 {
-        return refusal;
-    }
     let after = reply.head;
     put_head(after, after.count as usize + 1, head);
-    0
+    let answer = reply.answer;
+    refusal_of(answer)
 }
 
 // Opens a store in the memory that is lent.
@@ -121,12 +114,7 @@ pub extern "C" fn nimbleshale_open(
         time_table,
         time_roots,
     );
+    put_head(reply.head, Head::PLACES, head);
     let answer = reply.answer;
-    let refusal = refusal_of(answer);
-    if refusal != 0 {
-        return refusal;
-    }
-    let after = reply.head;
-    put_head(after, Head::PLACES, head);
-    0
+    refusal_of(answer)
 }

@@ -2,7 +2,7 @@
 use Prim.Native.Nat.{ℕ, zero, suc, _+_, _≤_, _<_, _-_}
 use native.Mathlib.Omega.{arith}
 use native.Mathlib.Decide.{ℕ-discrete}
-use native.Mathlib.Nat.{not-suc-le-zero}
+use native.Mathlib.Nat.{not-suc-le-zero, le-trans}
 use native.Mathlib.Numerals.{sub-one}
 use mathlib.Core.Path.{_≡_, refl, ap, sym, _∙_}
 use mathlib.Core.Bool.{cond}
@@ -10,6 +10,7 @@ use mathlib.Core.List.{List, [], _∷_, _++_}
 use lib.ListN.{length, take, getD}
 use lib.Seq.{take-suc}
 use lib.Dec.{leb}
+use lib.Bits.{bitAnd, and-le-l, and-le-r}
 use borrow.Author.Tests.{le-leb, lt-leb}
 use Rattle.words.specs.Words.{rootBirth, rootPage}
 use Rattle.tree.specs.declared.types.Root.{Root}
@@ -79,6 +80,18 @@ later-more ws t from at later one few before small last all i h = go (ℕ-discre
     go : Dec (i ≡ at) → t < rootBirth (getD ws (from + i) 0)
     go (yes e) = rw e (last (omega arith))
     go (no n) = before (omega arith) i (below n)
+      where
+        below : (i ≡ at → ⊥) → i < at
+        below f = omega (arith, f)
+
+-- One entry more: the bits in common are no more than its birth either
+pub common-more : (ws : List ℕ) (from at common birth : ℕ) → ((i : ℕ) → i < at → common ≤ rootBirth (getD ws (from + i) 0))
+    → birth ≡ rootBirth (getD ws (from + at) 0) → (i : ℕ) → i < at + 1 → bitAnd common birth ≤ rootBirth (getD ws (from + i) 0)
+common-more ws from at common birth before born i h = go (ℕ-discrete i at)
+  where
+    go : Dec (i ≡ at) → bitAnd common birth ≤ rootBirth (getD ws (from + i) 0)
+    go (yes e) = rw (e, ← born) (and-le-r common birth)
+    go (no n) = le-trans (and-le-l common birth) (before i (below n))
       where
         below : (i ≡ at → ⊥) → i < at
         below f = omega (arith, f)

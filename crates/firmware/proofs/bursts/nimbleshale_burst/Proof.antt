@@ -1,7 +1,8 @@
 use mathlib.Core.Path.{_≡_}
 use lib.ListN.{length}
 use Rattle.c_numbers.specs.Heads.{headNumbers}
-use Rattle.firmware.proofs.BurstLaws.{entered-in, burst-refused, burst-done}
+use Rattle.firmware.specs.Exported.{handedOf}
+use Rattle.firmware.proofs.BurstLaws.{entered-in, burst-leaves}
 use borrow.Author.Needs.{needs}
 use Rattle.firmware.proofs.bursts.nimbleshale_burst.Statement.{statement}
 use Rattle.firmware.proofs.bursts.nimbleshale_burst.Tie as tie
@@ -11,6 +12,9 @@ head-of-requires c κs = search needs
 
 enter-burst-requires : tie.Need-enter-burst-requires
 enter-burst-requires c κs = search needs
+
+put-head-requires : tie.Need-put-head-requires
+put-head-requires c κs = search needs
 
 same-length : tie.Need-same-length
 same-length c = search needs
@@ -35,37 +39,11 @@ same-length-7 c = search needs
 
 returns : tie.Need-returns
 returns c =
-    let long : length (c .before .before .before .before .before .before .before .before .before .before .before .before .before .before .before .before .before .before .before .before .before .before .before .before .before .before .before .before .before .before .before .before .before .before .args .head .now) ≡ headNumbers = search needs in
-    burst-refused _ _ _ (entered-in _ _ _ (c .before .before .before .before .before .before .before .before .before .before .before .before .before .before .before .before .before .before .before .before .before .before .before .head-of .ensures) (c .before .before .before .before .before .before .before .before .before .before .before .before .before .before .before .enter-burst .ensures)) long (c .if1 .taken)
-
-put-head-requires : tie.Need-put-head-requires
-put-head-requires c κs = search needs
-
-same-length-8 : tie.Need-same-length-8
-same-length-8 c = search needs
-
-same-length-9 : tie.Need-same-length-9
-same-length-9 c = search needs
-
-same-length-10 : tie.Need-same-length-10
-same-length-10 c = search needs
-
-same-length-11 : tie.Need-same-length-11
-same-length-11 c = search needs
-
-same-length-12 : tie.Need-same-length-12
-same-length-12 c = search needs
-
-same-length-13 : tie.Need-same-length-13
-same-length-13 c = search needs
-
-same-length-14 : tie.Need-same-length-14
-same-length-14 c = search needs
-
-returns-2 : tie.Need-returns-2
-returns-2 c =
-    let long : length (c .before .before .before .before .before .before .before .before .before .before .before .before .before .before .before .before .before .before .before .before .before .before .before .before .before .before .before .before .before .before .before .before .before .before .before .before .before .args .head .now) ≡ headNumbers = search needs in
-    burst-done _ _ _ (entered-in _ _ _ (c .before .before .before .before .before .before .before .before .before .before .before .before .before .before .before .before .before .before .before .before .before .before .before .before .before .before .head-of .ensures) (c .before .before .before .before .before .before .before .before .before .before .before .before .before .before .before .before .before .before .enter-burst .ensures)) long (c .before .before .before .if1 .left) (c .put-head .ensures)
+    let a = c .before .before .before .before .before .before .before .before .before .before .before .before .before .before .before .before .before .before .before .before .before .before .before .before .before .before .before .before .before .before .before .before .before .before .before .args in
+    let before = handedOf (a .head .now) (a .start-table .now) (a .start-roots .now) (a .end-table .now) (a .end-roots .now) (a .time-table .now) (a .time-roots .now) in
+    let long : length (a .head .now) ≡ headNumbers = search needs in
+    let is = entered-in before (a .events .now) (a .results .now) (c .before .before .before .before .before .before .before .before .before .before .before .before .before .before .before .before .before .before .before .before .before .before .before .before .head-of .ensures) (c .before .before .before .before .before .before .before .before .before .before .before .before .before .before .before .before .enter-burst .ensures) in
+    burst-leaves before (a .events .now) (a .results .now) is long (c .put-head .ensures)
 
 pub nimbleshale-burst-spec : {M : Type 1} → statement M
 nimbleshale-burst-spec =
@@ -73,6 +51,7 @@ nimbleshale-burst-spec =
     (tie.spec
     head-of-requires
     enter-burst-requires
+    put-head-requires
     same-length
     same-length-2
     same-length-3
@@ -80,13 +59,4 @@ nimbleshale-burst-spec =
     same-length-5
     same-length-6
     same-length-7
-    returns
-    put-head-requires
-    same-length-8
-    same-length-9
-    same-length-10
-    same-length-11
-    same-length-12
-    same-length-13
-    same-length-14
-    returns-2)
+    returns)

@@ -3,7 +3,7 @@ use lib.ListN.{length}
 use Rattle.c_numbers.specs.Heads.{headNumbers}
 use Rattle.store.specs.Calls.{start}
 use Rattle.firmware.specs.Exported.{handedOf}
-use Rattle.firmware.proofs.ExportedLaws.{replied-in, start-refused, start-done}
+use Rattle.firmware.proofs.ExportedLaws.{replied-in, leaves, number-said}
 use Rattle.firmware.proofs.KeptPlaces.{after-start}
 use borrow.Author.Needs.{needs}
 use Rattle.firmware.proofs.writing.nimbleshale_start.Statement.{statement}
@@ -14,6 +14,15 @@ head-of-requires c κs = search needs
 
 start-requires : tie.Need-start-requires
 start-requires c κs = search needs
+
+cast-put-head : tie.Need-cast-put-head
+cast-put-head c = search needs
+
+put-head-requires : tie.Need-put-head-requires
+put-head-requires c κs = search needs
+
+number-of-requires : tie.Need-number-of-requires
+number-of-requires c κs = search needs
 
 refusal-of-requires : tie.Need-refusal-of-requires
 refusal-of-requires c κs = search needs
@@ -32,39 +41,12 @@ same-length-4 c = search needs
 
 returns : tie.Need-returns
 returns c =
-    let long : length (c .before .before .before .before .before .before .before .before .before .before .before .before .before .before .before .before .before .before .before .before .before .before .before .before .args .head .now) ≡ headNumbers = search needs in
-    start-refused _ _ (replied-in _ _ (c .before .before .before .before .before .before .before .before .before .before .before .before .before .before .before .head-of .ensures) (c .before .before .before .before .before .before .before .before .before .before .start .ensures)) long (c .before .refusal-of .ensures) (c .if1 .taken)
-
-number-of-requires : tie.Need-number-of-requires
-number-of-requires c κs = search needs
-
-cast-put-head : tie.Need-cast-put-head
-cast-put-head c = search needs
-
-put-head-requires : tie.Need-put-head-requires
-put-head-requires c κs =
     let a = c .before .before .before .before .before .before .before .before .before .before .before .before .before .before .before .before .before .before .before .before .before .before .before .before .before .before .before .before .before .args in
     let before = handedOf (a .head .now) (a .start-table .now) (a .start-roots .now) (a .end-table .now) (a .end-roots .now) (a .time-table .now) (a .time-roots .now) in
-    let long : length (c .before .before .before .before .before .before .before .before .before .before .before .before .before .before .before .before .before .before .before .before .before .before .before .before .before .before .before .before .before .args .head .now) ≡ headNumbers = search needs in
-    let is = replied-in (start (a .tick) (a .key) (a .weight)) before (c .before .before .before .before .before .before .before .before .before .before .before .before .before .before .before .before .before .before .before .before .head-of .ensures) (c .before .before .before .before .before .before .before .before .before .before .before .before .before .before .before .start .ensures) in
-    (long, after-start before _ _ _ is (c .before .before .before .before .before .before .refusal-of .ensures) (c .before .before .before .before .before .if1 .left) .few)
-
-same-length-5 : tie.Need-same-length-5
-same-length-5 c = search needs
-
-same-length-6 : tie.Need-same-length-6
-same-length-6 c = search needs
-
-same-length-7 : tie.Need-same-length-7
-same-length-7 c = search needs
-
-same-length-8 : tie.Need-same-length-8
-same-length-8 c = search needs
-
-returns-2 : tie.Need-returns-2
-returns-2 c =
-    let long : length (c .before .before .before .before .before .before .before .before .before .before .before .before .before .before .before .before .before .before .before .before .before .before .before .before .before .before .before .before .before .before .args .head .now) ≡ headNumbers = search needs in
-    start-done _ _ (replied-in _ _ (c .before .before .before .before .before .before .before .before .before .before .before .before .before .before .before .before .before .before .before .before .before .head-of .ensures) (c .before .before .before .before .before .before .before .before .before .before .before .before .before .before .before .before .start .ensures)) long (c .before .before .before .before .before .before .before .refusal-of .ensures) (c .before .before .before .before .before .before .if1 .left) (after-start _ _ _ _ (replied-in _ _ (c .before .before .before .before .before .before .before .before .before .before .before .before .before .before .before .before .before .before .before .before .before .head-of .ensures) (c .before .before .before .before .before .before .before .before .before .before .before .before .before .before .before .before .start .ensures)) (c .before .before .before .before .before .before .before .refusal-of .ensures) (c .before .before .before .before .before .before .if1 .left)) (c .put-head .ensures) (c .before .before .before .before .before .before .before .before .before .before .before .before .before .before .before .before .before .before .before .before .before .before .before .before .before .before .before .before .before .before .args .number .now) (c .before .before .before .number-of .ensures)
+    let long : length (a .head .now) ≡ headNumbers = search needs in
+    let call = start (a .tick) (a .key) (a .weight) in
+    let is = replied-in call before (c .before .before .before .before .before .before .before .before .before .before .before .before .before .before .before .before .before .before .before .before .head-of .ensures) (c .before .before .before .before .before .before .before .before .before .before .before .before .before .before .before .start .ensures) in
+    (leaves call before is long (c .refusal-of .ensures) (after-start before (a .tick) (a .key) (a .weight) is) (c .before .before .before .put-head .ensures), number-said call before is (a .number .now) (c .before .number-of .ensures))
 
 pub nimbleshale-start-spec : {M : Type 1} → statement M
 nimbleshale-start-spec =
@@ -72,17 +54,12 @@ nimbleshale-start-spec =
     (tie.spec
     head-of-requires
     start-requires
+    cast-put-head
+    put-head-requires
+    number-of-requires
     refusal-of-requires
     same-length
     same-length-2
     same-length-3
     same-length-4
-    returns
-    number-of-requires
-    cast-put-head
-    put-head-requires
-    same-length-5
-    same-length-6
-    same-length-7
-    same-length-8
-    returns-2)
+    returns)

@@ -18,8 +18,8 @@ abbrev μ-loop : tie.MeasureT-loop
 loop-holds : tie.Need-loop-holds Inv-loop μ-loop
 loop-holds c = (search needs, search needs, λ u earlier. refl)
 
-all-later-requires : tie.Need-all-later-requires Inv-loop μ-loop
-all-later-requires c κs = search needs
+passes-block-requires : tie.Need-passes-block-requires Inv-loop μ-loop
+passes-block-requires c κs = search needs
 
 returns : tie.Need-returns Inv-loop μ-loop
 returns c = search needs
@@ -32,7 +32,7 @@ loop-again c =
     let a = c .before .before .before .before .before .args in
     let l = c .before .before .before .loop in
     let whole : l .left - 32 + 32 ≡ l .left = omega arith in
-    let born = c .before .all-later .ensures (not-false (c .before .all-later .result) (c .if1 .left)) in (
+    let born = c .before .passes-block .ensures (not-false (c .before .passes-block .result) (c .if1 .left)) in (
       omega (arith, l .inv .0),
       l .inv .1,
       λ u earlier.
@@ -51,7 +51,7 @@ skip-later-spec =
     Inv-loop
     μ-loop
     loop-holds
-    all-later-requires
+    passes-block-requires
     returns
     loop-less
     loop-again
