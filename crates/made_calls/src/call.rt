@@ -1,6 +1,6 @@
 // A call of the book made on the store.
-use pass_book::Asked;
 use pass_book::Call;
+use pass_list::Asked;
 use replies::Reply;
 use store::Answer;
 use store::Head;

@@ -1,7 +1,7 @@
 // What a call leaves beside its answer: the head, and the words that are lent.
-use pass_book::PassBook;
-use pass_book::open_count;
-use pass_book::pass_at;
+use pass_list::PassBook;
+use pass_list::open_count;
+use pass_list::pass_at;
 use random_calls::NUMBERS;
 use random_calls::PASSES;
 use store::Head;

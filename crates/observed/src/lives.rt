@@ -1,8 +1,8 @@
 // What histories reach of closed lives: clicks, and ticks at which many passes end.
 use crate::counts::higher;
 use pass_book::Call;
-use pass_book::PassBook;
-use pass_book::pass_at;
+use pass_list::PassBook;
+use pass_list::pass_at;
 use random_calls::NUMBERS;
 use random_calls::PASSES;
 use store::Answer;

@@ -1,5 +1,5 @@
 // Pages opened, by the words that the store holds: the lengths of the paths of a call's lookups.
-use pass_book::Asked;
+use pass_list::Asked;
 use store::Head;
 use store::TreeName;
 use tree::Row;

@@ -16,12 +16,12 @@ use Rattle.store.specs.Passes.{countWhere}
 use Rattle.store.specs.Book.{isOpen, neverStarted, passNumbered, bookKnows, bookRefusal}
 use Rattle.store.proofs.RefusalLaws.{first-both}
 use Rattle.store.proofs.ArgumentFacts.{arguments-numbered, end-tick, may-start, may-end}
-use Rattle.pass_book.specs.declared.types.PassBook.{PassBook}
+use Rattle.pass_list.specs.declared.types.PassBook.{PassBook}
 use Rattle.pass_book.specs.declared.types.Call.{Call}
 use Rattle.pass_book.specs.declared.types.Call.the-variants as made
-use Rattle.pass_book.specs.PassList.{passAt, passesIn, bookIn}
+use Rattle.pass_list.specs.PassList.{passAt, passesIn, bookIn}
 use Rattle.pass_book.specs.BookCalls.{callOf}
-use Rattle.pass_book.proofs.PassLaws.{passes-length, pass-numbered}
+use Rattle.pass_list.proofs.PassLaws.{passes-length, pass-numbered}
 
 -- A start that its input and the last tick do not refuse
 module _ (ws : List ℕ) (b : PassBook) (tick key weight count : ℕ) (key-fits : key < keyLimit) (some : weight ≡ 0 → ⊥) (light : weight ≤ weightLimit)

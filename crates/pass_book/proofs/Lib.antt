@@ -1,6 +1,4 @@
--- Laws of the lent list as the book's passes, and of a turn.
-pub mod PassLaws
-pub mod WorthLaws
-pub mod TotalLaws
+-- Laws of the book's refusals, of what it says, and of a turn.
 pub mod GroundLaws
+pub mod SaidLaws
 pub mod TurnLaws

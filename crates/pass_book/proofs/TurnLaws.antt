@@ -9,13 +9,13 @@ use Rattle.store.specs.Calls.{Call, opening, start, end, question, batTime, loo
 use Rattle.store.specs.Passes.{Pass}
 use Rattle.store.specs.declared.types.Answer.the-variants.{Refused}
 use Rattle.store.specs.Book.{Book, BookTurn, Fed, neither, pagesLacked, rootLacked, refused, unlessFed, unlessMet, bookRefusal, bookDoes, bookDone, bookTurn}
-use Rattle.pass_book.specs.declared.types.PassBook.{PassBook}
-use Rattle.pass_book.specs.declared.types.Asked.{Asked}
-use Rattle.pass_book.specs.declared.types.Asked.the-variants as ask
+use Rattle.pass_list.specs.declared.types.PassBook.{PassBook}
+use Rattle.pass_list.specs.declared.types.Asked.{Asked}
+use Rattle.pass_list.specs.declared.types.Asked.the-variants as ask
 use Rattle.pass_book.specs.BookCalls.{askedCall}
-use Rattle.pass_book.specs.PassList.{withPass, bookIn}
+use Rattle.pass_list.specs.PassList.{withPass, bookIn}
 use Rattle.pass_book.specs.Turns.{lacked, inWords, TurnsAs}
-use Rattle.pass_book.proofs.PassLaws.{passes-more, passes-ended}
+use Rattle.pass_list.proofs.PassLaws.{passes-more, passes-ended}
 
 module _ (b : Book) (c : Call) where
   abbrev stays : ℕ → BookTurn

@@ -1,7 +1,7 @@
 -- The code's calls, as those of the definitions.
 use Rattle.store.specs.Calls as calls
-use Rattle.pass_book.specs.declared.types.Asked.{Asked}
-use Rattle.pass_book.specs.declared.types.Asked.the-variants as ask
+use Rattle.pass_list.specs.declared.types.Asked.{Asked}
+use Rattle.pass_list.specs.declared.types.Asked.the-variants as ask
 use Rattle.pass_book.specs.declared.types.Call.{Call}
 use Rattle.pass_book.specs.declared.types.Call.the-variants as made
 

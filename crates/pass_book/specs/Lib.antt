@@ -1,5 +1,3 @@
--- The lent list and the code's calls, as the book of the definitions has them.
-pub mod PassList
+-- The code's calls and turns, as the book of the definitions has them.
 pub mod BookCalls
-pub mod Counted
 pub mod Turns

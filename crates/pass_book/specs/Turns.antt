@@ -8,10 +8,10 @@ use Rattle.store.specs.declared.types.Answer.{Answer}
 use Rattle.store.specs.declared.types.Answer.the-variants.{BatTime}
 use Rattle.store.specs.Performing.{totals}
 use Rattle.store.specs.Book.{Book, BookAnswer, BookTurn, Fed, neither, pagesLacked, rootLacked, bookPart, bookSays}
-use Rattle.pass_book.specs.declared.types.Asked.{Asked}
-use Rattle.pass_book.specs.declared.types.Asked.the-variants as ask
+use Rattle.pass_list.specs.declared.types.Asked.{Asked}
+use Rattle.pass_list.specs.declared.types.Asked.the-variants as ask
 use Rattle.pass_book.specs.declared.types.Turn.{Turn}
-use Rattle.pass_book.specs.PassList.{bookIn}
+use Rattle.pass_list.specs.PassList.{bookIn}
 
 -- 27 or 28, or 0
 abbrev pub lacked : Fed → ℕ

@@ -1,9 +1,9 @@
 // "the first refusal of these papers, in their order, 20 and 26 to 28 left out, that its arguments and the book meet", or 0.
-use crate::list::open_count;
-use crate::list::pass_at;
-use crate::types::Asked;
 use crate::types::Call;
-use crate::types::PassBook;
+use pass_list::Asked;
+use pass_list::PassBook;
+use pass_list::open_count;
+use pass_list::pass_at;
 use store::Head;
 use store::OpenPass;
 ghost use mathlib.Core.Path.{_≡_};
@@ -14,7 +14,7 @@ ghost use mathlib.Core.List.{[], _∷_};
 ghost use Rattle.store.specs.Calls.{start, end, question};
 ghost use Rattle.store.specs.Grounds.{keyTooHigh, noTick, argumentGrounds};
 ghost use Rattle.store.specs.Book.{Book, bookRefusal};
-ghost use Rattle.pass_book.specs.PassList.{bookIn};
+ghost use Rattle.pass_list.specs.PassList.{bookIn};
 ghost use Rattle.pass_book.specs.BookCalls.{callOf, askedCall};
 
 fn start_refusal(passes: &[u32], book: PassBook, tick: u32, key: u32, weight: u32) -> u8

@@ -1,13 +1,13 @@
 // What the book says to a call, and what it holds afterwards.
 use crate::grounds::refusal;
-use crate::list::put_end;
-use crate::list::put_pass;
-use crate::totals::totals;
-use crate::types::Asked;
 use crate::types::Call;
-use crate::types::ListedPass;
-use crate::types::PassBook;
 use crate::types::Turn;
+use pass_list::Asked;
+use pass_list::ListedPass;
+use pass_list::PassBook;
+use pass_list::put_end;
+use pass_list::put_pass;
+use pass_list::totals;
 use store::Answer;
 use words::Value;
 ghost use mathlib.Core.Path.{_≡_};
@@ -18,7 +18,7 @@ ghost use Rattle.store.specs.Head.{passLimit};
 ghost use Rattle.store.specs.Calls.{start, end};
 ghost use Rattle.store.specs.Performing.{totals};
 ghost use Rattle.store.specs.Book.{fedBy, bookRefusal, bookDoes, bookDone, bookTurn};
-ghost use Rattle.pass_book.specs.PassList.{bookIn};
+ghost use Rattle.pass_list.specs.PassList.{bookIn};
 ghost use Rattle.pass_book.specs.BookCalls.{callOf, askedCall};
 ghost use Rattle.pass_book.specs.Turns.{lacked, answerOf, SaysAs, TurnsAs};
 

@@ -1,8 +1,8 @@
 // What is asked: one of the trees, and a question or bat-time over the same operands.
 use crate::random::draw;
 use crate::random::one_in;
-use pass_book::Asked;
 use pass_book::Call;
+use pass_list::Asked;
 use store::TreeName;
 
 pub fn drawn_tree(random: &mut u64) -> TreeName {

@@ -1,6 +1,6 @@
 // The book's list of passes in a history: 2,000 passes have a place.
-use pass_book::one_if_open;
-use pass_book::pass_at;
+use pass_list::one_if_open;
+use pass_list::pass_at;
 ghost use Prim.Native.Nat.{_≤_};
 
 pub const PASSES: u32 = 2000;

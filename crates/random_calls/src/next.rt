@@ -10,13 +10,13 @@ use crate::refused_calls::odd_call;
 use crate::shape::Shape;
 use crate::shape::key;
 use crate::shape::tick;
-use pass_book::Asked;
 use pass_book::Call;
-use pass_book::PassBook;
-use pass_book::higher;
-use pass_book::lower;
-use pass_book::open_count;
-use pass_book::pass_at;
+use pass_list::Asked;
+use pass_list::PassBook;
+use pass_list::higher;
+use pass_list::lower;
+use pass_list::open_count;
+use pass_list::pass_at;
 ghost use Prim.Native.Nat.{_≤_, _<_};
 
 fn start_call(random: &mut u64, shape: Shape, book: PassBook) -> Call {

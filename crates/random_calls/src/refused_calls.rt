@@ -2,9 +2,9 @@
 use crate::asked::band_call;
 use crate::asked::drawn_tree;
 use crate::random::draw;
-use pass_book::Asked;
 use pass_book::Call;
-use pass_book::PassBook;
+use pass_list::Asked;
+use pass_list::PassBook;
 
 fn odd_key(random: &mut u64) -> u32 {
     match draw(random, 6) {

@@ -11,13 +11,15 @@ use store::Answer;
 use store::FoundPass;
 use store::Head;
 use store::OpenPass;
+use time_points::time_at_end;
+use time_points::time_at_start;
 use words::Value;
 ghost use Prim.Native.Nat.{ℕ};
 ghost use mathlib.Core.Path.{_≡_};
 ghost use mathlib.Core.List.{List, []};
 ghost use Rattle.store.specs.Trees.{Lent, lentOf, Store, storeOf};
 ghost use Rattle.store.specs.Calls.{start, end};
-ghost use Rattle.store.specs.Writing.{pointOf, timeAtStart, timeAtEnd};
+ghost use Rattle.store.specs.Writing.{pointOf};
 ghost use Rattle.store.specs.Performing.{served, perform};
 ghost use Rattle.replies.specs.Replies.{RepliedAs};
 ghost use Rattle.updates.specs.Accepted.{StartAccepted, EndAccepted, endedAs};
@@ -30,23 +32,6 @@ fn one_pass(weight: u32) -> Value
         count: 1,
         sum: weight as u64,
     }
-}
-
-// What a start adds to the tree of time: at a tick t from then on, the weight times the ticks from the start to t, both included.
-fn time_at_start(tick: u32, weight: u32) -> Value
-    ensures { λ r. ⌜ r ≡ timeAtStart tick 0 weight .value ⌝ }
-{
-    let w = weight as u64;
-    Value::line(w, std::num::wrapping_sub_u64(w, w * (tick as u64)))
-}
-
-// What an end adds to it: at a tick t from then on, the weight times the ticks that have gone by since is taken away, so that what the start added stays as it was at the
-// end.
-fn time_at_end(tick: u32, weight: u32) -> Value
-    ensures { λ r. ⌜ r ≡ timeAtEnd tick 0 weight .value ⌝ }
-{
-    let w = weight as u64;
-    Value::line(std::num::wrapping_sub_u64(0, w), w * (tick as u64))
 }
 
 // An accepted start: a point in each of two trees, and one more open pass. It is a function of its own, as is an accepted end: the copies of the head that the refusals are

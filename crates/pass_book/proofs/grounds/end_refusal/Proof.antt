@@ -1,5 +1,5 @@
 use mathlib.Core.Path.{ap}
-use Rattle.pass_book.specs.declared.types.ListedPass.{ListedPass}
+use Rattle.pass_list.specs.declared.types.ListedPass.{ListedPass}
 use Rattle.pass_book.proofs.GroundLaws.{end-unknown, end-ended, end-accepted}
 use Rattle.tree.proofs.ReplacedRows.{tests}
 use Rattle.store.specs.Refusals.{firstMet}

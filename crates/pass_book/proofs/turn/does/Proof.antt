@@ -3,8 +3,8 @@ use mathlib.Core.Path.{refl, ap, sym}
 use Prim.Native.Nat.{ℕ}
 use mathlib.Core.List.{[], _∷_}
 use Rattle.store.specs.Book.{says}
-use Rattle.pass_book.specs.PassList.{passesIn}
-use Rattle.pass_book.proofs.PassLaws.{passes-length}
+use Rattle.pass_list.specs.PassList.{passesIn}
+use Rattle.pass_list.proofs.PassLaws.{passes-length}
 use Rattle.pass_book.proofs.GroundLaws.{started-few, end-known, end-early}
 use borrow.Author.Needs.{needs}
 use Rattle.pass_book.proofs.turn.does.Statement.{statement}

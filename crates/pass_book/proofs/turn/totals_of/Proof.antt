@@ -1,9 +1,9 @@
 use native.Mathlib.Omega.{arith}
 use mathlib.Core.Path.{ap, _∙_}
 use Rattle.store.specs.Book.{bookPart}
-use Rattle.pass_book.specs.PassList.{bookIn}
-use Rattle.pass_book.proofs.PassLaws.{passes-length}
-use Rattle.pass_book.proofs.TotalLaws.{said-as}
+use Rattle.pass_list.specs.PassList.{bookIn}
+use Rattle.pass_list.proofs.PassLaws.{passes-length}
+use Rattle.pass_book.proofs.SaidLaws.{said-as}
 use borrow.Author.Needs.{needs}
 use Rattle.pass_book.proofs.turn.totals_of.Statement.{statement}
 use Rattle.pass_book.proofs.turn.totals_of.Tie as tie
