@@ -9,7 +9,7 @@ use Rattle.words.proofs.OverwriteLaws.{overwrite-sets}
 use Rattle.store.specs.declared.types.Answer.{Answer}
 use Rattle.store.specs.declared.types.Answer.the-variants.{Refused, Opened, Started, Ended, Totals, BatTime}
 use Rattle.store.specs.Answers.{refusalOf, valuesOf}
-use Rattle.c_numbers.specs.Said.{numberSaid}
+use Rattle.c_answers.specs.Said.{numberSaid}
 use Rattle.demand.specs.Bursts.{newNumber, resultWords}
 
 -- The pass number that an answer says, or 0

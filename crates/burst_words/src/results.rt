@@ -1,6 +1,6 @@
 // The result of an event, in the result list of its burst.
-use c_numbers::number_of;
-use c_numbers::refusal_of;
+use c_answers::number_of;
+use c_answers::refusal_of;
 use store::Answer;
 ghost use mathlib.Core.Path.{_≡_};
 ghost use Prim.Native.Nat.{_+_, _*_, _≤_};

@@ -22,7 +22,7 @@ use Rattle.register_block.specs.Block.{Block, blockBytes, commandAt, operandCou
 use Rattle.register_block.specs.Access.{Device, runFromBlock, writeDevice}
 use Rattle.interpret.proofs.RunLaws.{query-stays}
 use Rattle.registers.proofs.RegisterLaws.{shownFrom, answer-shown}
-use Rattle.c_numbers.specs.Heads.{headNumbers, headOf}
+use Rattle.c_heads.specs.Heads.{headNumbers, headOf}
 use Rattle.firmware.specs.Exported.{Handed, storeIn, handedBack}
 use Rattle.firmware.specs.Packets.{Packet, LeavesOf}
 use Rattle.firmware.specs.BlockCalls.{deviceIn, LeavesWrite}

@@ -11,9 +11,9 @@ use Rattle.store.specs.Head.{openLimit}
 use Rattle.demand.specs.Bursts.{Asked, eventsOf, resultWords, burstRefusal, Entered, unlessRefusedWhole, enterBurst}
 use Rattle.burst.specs.declared.entering.BurstReply.{BurstReply}
 use Rattle.burst.specs.BurstReplies.{BurstAs}
-use Rattle.c_numbers.specs.Heads.{fieldNumbers, headNumbers, headOf, headOver}
+use Rattle.c_heads.specs.Heads.{fieldNumbers, headNumbers, headOf, headOver}
 use Rattle.firmware.specs.Exported.{Handed, storeIn, handedBack}
-use Rattle.c_numbers.proofs.HeadNumbers.{passes-length}
+use Rattle.c_heads.proofs.HeadNumbers.{passes-length}
 use Rattle.firmware.proofs.ExportedLaws.{of-handed, handed-again, written-back}
 use Rattle.firmware.proofs.ExportedLists.{tried-places}
 use Rattle.firmware.proofs.KeptPlaces.{all-places}

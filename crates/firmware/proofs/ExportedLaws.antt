@@ -14,9 +14,9 @@ use Rattle.store.proofs.RefusedOrServed.{refused-or-served}
 use Rattle.store.proofs.Outcomes.{served-answers}
 use Rattle.replies.specs.declared.types.Reply.{Reply}
 use Rattle.replies.specs.Replies.{RepliedAs}
-use Rattle.c_numbers.specs.Heads.{headNumbers, headOf, headOver}
-use Rattle.c_numbers.specs.Said.{numberSaid, Tells}
-use Rattle.c_numbers.proofs.HeadNumbers.{numbers-back, others-kept}
+use Rattle.c_heads.specs.Heads.{headNumbers, headOf, headOver}
+use Rattle.c_answers.specs.Said.{numberSaid, Tells}
+use Rattle.c_heads.proofs.HeadNumbers.{numbers-back, others-kept}
 use Rattle.firmware.specs.Exported.{Handed, storeIn, handedBack, Leaves}
 
 -- What holds of the head that was read and the slices holds of the store that was handed over

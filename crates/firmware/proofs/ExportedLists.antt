@@ -23,9 +23,9 @@ use Rattle.demand.proofs.StepsReady.{store-after, long-after}
 use Rattle.store.proofs.HeadLists.{closed-length}
 use Rattle.refusals.proofs.RefusalParts.{none-of}
 use Rattle.refusals.proofs.FoundPasses.{found-facts}
-use Rattle.c_numbers.specs.Heads.{fieldNumbers, headNumbers, numbersOf}
+use Rattle.c_heads.specs.Heads.{fieldNumbers, headNumbers, numbersOf}
 use Rattle.firmware.specs.Exported.{Handed, storeIn, handedBack, exportAll}
-use Rattle.c_numbers.proofs.HeadNumbers.{passes-length, numbers-length, head-back}
+use Rattle.c_heads.proofs.HeadNumbers.{passes-length, numbers-length, head-back}
 
 -- A store that is handed back and handed over again is as before
 pub store-back : (s : Store) → length (s .head .passes) ≡ openLimit → storeIn (handedBack s) ≡ s

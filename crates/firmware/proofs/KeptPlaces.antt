@@ -19,8 +19,8 @@ use Rattle.refusals.proofs.RefusalParts.{none-of}
 use Rattle.refusals.proofs.FoundPasses.{found-facts}
 use Rattle.replies.specs.declared.types.Reply.{Reply}
 use Rattle.replies.specs.Replies.{RepliedAs}
-use Rattle.c_numbers.specs.Heads.{fieldNumbers}
-use Rattle.c_numbers.proofs.HeadNumbers.{passes-length}
+use Rattle.c_heads.specs.Heads.{fieldNumbers}
+use Rattle.c_heads.proofs.HeadNumbers.{passes-length}
 use Rattle.firmware.specs.Exported.{Handed, storeIn}
 use Rattle.firmware.proofs.ExportedLaws.{KeepsFrom}
 use Rattle.firmware.proofs.ExportedLists.{places-stay}

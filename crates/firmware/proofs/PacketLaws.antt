@@ -12,8 +12,8 @@ use Rattle.command.specs.Pieces as piece
 use Rattle.command.specs.Pieces.{takesNothing, runPiece, Piece, Feed, handedOver, fedWith, feedAfter, writtenAll}
 use Rattle.pieces.specs.declared.pieces.Fed.{Fed}
 use Rattle.pieces.specs.Fed.{FedAs}
-use Rattle.c_numbers.specs.Heads.{fieldNumbers, headNumbers, headOf, headOver}
-use Rattle.c_numbers.proofs.HeadNumbers.{passes-length}
+use Rattle.c_heads.specs.Heads.{fieldNumbers, headNumbers, headOf, headOver}
+use Rattle.c_heads.proofs.HeadNumbers.{passes-length}
 use Rattle.firmware.specs.Exported.{Handed, storeIn, handedBack}
 use Rattle.firmware.specs.Packets.{changedPlaces, LeavesOf, handedOn, exportPackets}
 use Rattle.firmware.proofs.ExportedLaws.{of-handed, written-back}

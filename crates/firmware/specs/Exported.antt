@@ -8,7 +8,7 @@ use Rattle.register_block.specs.Block.{Block}
 use Rattle.register_block.specs.Access.{Device}
 use Rattle.demand.specs.Bursts.{Entered}
 use Rattle.demand.specs.Steps.{Step, performStep, deviceAfter}
-use Rattle.c_numbers.specs.Heads.{headOf, numbersOf}
+use Rattle.c_heads.specs.Heads.{headOf, numbersOf}
 
 -- The head's numbers and the lent slices
 pub record Handed : Type 0 where

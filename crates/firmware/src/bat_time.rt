@@ -1,12 +1,12 @@
 // Bat-time, for C.
-use c_numbers::head_of;
-use c_numbers::tell_time;
+use c_answers::tell_time;
+use c_heads::head_of;
 use store::Head;
 ghost use Prim.Native.Nat.{ℕ};
 ghost use mathlib.Core.List.{List, [], _∷_};
 ghost use Rattle.store.specs.Calls.{batTime};
 ghost use Rattle.store.specs.Performing.{perform};
-ghost use Rattle.c_numbers.specs.Said.{Tells};
+ghost use Rattle.c_answers.specs.Said.{Tells};
 ghost use Rattle.firmware.specs.Exported.{Handed, handedOf, storeIn};
 
 // Bat-time, of a question: the weight of each pass with such a key times the ticks in the window at which it lives, added up.

@@ -1,7 +1,7 @@
 // The register block of the radio chip, for C: 40 lent bytes, any of which are a block.
 use crate::commands::nimbleshale_commands;
-use c_numbers::head_of;
-use c_numbers::open_count;
+use c_heads::head_of;
+use c_heads::open_count;
 use framing::LONGEST_ANSWER;
 use interpret::answer_query;
 use interpret::is_query;
@@ -23,7 +23,7 @@ ghost use lib.ListN.{length, replicate};
 ghost use Rattle.words.specs.Overwrite.{overwrite};
 ghost use Rattle.command.specs.Stream.{queryKind, longestAnswer, runKind};
 ghost use Rattle.register_block.specs.Block.{operandsOf, resetMask, clearBlock, readBlock, lineHigh};
-ghost use Rattle.c_numbers.specs.Heads.{headNumbers};
+ghost use Rattle.c_heads.specs.Heads.{headNumbers};
 ghost use Rattle.firmware.specs.Exported.{Handed, handedOf, storeIn};
 ghost use Rattle.firmware.specs.BlockCalls.{LeavesWrite};
 

@@ -1,7 +1,7 @@
 // A burst of starts and ends from the ear's buffer, for C.
 use burst::enter_burst;
-use c_numbers::head_of;
-use c_numbers::put_head;
+use c_heads::head_of;
+use c_heads::put_head;
 use store::Head;
 ghost use lib.ListN.{length};
 ghost use Rattle.demand.specs.Bursts.{enterBurst};

@@ -1,8 +1,8 @@
 // The command stream, for C: a packet of bytes with several commands.
 use burst_words::EVENT_BYTES;
-use c_numbers::head_of;
-use c_numbers::open_count;
-use c_numbers::put_head;
+use c_heads::head_of;
+use c_heads::open_count;
+use c_heads::put_head;
 use pieces::run_piece;
 use store::Head;
 ghost use mathlib.Core.Path.{_≡_};

@@ -1,13 +1,13 @@
 // The lookup of each tree, for C.
-use c_numbers::head_of;
-use c_numbers::tell;
+use c_answers::tell;
+use c_heads::head_of;
 use store::Head;
 ghost use Prim.Native.Nat.{ℕ};
 ghost use mathlib.Core.List.{List, [], _∷_};
 ghost use Rattle.store.specs.declared.types.TreeName.the-variants.{Starts, Ends, Time};
 ghost use Rattle.store.specs.Calls.{lookupIn};
 ghost use Rattle.store.specs.Performing.{perform};
-ghost use Rattle.c_numbers.specs.Said.{Tells};
+ghost use Rattle.c_answers.specs.Said.{Tells};
 ghost use Rattle.firmware.specs.Exported.{Handed, handedOf, storeIn};
 
 // The lookup of the tree of starts at (t, k).

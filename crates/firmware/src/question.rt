@@ -1,12 +1,12 @@
 // The question, for C.
-use c_numbers::head_of;
-use c_numbers::tell;
+use c_answers::tell;
+use c_heads::head_of;
 use store::Head;
 ghost use Prim.Native.Nat.{ℕ};
 ghost use mathlib.Core.List.{List, [], _∷_};
 ghost use Rattle.store.specs.Calls.{question};
 ghost use Rattle.store.specs.Performing.{perform};
-ghost use Rattle.c_numbers.specs.Said.{Tells};
+ghost use Rattle.c_answers.specs.Said.{Tells};
 ghost use Rattle.firmware.specs.Exported.{Handed, handedOf, storeIn};
 
 // "A question": passes with a key from k1 up to but not k2 that live at a tick from t1 up to but not t2.

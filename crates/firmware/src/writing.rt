@@ -1,15 +1,15 @@
 // The calls that write, for C: opening, start and end. The head is lent as an array of numbers; where a call is refused, they and every lent word stay as they are: the
 // head that it hands back is the one that it got.
-use c_numbers::head_of;
-use c_numbers::number_of;
-use c_numbers::put_head;
-use c_numbers::refusal_of;
+use c_answers::number_of;
+use c_answers::refusal_of;
+use c_heads::head_of;
+use c_heads::put_head;
 use store::Head;
 ghost use mathlib.Core.Path.{_≡_};
 ghost use Rattle.store.specs.Calls.{opening, start, end};
 ghost use Rattle.store.specs.Answers.{valuesOf};
 ghost use Rattle.store.specs.Performing.{perform};
-ghost use Rattle.c_numbers.specs.Said.{numberSaid};
+ghost use Rattle.c_answers.specs.Said.{numberSaid};
 ghost use Rattle.firmware.specs.Exported.{Handed, handedOf, storeIn, Leaves};
 
 // A pass starts; its number goes into a lent number.

@@ -3,7 +3,7 @@ use mathlib.Core.Path.{_≡_, sym, _∙_}
 use lib.ListN.{length}
 use lib.Seq.{length-take-le}
 use Rattle.register_block.specs.Block.{blockBytes}
-use Rattle.c_numbers.specs.Heads.{headNumbers}
+use Rattle.c_heads.specs.Heads.{headNumbers}
 use Rattle.firmware.proofs.BlockLaws.{register-leaves, query-leaves, command-leaves}
 use borrow.Author.Needs.{needs}
 use Rattle.firmware.proofs.blocks.nimbleshale_block_write.Statement.{statement}

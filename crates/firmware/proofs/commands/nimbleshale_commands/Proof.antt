@@ -2,7 +2,7 @@ use mathlib.Core.Path.{_≡_}
 use mathlib.Core.Bool.{not}
 use lib.ListN.{length}
 use lib.Dec.{eqb}
-use Rattle.c_numbers.specs.Heads.{headNumbers}
+use Rattle.c_heads.specs.Heads.{headNumbers}
 use Rattle.firmware.specs.Exported.{handedOf}
 use Rattle.firmware.proofs.PacketLaws.{as-byte, packet-leaves}
 use borrow.Author.Needs.{needs}

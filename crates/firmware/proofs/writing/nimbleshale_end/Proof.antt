@@ -1,6 +1,6 @@
 use mathlib.Core.Path.{_≡_}
 use lib.ListN.{length}
-use Rattle.c_numbers.specs.Heads.{headNumbers}
+use Rattle.c_heads.specs.Heads.{headNumbers}
 use Rattle.store.specs.Calls.{end}
 use Rattle.firmware.specs.Exported.{handedOf}
 use Rattle.firmware.proofs.ExportedLaws.{replied-in, leaves}

@@ -2,7 +2,7 @@
 use store::Answer;
 ghost use mathlib.Core.Path.{_≡_};
 ghost use Rattle.store.specs.Answers.{refusalOf, valuesOf};
-ghost use Rattle.c_numbers.specs.Said.{numberSaid};
+ghost use Rattle.c_answers.specs.Said.{numberSaid};
 
 // An answer's refusal, 0 for none.
 pub fn refusal_of(answer: Answer) -> u8

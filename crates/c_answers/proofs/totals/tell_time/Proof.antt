@@ -1,7 +1,7 @@
 use mathlib.Core.Path.{refl}
 use borrow.Author.Needs.{needs}
-use Rattle.c_numbers.proofs.totals.tell.Statement.{statement}
-use Rattle.c_numbers.proofs.totals.tell.Tie as tie
+use Rattle.c_answers.proofs.totals.tell_time.Statement.{statement}
+use Rattle.c_answers.proofs.totals.tell_time.Tie as tie
 
 enum-known-answer : tie.Need-enum-known-answer
 enum-known-answer c = search needs
@@ -15,11 +15,11 @@ enum-told-2 c = search needs
 enum-told-3 : tie.Need-enum-told-3
 enum-told-3 c = search needs
 
-enum-known-answer-2 : tie.Need-enum-known-answer-2
-enum-known-answer-2 c = search needs
-
 enum-told-4 : tie.Need-enum-told-4
 enum-told-4 c = search needs
+
+enum-known-answer-2 : tie.Need-enum-known-answer-2
+enum-known-answer-2 c = search needs
 
 returns : tie.Need-returns
 returns c = rw (c .before .answer .given .1) (record { refusal = refl; values = refl; kept = λ n. refl })
@@ -34,21 +34,21 @@ returns-4 : tie.Need-returns-4
 returns-4 c = rw (c .enum-told3 .given .1) (record { refusal = refl; values = refl; kept = λ n. refl })
 
 returns-5 : tie.Need-returns-5
-returns-5 c = rw (c .before .answer2 .given .1) (record { refusal = refl; values = refl; kept = λ n. absurd (n refl) })
+returns-5 c = rw (c .enum-told4 .given .1) (record { refusal = refl; values = refl; kept = λ n. refl })
 
 returns-6 : tie.Need-returns-6
-returns-6 c = rw (c .enum-told4 .given .1) (record { refusal = refl; values = refl; kept = λ n. refl })
+returns-6 c = rw (c .before .answer2 .given .1) (record { refusal = refl; values = refl; kept = λ n. absurd (n refl) })
 
-pub tell-spec : {M : Type 1} → statement M
-tell-spec =
+pub tell-time-spec : {M : Type 1} → statement M
+tell-time-spec =
     tie.close
     (tie.spec
     enum-known-answer
     enum-told
     enum-told-2
     enum-told-3
-    enum-known-answer-2
     enum-told-4
+    enum-known-answer-2
     returns
     returns-2
     returns-3

@@ -6,7 +6,7 @@ ghost use Prim.Native.Nat.{_+_, _≤_, min};
 ghost use lib.ListN.{length, take};
 ghost use Rattle.store.specs.Head.{openLimit};
 ghost use Rattle.words.specs.Overwrite.{overwrite};
-ghost use Rattle.c_numbers.specs.Heads.{fieldNumbers, numbersOfPass, headNumbers, numbersOfOne, numbersOfPasses, headOver};
+ghost use Rattle.c_heads.specs.Heads.{fieldNumbers, numbersOfPass, headNumbers, numbersOfOne, numbersOfPasses, headOver};
 
 // Writes a pass over the four numbers from a place on.
 fn write_pass(numbers: &mut [u32], at: usize, pass: OpenPass)

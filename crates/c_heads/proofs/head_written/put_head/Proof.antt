@@ -7,11 +7,11 @@ use Rattle.words.specs.Overwrite.{overwrite}
 use Rattle.tree.proofs.Lists.{length-mapped}
 use Rattle.store.specs.declared.types.OpenPass.{OpenPass}
 use Rattle.store.specs.Head.{openLimit}
-use Rattle.c_numbers.specs.Heads.{fieldNumbers, numbersOfPasses}
-use Rattle.c_numbers.proofs.HeadNumbers.{first-places, fieldsSet, head-written}
+use Rattle.c_heads.specs.Heads.{fieldNumbers, numbersOfPasses}
+use Rattle.c_heads.proofs.HeadNumbers.{first-places, fieldsSet, head-written}
 use borrow.Author.Needs.{needs}
-use Rattle.c_numbers.proofs.head_written.put_head.Statement.{statement}
-use Rattle.c_numbers.proofs.head_written.put_head.Tie as tie
+use Rattle.c_heads.proofs.head_written.put_head.Statement.{statement}
+use Rattle.c_heads.proofs.head_written.put_head.Tie as tie
 
 slice-write-numbers : tie.Need-slice-write-numbers
 slice-write-numbers c = search needs

@@ -5,7 +5,7 @@ use tree::TreeUse;
 ghost use mathlib.Core.Path.{_≡_};
 ghost use Prim.Native.Nat.{_+_, _≤_};
 ghost use lib.ListN.{length};
-ghost use Rattle.c_numbers.specs.Heads.{numbersOfPass, headNumbers, useAt, passAt, headOf};
+ghost use Rattle.c_heads.specs.Heads.{numbersOfPass, headNumbers, useAt, passAt, headOf};
 
 // What a tree uses, in the two numbers from a place on.
 fn read_use(numbers: &[u32], at: usize) -> TreeUse

@@ -2,7 +2,7 @@
 use store::Answer;
 ghost use Prim.Native.Nat.{ℕ};
 ghost use mathlib.Core.List.{List, [], _∷_};
-ghost use Rattle.c_numbers.specs.Said.{Tells};
+ghost use Rattle.c_answers.specs.Said.{Tells};
 
 // Writes an answer's count, sum and pages, and returns its refusal, 0 for none.
 pub fn tell(answer: Answer, count: &mut u64, sum: &mut u64, pages: &mut u32) -> u8

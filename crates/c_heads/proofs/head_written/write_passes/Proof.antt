@@ -5,11 +5,11 @@ use lib.ListN.{length, take}
 use Rattle.words.specs.Overwrite.{overwrite}
 use Rattle.tree.proofs.Lists.{length-mapped}
 use Rattle.store.specs.Head.{openLimit}
-use Rattle.c_numbers.specs.Heads.{fieldNumbers, headNumbers, numbersOfPasses}
-use Rattle.c_numbers.proofs.HeadNumbers.{write-none, write-more}
+use Rattle.c_heads.specs.Heads.{fieldNumbers, headNumbers, numbersOfPasses}
+use Rattle.c_heads.proofs.HeadNumbers.{write-none, write-more}
 use borrow.Author.Needs.{needs}
-use Rattle.c_numbers.proofs.head_written.write_passes.Statement.{statement}
-use Rattle.c_numbers.proofs.head_written.write_passes.Tie as tie
+use Rattle.c_heads.proofs.head_written.write_passes.Statement.{statement}
+use Rattle.c_heads.proofs.head_written.write_passes.Tie as tie
 
 abbrev Inv-loop : tie.InvT-loop
 Inv-loop numbers₀ places head place₀ numbers place =

@@ -1,9 +1,9 @@
 use native.Mathlib.Omega.{arith}
 use lib.ListN.{length-set}
-use Rattle.c_numbers.proofs.HeadNumbers.{four-set}
+use Rattle.c_heads.proofs.HeadNumbers.{four-set}
 use borrow.Author.Needs.{needs}
-use Rattle.c_numbers.proofs.head_written.write_pass.Statement.{statement}
-use Rattle.c_numbers.proofs.head_written.write_pass.Tie as tie
+use Rattle.c_heads.proofs.head_written.write_pass.Statement.{statement}
+use Rattle.c_heads.proofs.head_written.write_pass.Tie as tie
 
 mul-numbers : tie.Need-mul-numbers
 mul-numbers c = search needs

@@ -12,7 +12,7 @@ use Rattle.words.proofs.OverwriteLaws.{overwrite-none, overwrite-sets, overwrit
 use Rattle.store.specs.declared.types.OpenPass.{OpenPass}
 use Rattle.store.specs.declared.types.Head.{Head}
 use Rattle.store.specs.Head.{openLimit}
-use Rattle.c_numbers.specs.Heads.{fieldNumbers, numbersOfPass, headNumbers, passAt, passesFrom, headOf, fieldsOf, numbersOfOne, numbersOfPasses, numbersOf, headOver}
+use Rattle.c_heads.specs.Heads.{fieldNumbers, numbersOfPass, headNumbers, passAt, passesFrom, headOf, fieldsOf, numbersOfOne, numbersOfPasses, numbersOf, headOver}
 
 -- A head with other passes
 abbrev pub withPasses : Head → List OpenPass → Head

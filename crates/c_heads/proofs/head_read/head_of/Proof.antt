@@ -6,11 +6,11 @@ use lib.Seq.{take-all}
 use Rattle.store.specs.declared.types.OpenPass.{OpenPass}
 use Rattle.store.specs.declared.types.Head.{Head}
 use Rattle.store.specs.Head.{openLimit}
-use Rattle.c_numbers.specs.Heads.{fieldNumbers, passesFrom}
-use Rattle.c_numbers.proofs.HeadNumbers.{withPasses, read-more}
+use Rattle.c_heads.specs.Heads.{fieldNumbers, passesFrom}
+use Rattle.c_heads.proofs.HeadNumbers.{withPasses, read-more}
 use borrow.Author.Needs.{needs}
-use Rattle.c_numbers.proofs.head_read.head_of.Statement.{statement}
-use Rattle.c_numbers.proofs.head_read.head_of.Tie as tie
+use Rattle.c_heads.proofs.head_read.head_of.Statement.{statement}
+use Rattle.c_heads.proofs.head_read.head_of.Tie as tie
 
 abbrev Inv-loop : tie.InvT-loop
 Inv-loop numbers head₀ place₀ head place =

@@ -1,0 +1,2 @@
+-- The answers as numbers for C.
+pub mod Said

@@ -1,0 +1,2 @@
+-- The head as numbers for C.
+pub mod Heads
