@@ -12,7 +12,7 @@ use Rattle.store.specs.Answers.{Answered, refusedWith}
 use Rattle.store.specs.Calls.{Call}
 use Rattle.store.specs.Performing.{served, perform}
 use Rattle.store.proofs.RefusedOrServed.{refused-or-served}
-use Rattle.queries.specs.Answers.{queryCall}
+use Rattle.queries.specs.QueryCalls.{queryCall}
 use Rattle.replies.specs.declared.types.Reply.{Reply}
 use Rattle.replies.specs.Replies.{RepliedAs}
 use Rattle.replies.proofs.RepliesAs.{replied}

@@ -23,7 +23,8 @@ use Rattle.refusals.proofs.HeadFacts.{use-words}
 use Rattle.refusals.proofs.RefusalParts.{arguments-pass, head-passes}
 use Rattle.bands.specs.Bands.{without, inBand, bandBefore}
 use Rattle.bands.proofs.BandLookups.{Bands, laterSpoiled, earlierSpoiled, bothFound, bands}
-use Rattle.queries.specs.Answers.{queryCall, answerOf, timeOf}
+use Rattle.found_answers.specs.FoundAnswers.{answerOf, timeOf}
+use Rattle.queries.specs.QueryCalls.{queryCall}
 use Rattle.queries.proofs.ReadAnswers.{head-refuses, pages-refuse, pages-answer}
 
 -- Both take the arguments of a question, and are refused alike for them and for the head

@@ -14,7 +14,7 @@ use Rattle.store.specs.Grounds.{argumentGrounds}
 use Rattle.store.specs.Reading.{isSpoiled, valueOf, pagesOf, PointLookup, foundIn}
 use Rattle.store.specs.Performing.{totals, served, perform}
 use Rattle.refusals.specs.Grounds.{earlier, headGrounds}
-use Rattle.queries.specs.Answers.{answerOf}
+use Rattle.found_answers.specs.FoundAnswers.{answerOf}
 use Rattle.queries.proofs.ReadAnswers.{pages-refuse, pages-answer}
 
 module _ (s : Store) (tree : TreeName) (t k : ℕ) {input head : ℕ} (of-input : input ≡ firstMet (argumentGrounds (lookupIn tree t k)))

@@ -1,2 +1,2 @@
--- What the calls that only read answer.
-pub mod Answers
+-- The calls that only read.
+pub mod QueryCalls

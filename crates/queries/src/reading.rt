@@ -2,36 +2,21 @@
 use bands::lookup_band;
 use bands::lookup_band_before;
 use bands::without;
+use found_answers::answer_of;
+use found_answers::time_of;
 use grounds::lookup_input;
 use grounds::question_input;
 use refusals::head_refusal;
 use roots::skip_later;
 use store::Answer;
 use store::Head;
-use tree::Lookup;
 use tree::TreeUse;
 ghost use mathlib.Core.Path.{_≡_};
-ghost use Prim.Native.Nat.{_-_, _≤_};
 ghost use Rattle.store.specs.declared.types.TreeName.the-variants.{Starts, Ends, Time};
 ghost use Rattle.store.specs.Trees.{Store, storeOf};
 ghost use Rattle.store.specs.Calls.{question, batTime, lookupIn};
-ghost use Rattle.store.specs.Reading.{pagesOf};
 ghost use Rattle.store.specs.Performing.{perform};
-ghost use Rattle.queries.specs.Answers.{queryCall, answerOf, timeOf};
-
-// A lookup's totals, or 26 where it met a spoiled page.
-fn answer_of(found: Lookup) -> Answer
-    ensures { λ r. ⌜ r ≡ answerOf found ⌝ }
-{
-    let Lookup::Found { value, pages } = found else {
-        return Answer::Refused(26);
-    };
-    Answer::Totals {
-        count: value.count,
-        sum: value.sum,
-        pages,
-    }
-}
+ghost use Rattle.queries.specs.QueryCalls.{queryCall};
 
 // The lookup of the tree of starts.
 pub fn lookup_starts(
@@ -133,39 +118,6 @@ pub fn lookup_time(
     }
     let used = head.time;
     answer_of(lookup::lookup(time_table, time_roots, used, t, k as u16))
-}
-
-// The last tick before t; of tick 0, which has none, tick 0 itself.
-fn tick_before(t: u32) -> u32
-    ensures { λ r. ⌜ r ≡ t - 1 ⌝ }
-{
-    if t == 0 {
-        return 0;
-    }
-    t - 1
-}
-
-// Weight times ticks: the line that was found before t2, less the one before t1, each at its own tick. 26 where a lookup met a spoiled page.
-fn time_of(until: Lookup, t2: u32, before: Lookup, t1: u32) -> Answer
-    requires { ⌜ pagesOf until ≤ 8 ⌝ }
-    requires { ⌜ pagesOf before ≤ 8 ⌝ }
-    ensures { λ r. ⌜ r ≡ timeOf until t2 before t1 ⌝ }
-{
-    let Lookup::Found { value, pages } = until else {
-        return Answer::Refused(26);
-    };
-    let Lookup::Found {
-        value: earlier,
-        pages: more,
-    } = before
-    else {
-        return Answer::Refused(26);
-    };
-    let opened = pages + more;
-    Answer::BatTime {
-        total: std::num::wrapping_sub_u64(value.at(tick_before(t2)), earlier.at(tick_before(t1))),
-        pages: opened,
-    }
 }
 
 // A question, or bat-time of the same band and interval: they take the same arguments and are refused alike. Stream and register block call this one function, so that a

@@ -1,7 +1,7 @@
 use lib.Dec.{eqb}
 use Rattle.interpret.proofs.RunLaws.{query-spelled, answers-cut-short, answers-whole}
 use Rattle.store.specs.Trees.{Store, storeOf}
-use Rattle.queries.specs.Answers.{queryCall}
+use Rattle.queries.specs.QueryCalls.{queryCall}
 use borrow.Author.Needs.{needs}
 use Rattle.interpret.proofs.run.answer_query.Statement.{statement}
 use Rattle.interpret.proofs.run.answer_query.Tie as tie

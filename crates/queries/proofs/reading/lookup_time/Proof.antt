@@ -6,7 +6,7 @@ use Rattle.store.specs.Calls.{lookupIn}
 use Rattle.store.proofs.ArgumentFacts.{lookup-bounds}
 use Rattle.refusals.proofs.HeadFacts.{use-words}
 use Rattle.refusals.proofs.RefusalParts.{arguments-pass, head-passes}
-use Rattle.queries.specs.Answers.{answerOf}
+use Rattle.found_answers.specs.FoundAnswers.{answerOf}
 use Rattle.queries.proofs.LookupAnswers.{lookup-answered}
 use Rattle.queries.proofs.ReadAnswers.{head-refuses}
 use borrow.Author.Needs.{needs}

@@ -8,7 +8,7 @@ use Rattle.store.specs.Trees.{Store, treeIn, storeOf}
 use Rattle.bands.specs.Bands.{without}
 use Rattle.bands.proofs.BandLaws.{band-few, band-before-few}
 use Rattle.bands.proofs.FewerRoots.{withRoots, band-same, before-same}
-use Rattle.queries.specs.Answers.{answerOf, timeOf}
+use Rattle.found_answers.specs.FoundAnswers.{answerOf, timeOf}
 use Rattle.queries.proofs.BandAnswers.{query-refused, is-query, some-ticks, may-look-up, question-answered, bat-time-answered}
 use borrow.Author.Needs.{needs}
 use Rattle.queries.proofs.reading.query.Statement.{statement}

@@ -6,10 +6,10 @@ use Rattle.words.proofs.ValueLaws.{taken-away}
 use Rattle.tree.specs.declared.types.Lookup.{Lookup}
 use Rattle.store.specs.declared.types.Answer.the-variants.{BatTime}
 use Rattle.store.specs.Reading.{pagesOf}
-use Rattle.queries.specs.Answers.{timeOf}
+use Rattle.found_answers.specs.FoundAnswers.{timeOf}
 use borrow.Author.Needs.{needs}
-use Rattle.queries.proofs.reading.time_of.Statement.{statement}
-use Rattle.queries.proofs.reading.time_of.Tie as tie
+use Rattle.found_answers.proofs.found.time_of.Statement.{statement}
+use Rattle.found_answers.proofs.found.time_of.Tie as tie
 
 enum-known-until : tie.Need-enum-known-until
 enum-known-until c = search needs

@@ -1,8 +1,8 @@
 use mathlib.Core.Path.{ap, sym}
-use Rattle.queries.specs.Answers.{answerOf}
+use Rattle.found_answers.specs.FoundAnswers.{answerOf}
 use borrow.Author.Needs.{needs}
-use Rattle.queries.proofs.reading.answer_of.Statement.{statement}
-use Rattle.queries.proofs.reading.answer_of.Tie as tie
+use Rattle.found_answers.proofs.found.answer_of.Statement.{statement}
+use Rattle.found_answers.proofs.found.answer_of.Tie as tie
 
 enum-known-found : tie.Need-enum-known-found
 enum-known-found c = search needs

@@ -1,0 +1,2 @@
+-- What is answered by what lookups found.
+pub mod FoundAnswers
