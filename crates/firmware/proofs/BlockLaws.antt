@@ -68,6 +68,10 @@ module _ (before : Handed) (block : Block) (offset value : ℕ) where
         kept = λ other. refl;
       }
 
+  -- A write to byte 0
+  pub at-command : offset ≡ commandAt → {after : Handed} {block′ : Block} → LeavesWrite before block commandAt value after block′ → LeavesWrite before block offset value after block′
+  at-command at {after} {block′} = subst (λ (o : ℕ). LeavesWrite before block o value after block′) (sym at)
+
   abbrev ran : Ran
   ran = runOne (storeIn before) value (operandsOf block)
 

@@ -18,11 +18,10 @@ use registers::show_answer;
 use registers::write_register;
 use store::Head;
 ghost use mathlib.Core.Path.{_≡_};
-ghost use mathlib.Core.Bool.{cond};
-ghost use lib.ListN.{length, replicate};
-ghost use Rattle.words.specs.Overwrite.{overwrite};
-ghost use Rattle.command.specs.Stream.{queryKind, longestAnswer, runKind};
-ghost use Rattle.register_block.specs.Block.{operandsOf, resetMask, clearBlock, readBlock, lineHigh};
+ghost use mathlib.Core.Bool.{true, cond};
+ghost use lib.ListN.{length};
+ghost use Rattle.command.specs.Stream.{isQuery};
+ghost use Rattle.register_block.specs.Block.{commandAt, resetMask, clearBlock, readBlock, lineHigh};
 ghost use Rattle.c_heads.specs.Heads.{headNumbers};
 ghost use Rattle.firmware.specs.Exported.{Handed, handedOf, storeIn};
 ghost use Rattle.firmware.specs.BlockCalls.{LeavesWrite};
@@ -51,8 +50,10 @@ pub extern "C" fn nimbleshale_block_line(block: &[u8; BLOCK_BYTES]) -> u8
     line_high(block) as u8
 }
 
-// The answer to the query whose operands a block has, zero filled. It leaves head and slices.
-fn answer_in_block(
+// The radio side writes the byte of a query to byte 0. It leaves head and slices, so that it needs no frame with a second head.
+fn write_query(
+    block: &mut [u8; BLOCK_BYTES],
+    code: u8,
     head: &[u32],
     start_table: &[u64],
     start_roots: &[u64],
@@ -60,14 +61,14 @@ fn answer_in_block(
     end_roots: &[u64],
     time_table: &[u64],
     time_roots: &[u64],
-    code: u8,
-    block: &[u8; BLOCK_BYTES],
-) -> [u8; LONGEST_ANSWER]
+)
     requires { ⌜ length (now head) ≡ headNumbers ⌝ }
-    ensures { λ r. do
+    requires { ⌜ isQuery code ≡ true ⌝ }
+    ensures { λ _. do
       let handed : Handed = handedOf (now (head .entry)) (now («start_table» .entry)) (now («start_roots» .entry)) (now («end_table» .entry)) (now («end_roots» .entry)) (now («time_table» .entry)) (now («time_roots» .entry))
-      ⌜ r ≡ overwrite (replicate longestAnswer 0) 0 (runKind (storeIn handed) (operandsOf (now (block .entry))) (queryKind code) .output) ⌝ }
+      ⌜ LeavesWrite handed (now (block .entry)) commandAt code handed (now (block .exit)) ⌝ }
 {
+    put_command(block, code);
     let bytes = &block[..];
     let answer = answer_query(
         head_of(head),
@@ -80,7 +81,8 @@ fn answer_in_block(
         code,
         &bytes[OPERANDS..STATUS],
     );
-    answer_bytes(answer)
+    let shown = answer_bytes(answer);
+    show_answer(block, &shown, open_count(head));
 }
 
 // The radio side writes a byte at an offset. Byte 0 runs a command: head and slices are left as the stream's command leaves them. What every write looks at comes first
@@ -108,10 +110,10 @@ pub extern "C" fn nimbleshale_block_write(
         write_register(block, offset, value);
         return;
     }
-    let length = put_command(block, value);
-    // A query leaves the head, so that it needs no frame with a second one.
     if is_query(value) {
-        let answer = answer_in_block(
+        write_query(
+            block,
+            value,
             head,
             start_table,
             start_roots,
@@ -119,13 +121,11 @@ pub extern "C" fn nimbleshale_block_write(
             end_roots,
             time_table,
             time_roots,
-            value,
-            block,
         );
-        show_answer(block, &answer, open_count(head));
         return;
     }
     // Any other command runs as a packet of its own.
+    let length = put_command(block, value);
     let bytes = &block[..];
     let mut answer = [0u8; LONGEST_ANSWER];
     let mut taken: usize = 0;

@@ -3,8 +3,7 @@ use mathlib.Core.Path.{_≡_, sym, _∙_}
 use lib.ListN.{length}
 use lib.Seq.{length-take-le}
 use Rattle.register_block.specs.Block.{blockBytes}
-use Rattle.c_heads.specs.Heads.{headNumbers}
-use Rattle.firmware.proofs.BlockLaws.{register-leaves, query-leaves, command-leaves}
+use Rattle.firmware.proofs.BlockLaws.{register-leaves, at-command, command-leaves}
 use borrow.Author.Needs.{needs}
 use Rattle.firmware.proofs.blocks.nimbleshale_block_write.Statement.{statement}
 use Rattle.firmware.proofs.blocks.nimbleshale_block_write.Tie as tie
@@ -15,20 +14,11 @@ write-register-requires c κs = search needs
 returns : tie.Need-returns
 returns c = register-leaves _ _ _ _ (c .before .before .if1 .taken) (c .write-register .ensures)
 
-put-command-requires : tie.Need-put-command-requires
-put-command-requires c κs = search needs
-
 is-query-requires : tie.Need-is-query-requires
 is-query-requires c κs = search needs
 
-answer-in-block-requires : tie.Need-answer-in-block-requires
-answer-in-block-requires c κs = search needs
-
-open-count-requires : tie.Need-open-count-requires
-open-count-requires c κs = search needs
-
-show-answer-requires : tie.Need-show-answer-requires
-show-answer-requires c κs = search needs
+write-query-requires : tie.Need-write-query-requires
+write-query-requires c κs = (search needs, sym (c .before .before .before .before .before .before .before .before .before .before .is-query .ensures) ∙ c .before .before .before .before .before .before .before .before .before .if2 .taken)
 
 same-length : tie.Need-same-length
 same-length c = search needs
@@ -49,13 +39,14 @@ same-length-6 : tie.Need-same-length-6
 same-length-6 c = search needs
 
 returns-2 : tie.Need-returns-2
-returns-2 c =
-    let long : length (c .before .before .before .before .before .before .before .before .before .before .before .before .before .before .before .before .before .before .before .before .before .before .before .before .before .before .before .args .head .now) ≡ headNumbers = search needs in
-    query-leaves _ _ _ _ (c .before .before .before .before .before .before .before .before .before .before .before .before .before .before .before .before .before .before .before .before .if1 .left) (sym (c .before .before .before .before .before .before .before .before .before .before .before .before .before .before .before .before .before .is-query .ensures) ∙ c .before .before .before .before .before .before .before .before .before .before .before .before .before .before .before .before .if2 .taken) long (c .before .before .before .before .before .before .before .before .before .before .before .before .before .before .before .before .before .before .put-command .ensures .0) (c .before .before .before .before .before .before .answer-in-block .ensures) (c .before .open-count .ensures) (c .show-answer .ensures)
+returns-2 c = at-command _ _ _ _ (c .before .before .before .before .before .before .before .before .before .before .before .before .if1 .left) (c .write-query .ensures)
+
+put-command-requires : tie.Need-put-command-requires
+put-command-requires c κs = search needs
 
 slice-aggregate-nimbleshale-commands : tie.Need-slice-aggregate-nimbleshale-commands
 slice-aggregate-nimbleshale-commands c =
-    let stored = c .before .before .before .before .before .before .before .before .before .before .before .before .put-command in
+    let stored = c .before .before .before .before .before .before .before .before .before .before .put-command in
     let whole : length (stored .last .0) ≡ blockBytes = search needs in
     sym (length-take-le (stored .result) (stored .last .0) (omega (arith, whole, stored .ensures .1 .1)))
 
@@ -65,11 +56,11 @@ slice-aggregate-nimbleshale-commands-2 c = search needs
 nimbleshale-commands-requires : tie.Need-nimbleshale-commands-requires
 nimbleshale-commands-requires c κs = search needs
 
-open-count-requires-2 : tie.Need-open-count-requires-2
-open-count-requires-2 c κs = search needs
+open-count-requires : tie.Need-open-count-requires
+open-count-requires c κs = search needs
 
-show-answer-requires-2 : tie.Need-show-answer-requires-2
-show-answer-requires-2 c κs = search needs
+show-answer-requires : tie.Need-show-answer-requires
+show-answer-requires c κs = search needs
 
 same-length-7 : tie.Need-same-length-7
 same-length-7 c = search needs
@@ -91,9 +82,9 @@ same-length-12 c = search needs
 
 returns-3 : tie.Need-returns-3
 returns-3 c =
-    let stored = c .before .before .before .before .before .before .before .before .before .before .before .before .before .before .before .before .before .before .before .before .before .before .before .before .before .before .before .before .before .before .before .before .before .before .before .put-command in
+    let stored = c .before .before .before .before .before .before .before .before .before .before .before .before .before .before .before .before .before .before .before .before .before .before .before .before .before .before .before .before .before .before .before .before .before .put-command in
     let whole : length (stored .last .0) ≡ blockBytes = search (c .before .before .before .before .before .before .before .before .before .before .before .before .before .before .before .before .before .before .before .before .before .before .before .before .before .before .before .before .before .before .before .before .bytes, c .before .before .before .before .before .before .before .before .before .before .before .before .before .before .before .before .before .before .before .before .before .before .before .before .before .before .before .before .before .before .before .bytes2, needs) in
-    command-leaves _ _ _ _ (c .before .before .before .before .before .before .before .before .before .before .before .before .before .before .before .before .before .before .before .before .before .before .before .before .before .before .before .before .before .before .before .before .before .before .before .before .before .if1 .left) (stored .ensures .0) whole (stored .ensures .1 .0) (c .before .before .before .before .before .before .before .before .before .before .before .before .before .before .before .before .before .before .before .nimbleshale-commands .ensures) (c .before .open-count2 .ensures) (c .show-answer2 .ensures)
+    command-leaves _ _ _ _ (c .before .before .before .before .before .before .before .before .before .before .before .before .before .before .before .before .before .before .before .before .before .before .before .before .before .before .before .before .before .before .before .before .before .before .before .before .before .if1 .left) (stored .ensures .0) whole (stored .ensures .1 .0) (c .before .before .before .before .before .before .before .before .before .before .before .before .before .before .before .before .before .before .before .nimbleshale-commands .ensures) (c .before .open-count .ensures) (c .show-answer .ensures)
 
 pub nimbleshale-block-write-spec : {M : Type 1} → statement M
 nimbleshale-block-write-spec =
@@ -101,11 +92,8 @@ nimbleshale-block-write-spec =
     (tie.spec
     write-register-requires
     returns
-    put-command-requires
     is-query-requires
-    answer-in-block-requires
-    open-count-requires
-    show-answer-requires
+    write-query-requires
     same-length
     same-length-2
     same-length-3
@@ -113,11 +101,12 @@ nimbleshale-block-write-spec =
     same-length-5
     same-length-6
     returns-2
+    put-command-requires
     slice-aggregate-nimbleshale-commands
     slice-aggregate-nimbleshale-commands-2
     nimbleshale-commands-requires
-    open-count-requires-2
-    show-answer-requires-2
+    open-count-requires
+    show-answer-requires
     same-length-7
     same-length-8
     same-length-9
