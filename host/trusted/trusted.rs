@@ -14,7 +14,8 @@ use std::collections::{BTreeMap, BTreeSet};
 use std::process::ExitCode;
 
 /// The public contracts: what each is, and where it stands.
-const ROOTS: [(&str, &str); 15] = [
+const ROOTS: [(&str, &str); 16] = [
+    ("the calls that only read", "tree_lookups"),
     ("the calls that only read", "queries"),
     ("opening a store", "opening"),
     ("the calls that write", "updates"),

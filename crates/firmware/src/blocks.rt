@@ -1,11 +1,11 @@
 // The register block of the radio chip, for C: 40 lent bytes, any of which are a block.
 use crate::commands::nimbleshale_commands;
+use answer_codec::answer_bytes;
 use c_heads::head_of;
 use c_heads::open_count;
 use framing::LONGEST_ANSWER;
 use interpret::answer_query;
 use interpret::is_query;
-use pieces::answer_bytes;
 use registers::BLOCK_BYTES;
 use registers::OPERANDS;
 use registers::RESET_MASK;

@@ -32,7 +32,7 @@ pub extern "C" fn nimbleshale_lookup_starts(
       let after : List ℕ = now (count .exit) ∷ (now (sum .exit) ∷ (now (pages .exit) ∷ []))
       ⌜ Tells (perform (storeIn handed) (lookupIn Starts t k) .answer) r before after ⌝ }
 {
-    let answer = queries::lookup_starts(
+    let answer = tree_lookups::lookup_starts(
         head_of(head),
         start_table,
         start_roots,
@@ -68,7 +68,7 @@ pub extern "C" fn nimbleshale_lookup_ends(
       let after : List ℕ = now (count .exit) ∷ (now (sum .exit) ∷ (now (pages .exit) ∷ []))
       ⌜ Tells (perform (storeIn handed) (lookupIn Ends t k) .answer) r before after ⌝ }
 {
-    let answer = queries::lookup_ends(
+    let answer = tree_lookups::lookup_ends(
         head_of(head),
         start_table,
         start_roots,
@@ -105,7 +105,7 @@ pub extern "C" fn nimbleshale_lookup_time(
       let after : List ℕ = now (factor .exit) ∷ (now (constant .exit) ∷ (now (pages .exit) ∷ []))
       ⌜ Tells (perform (storeIn handed) (lookupIn Time t k) .answer) r before after ⌝ }
 {
-    let answer = queries::lookup_time(
+    let answer = tree_lookups::lookup_time(
         head_of(head),
         start_table,
         start_roots,

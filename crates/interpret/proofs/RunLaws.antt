@@ -19,8 +19,6 @@ use Rattle.replies.proofs.RepliesAs.{replied}
 use Rattle.codec.specs.Bytes.{operand}
 use Rattle.command.specs.Stream.{Kind, command, queryCommand, questionCommand, batTimeCommand, queryKind, answered}
 use Rattle.command.proofs.KindLaws.{cut-short, whole}
-use Rattle.events.specs.declared.reading.Event.{Event}
-use Rattle.events.specs.Events.{answerOf}
 
 -- A call that answers and leaves the store leaves it where it is refused, too
 query-keeps : (s : Store) (call : Call) → served s call .store ≡ s → perform s call .store ≡ s
@@ -66,8 +64,3 @@ module _ (s : Store) (bytes : List ℕ) where
   -- A byte that stands for a kind of command
   pub of-kind : {a b : Kind} → a ≡ b → {r : Reply} {lent : Lent} → RepliedAs (answered s bytes b) r lent → RepliedAs (answered s bytes a) r lent
   of-kind e x = replied (ap (answered s bytes) e) x
-
-  -- The reply to the event that was taken from the bytes is the reply to them
-  pub event-replies : (kind : Kind) {e e′ : Event} → ((s : Store) → answerOf s e ≡ answered s bytes kind) → e ≡ e′ → {r : Reply} {lent : Lent}
-      → RepliedAs (answerOf s e′) r lent → RepliedAs (answered s bytes kind) r lent
-  event-replies kind read is x = replied (sym (read s) ∙ ap (answerOf s) is) x

@@ -20,7 +20,7 @@ fn look_up(
 ) -> Answer {
     match tree {
         TreeName::Starts => {
-            queries::lookup_starts(
+            tree_lookups::lookup_starts(
                 head,
                 start_table,
                 start_roots,
@@ -33,7 +33,7 @@ fn look_up(
             )
         }
         TreeName::Ends => {
-            queries::lookup_ends(
+            tree_lookups::lookup_ends(
                 head,
                 start_table,
                 start_roots,
@@ -46,7 +46,7 @@ fn look_up(
             )
         }
         TreeName::Time => {
-            queries::lookup_time(
+            tree_lookups::lookup_time(
                 head,
                 start_table,
                 start_roots,

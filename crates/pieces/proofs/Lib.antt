@@ -1,3 +1,2 @@
 -- Laws of pieces.
-pub mod AnswerLaws
 pub mod PieceRuns

@@ -1,5 +1,5 @@
 // A piece of the stream: as many of its commands as have come and as there is room for answers.
-use crate::answers::put_answer;
+use answer_codec::put_answer;
 use framing::command_length;
 use framing::goes_on;
 use framing::must_wait;

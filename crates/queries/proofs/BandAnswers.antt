@@ -25,7 +25,7 @@ use Rattle.bands.specs.Bands.{without, inBand, bandBefore}
 use Rattle.bands.proofs.BandLookups.{Bands, laterSpoiled, earlierSpoiled, bothFound, bands}
 use Rattle.found_answers.specs.FoundAnswers.{answerOf, timeOf}
 use Rattle.queries.specs.QueryCalls.{queryCall}
-use Rattle.queries.proofs.ReadAnswers.{head-refuses, pages-refuse, pages-answer}
+use Rattle.refusals.proofs.ReadAnswers.{head-refuses, pages-refuse, pages-answer}
 
 -- Both take the arguments of a question, and are refused alike for them and for the head
 pub query-refused : (s : Store) (time : Bool) (k1 k2 t1 t2 : ℕ) {input head : ℕ} → input ≡ firstMet (questionGrounds k1 k2 t1 t2)

@@ -1,4 +1,2 @@
--- Laws of what the calls that read answer.
-pub mod ReadAnswers
-pub mod LookupAnswers
+-- Laws of what a question and bat-time answer.
 pub mod BandAnswers

@@ -1,10 +1,9 @@
-// The calls that only read: the lookup of each tree, and the question and bat-time, which are made of lookups.
+// The question and bat-time, which are made of lookups.
 use bands::lookup_band;
 use bands::lookup_band_before;
 use bands::without;
 use found_answers::answer_of;
 use found_answers::time_of;
-use grounds::lookup_input;
 use grounds::question_input;
 use refusals::head_refusal;
 use roots::skip_later;
@@ -12,113 +11,10 @@ use store::Answer;
 use store::Head;
 use tree::TreeUse;
 ghost use mathlib.Core.Path.{_≡_};
-ghost use Rattle.store.specs.declared.types.TreeName.the-variants.{Starts, Ends, Time};
 ghost use Rattle.store.specs.Trees.{Store, storeOf};
-ghost use Rattle.store.specs.Calls.{question, batTime, lookupIn};
+ghost use Rattle.store.specs.Calls.{question, batTime};
 ghost use Rattle.store.specs.Performing.{perform};
 ghost use Rattle.queries.specs.QueryCalls.{queryCall};
-
-// The lookup of the tree of starts.
-pub fn lookup_starts(
-    head: Head,
-    start_table: &[u64],
-    start_roots: &[u64],
-    end_table: &[u64],
-    end_roots: &[u64],
-    time_table: &[u64],
-    time_roots: &[u64],
-    t: u32,
-    k: u32,
-) -> Answer
-    ensures { λ r. do
-      let s : Store = storeOf head (now («start_table» .entry)) (now («start_roots» .entry)) (now («end_table» .entry)) (now («end_roots» .entry)) (now («time_table» .entry)) (now («time_roots» .entry))
-      ⌜ r ≡ perform s (lookupIn Starts t k) .answer ⌝ }
-{
-    let input = lookup_input(t, k);
-    let refusal = head_refusal(
-        head,
-        start_table,
-        start_roots,
-        end_table,
-        end_roots,
-        time_table,
-        time_roots,
-        input,
-    );
-    if refusal != 0 {
-        return Answer::Refused(refusal);
-    }
-    let used = head.starts;
-    answer_of(lookup::lookup(start_table, start_roots, used, t, k as u16))
-}
-
-// The lookup of the tree of ends.
-pub fn lookup_ends(
-    head: Head,
-    start_table: &[u64],
-    start_roots: &[u64],
-    end_table: &[u64],
-    end_roots: &[u64],
-    time_table: &[u64],
-    time_roots: &[u64],
-    t: u32,
-    k: u32,
-) -> Answer
-    ensures { λ r. do
-      let s : Store = storeOf head (now («start_table» .entry)) (now («start_roots» .entry)) (now («end_table» .entry)) (now («end_roots» .entry)) (now («time_table» .entry)) (now («time_roots» .entry))
-      ⌜ r ≡ perform s (lookupIn Ends t k) .answer ⌝ }
-{
-    let input = lookup_input(t, k);
-    let refusal = head_refusal(
-        head,
-        start_table,
-        start_roots,
-        end_table,
-        end_roots,
-        time_table,
-        time_roots,
-        input,
-    );
-    if refusal != 0 {
-        return Answer::Refused(refusal);
-    }
-    let used = head.ends;
-    answer_of(lookup::lookup(end_table, end_roots, used, t, k as u16))
-}
-
-// The lookup of the tree of time: the factor and the constant stand as count and sum.
-pub fn lookup_time(
-    head: Head,
-    start_table: &[u64],
-    start_roots: &[u64],
-    end_table: &[u64],
-    end_roots: &[u64],
-    time_table: &[u64],
-    time_roots: &[u64],
-    t: u32,
-    k: u32,
-) -> Answer
-    ensures { λ r. do
-      let s : Store = storeOf head (now («start_table» .entry)) (now («start_roots» .entry)) (now («end_table» .entry)) (now («end_roots» .entry)) (now («time_table» .entry)) (now («time_roots» .entry))
-      ⌜ r ≡ perform s (lookupIn Time t k) .answer ⌝ }
-{
-    let input = lookup_input(t, k);
-    let refusal = head_refusal(
-        head,
-        start_table,
-        start_roots,
-        end_table,
-        end_roots,
-        time_table,
-        time_roots,
-        input,
-    );
-    if refusal != 0 {
-        return Answer::Refused(refusal);
-    }
-    let used = head.time;
-    answer_of(lookup::lookup(time_table, time_roots, used, t, k as u16))
-}
 
 // A question, or bat-time of the same band and interval: they take the same arguments and are refused alike. Stream and register block call this one function, so that a
 // head which is handed on needs no further copy.

@@ -9,3 +9,4 @@ pub mod TwoEntries
 pub mod StartParts
 pub mod EndParts
 pub mod Outcomes
+pub mod ReadAnswers

@@ -1,5 +1,4 @@
 // The registers of the block, in the 40 bytes that the radio side sees.
-mod bits;
 mod layout;
 mod registers;
 mod showing;

@@ -1,8 +1,4 @@
 // Reset, read, line, and the writes that run no command.
-use crate::bits::any_of_both;
-use crate::bits::cleared;
-use crate::bits::flag_byte;
-use crate::bits::flags_in;
 use crate::layout::BLOCK_BYTES;
 use crate::layout::COMMAND;
 use crate::layout::FLAGS;
@@ -10,6 +6,10 @@ use crate::layout::MASK;
 use crate::layout::REGISTERS_END;
 use crate::layout::STATUS;
 use codec::put_number;
+use flag_bits::any_of_both;
+use flag_bits::cleared;
+use flag_bits::flag_byte;
+use flag_bits::flags_in;
 ghost use mathlib.Core.Path.{_≡_};
 ghost use Rattle.register_block.specs.Block.{clearBlock, readBlock, lineHigh, registerWritten};
 

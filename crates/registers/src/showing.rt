@@ -1,11 +1,11 @@
 // What a command leaves in the block.
-use crate::bits::flag_byte;
 use crate::layout::BLOCK_BYTES;
 use crate::layout::COMMAND;
 use crate::layout::FLAGS;
 use crate::layout::RESULT;
 use crate::layout::STATUS;
 use codec::put_bytes;
+use flag_bits::flag_byte;
 use framing::LONGEST_ANSWER;
 use framing::operand_count;
 use register_block::Flags;

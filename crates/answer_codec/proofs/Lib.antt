@@ -1,0 +1,2 @@
+-- Laws of an answer's bytes.
+pub mod AnswerLaws

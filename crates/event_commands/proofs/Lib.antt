@@ -1,0 +1,2 @@
+-- Laws of the commands that enter points.
+pub mod EventReplies

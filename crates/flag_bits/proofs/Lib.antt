@@ -1,0 +1,2 @@
+-- Laws of flags.
+pub mod FlagLaws

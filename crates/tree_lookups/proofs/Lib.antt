@@ -1,0 +1,2 @@
+-- Laws of what a lookup answers.
+pub mod LookupAnswers
