@@ -1,5 +1,4 @@
 // A history: calls made on a store and put to the book, and their answers compared.
-use made_calls::Outcome;
 use made_calls::made;
 use observed::Counts;
 use observed::Lives;
@@ -7,6 +6,7 @@ use observed::head_agrees;
 use observed::height;
 use observed::higher;
 use observed::same;
+use outcomes::Outcome;
 use pass_book::Call;
 use pass_book::book_turn;
 use pass_list::PassBook;

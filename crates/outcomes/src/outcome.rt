@@ -1,5 +1,4 @@
-// A call made on the store, and all that is seen of it.
-use crate::call::make;
+// All that is seen of a call that was made on the store.
 use observed::height;
 use observed::memory_sum;
 use observed::pages_opened;
@@ -140,7 +139,7 @@ pub struct Outcome {
 
 // The call's answer and head, and what the words then say beside them. `head` is the head before the call, and `before` the sum of the
 // words.
-fn observed(
+pub fn outcome_of(
     head: Head,
     reply: Reply,
     before: u64,
@@ -181,48 +180,4 @@ fn observed(
         hints,
         unchanged: before == now,
     }
-}
-
-// Makes a call on the store.
-pub fn made(
-    head: Head,
-    start_table: &mut [u64],
-    start_roots: &mut [u64],
-    end_table: &mut [u64],
-    end_roots: &mut [u64],
-    time_table: &mut [u64],
-    time_roots: &mut [u64],
-    call: Call,
-) -> Outcome {
-    let before = memory_sum(
-        head,
-        start_table,
-        start_roots,
-        end_table,
-        end_roots,
-        time_table,
-        time_roots,
-    );
-    let reply = make(
-        head,
-        start_table,
-        start_roots,
-        end_table,
-        end_roots,
-        time_table,
-        time_roots,
-        call,
-    );
-    observed(
-        head,
-        reply,
-        before,
-        start_table,
-        start_roots,
-        end_table,
-        end_roots,
-        time_table,
-        time_roots,
-        call,
-    )
 }

@@ -1,6 +1,6 @@
 use borrow.Author.Needs.{needs}
-use Rattle.made_calls.proofs.outcome.made.Statement.{statement}
-use Rattle.made_calls.proofs.outcome.made.Tie as tie
+use Rattle.made_calls.proofs.seen.made.Statement.{statement}
+use Rattle.made_calls.proofs.seen.made.Tie as tie
 
 memory-sum-requires : tie.Need-memory-sum-requires
 memory-sum-requires c κs = search needs
@@ -8,8 +8,8 @@ memory-sum-requires c κs = search needs
 make-requires : tie.Need-make-requires
 make-requires c κs = search needs
 
-observed-requires : tie.Need-observed-requires
-observed-requires c κs = search needs
+outcome-of-requires : tie.Need-outcome-of-requires
+outcome-of-requires c κs = search needs
 
 same-length : tie.Need-same-length
 same-length c = c .before .before .before .before .before .before .before .before .before .before .before .before .before .before .before .before .before .before .before .make .kept .1 .0
@@ -38,7 +38,7 @@ made-spec =
     (tie.spec
     memory-sum-requires
     make-requires
-    observed-requires
+    outcome-of-requires
     same-length
     same-length-2
     same-length-3
