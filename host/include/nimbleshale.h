@@ -173,7 +173,7 @@ extern "C" {
  * Refusals: 8, where any of the three trees has too little.
  * Accepted: the last tick, the number started and the number open become 0, pages and roots used of each tree 1, all of the open passes 0. Of each
  * table the first 260 words are written, of each root list the first word; every other word stays as it was.
- * Stack: 152 bytes.
+ * Stack: 2,040 bytes.
  */
 NIMBLESHALE_MUST_USE
 uint8_t nimbleshale_open(uint32_t head[NIMBLESHALE_HEAD_NUMBERS],
@@ -412,7 +412,7 @@ uint8_t nimbleshale_block_line(const uint8_t block[NIMBLESHALE_BLOCK_BYTES]);
  * are left as the stream's command leaves them.
  *
  * Refusals: none of its own.
- * Stack: 14,376 bytes; a question and a bat-time take 5,184, and a write to another byte than 0 takes 104, which are its arguments.
+ * Stack: 14,344 bytes; a question and a bat-time take 5,152, and a write to another byte than 0 takes 104, which are its arguments.
  */
 void nimbleshale_block_write(uint8_t block[NIMBLESHALE_BLOCK_BYTES], size_t offset, uint8_t value, uint32_t head[NIMBLESHALE_HEAD_NUMBERS],
                              uint64_t *start_table, size_t start_table_length, uint64_t *start_roots, size_t start_roots_length,
