@@ -11,7 +11,7 @@ use roots::{find_root, skip_later};
 use tree::{Lookup, TreeUse};
 
 // What a tree has in a band before t2, and before t1.
-#[derive(Drop)]
+#[derive(Clone, Copy)]
 pub struct TwoBands {
     pub until: Lookup,
     pub before: Lookup,

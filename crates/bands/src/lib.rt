@@ -1,4 +1,6 @@
 // What a tree has in a band of keys: at a tick, before one, and before each of two.
+#![tactic(auto)]
+
 mod band;
 mod interval;
 

@@ -11,7 +11,7 @@ use replies::Reply;
 use store::Head;
 
 // 31 or 0, and the head for the next call: refused, the head that was handed in.
-#[derive(Drop)]
+#[derive(Clone, Copy)]
 pub struct BurstReply {
     pub refusal: u8,
     pub head: Head,

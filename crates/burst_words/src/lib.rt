@@ -1,4 +1,6 @@
 // What the bytes and the result list of a burst must be, and the two words that an event of it gets.
+#![tactic(auto)]
+
 mod refusal;
 mod results;
 

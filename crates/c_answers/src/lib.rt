@@ -1,4 +1,6 @@
 // The answers as numbers: what firmware in C is given back.
+#![tactic(auto)]
+
 mod said;
 mod totals;
 

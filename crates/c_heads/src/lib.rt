@@ -1,4 +1,6 @@
 // The head as numbers: what firmware in C hands over and is given back.
+#![tactic(auto)]
+
 mod head_read;
 mod head_written;
 

@@ -1,4 +1,6 @@
 // The command program: commands from standard input, what they say to standard output, over a store of its own.
+#![tactic(auto)]
+
 ghost use Rattle.std.specs.Prelude.{◌≡◌};
 ghost use Rattle.store.specs.Trees.{Store, store_of};
 ghost use Rattle.command.specs.Stream.{program_tree};

@@ -7,7 +7,7 @@ ghost use Rattle.events.specs.Events.{answer_of};
 use codec::{number2, number4};
 
 // What the bytes of an event ask for, or the number of its refusal: 6 for an unknown kind, 7 where operands lack.
-#[derive(Drop)]
+#[derive(Clone, Copy)]
 pub enum Event {
     Start { tick: u32, key: u32, weight: u32 },
     End { tick: u32, number: u32 },

@@ -9,7 +9,7 @@ use random_calls::{Keys, NUMBERS, Pace, Shape, draw};
 const SMALL: u32 = 20;
 
 // The part of the memory that a history is lent, how long it is, and how seldom the store is opened anew.
-#[derive(Drop)]
+#[derive(Clone, Copy)]
 struct Part {
     words: usize,
     places: usize,

@@ -10,7 +10,7 @@ use random_calls::{NUMBERS, PASSES, Shape, next_call};
 use store::{Answer, Head};
 
 // Where a history has come to: the head, the book, what was compared and reached, and the next call.
-#[derive(Drop)]
+#[derive(Clone, Copy)]
 pub struct Run {
     pub head: Head,
     pub book: PassBook,

@@ -1,5 +1,7 @@
 // Random histories of the store: calls of every kind, refused ones among them, are made on the store and put to the pass book; answers, head and
 // memory are compared.
+#![tactic(auto)]
+
 mod group;
 mod history;
 

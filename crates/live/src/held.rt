@@ -17,7 +17,7 @@ use tree::{Held, Row, TreeUse};
 use words::Value;
 
 // What a page has for two keys at one tick.
-#[derive(Drop)]
+#[derive(Clone, Copy)]
 pub struct HeldTwo {
     pub lower: Held,
     pub upper: Held,

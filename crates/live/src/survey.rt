@@ -15,7 +15,7 @@ use rows::page_at;
 use tree::TreeUse;
 
 // How many rows a page has, how many of them are live, the row around a key, and the first row that starts at the key or above.
-#[derive(Drop)]
+#[derive(Clone, Copy)]
 pub struct Survey {
     pub rows: usize,
     pub live: usize,
@@ -24,7 +24,7 @@ pub struct Survey {
 }
 
 // What the survey of a page finds: a spoiled page, or a sound one.
-#[derive(Drop)]
+#[derive(Clone, Copy)]
 pub enum Surveyed {
     Spoiled,
     Sound(Survey),

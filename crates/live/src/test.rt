@@ -13,7 +13,7 @@ use tiles::tiles;
 use tree::TreeUse;
 
 // What the test of a page finds: a spoiled page, or a sound one with so many live rows.
-#[derive(Drop)]
+#[derive(Clone, Copy)]
 pub enum Tested {
     Spoiled,
     Sound(usize),

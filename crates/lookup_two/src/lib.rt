@@ -1,4 +1,6 @@
 // The lookup of one tree for two keys at once, as a question makes it, and for two keys at two ticks, as bat-time does.
+#![tactic(auto)]
+
 mod ticks;
 mod together;
 

@@ -18,14 +18,14 @@ use tree::{Held, Lookup, Root, TreeUse};
 use words::Value;
 
 // What the lookups of two keys answer at each of two ticks.
-#[derive(Drop)]
+#[derive(Clone, Copy)]
 pub struct LookupTicks {
     pub later: LookupTwo,
     pub earlier: LookupTwo,
 }
 
 // The page of a root, opened for two keys: its level, and what it has for each.
-#[derive(Drop)]
+#[derive(Clone, Copy)]
 struct RootPage {
     level: u64,
     held: HeldTwo,

@@ -14,21 +14,21 @@ use tree::{Held, Lookup, Root, Row, TreeUse};
 use words::Value;
 
 // Two keys to look up at one tick.
-#[derive(Drop)]
+#[derive(Clone, Copy)]
 pub struct Keys {
     pub lower: u16,
     pub upper: u16,
 }
 
 // What two lookups answer.
-#[derive(Drop)]
+#[derive(Clone, Copy)]
 pub struct LookupTwo {
     pub lower: Lookup,
     pub upper: Lookup,
 }
 
 // Where two paths go from a page that both have: to one child page, with the true value that each adds, or each on its own.
-#[derive(Drop)]
+#[derive(Clone, Copy)]
 pub enum Fork {
     Shared {
         row: Row,

@@ -5,7 +5,7 @@ ghost use Rattle.observed.specs.Answers.{answer_numbers};
 use crate::lives::Lives;
 use store::Answer;
 
-#[derive(Drop)]
+#[derive(Clone, Copy)]
 pub struct Counts {
     pub calls: u64,
     pub compared: u64,
@@ -26,7 +26,7 @@ pub struct Counts {
 }
 
 // An answer as numbers: its kind, and the fields that it has.
-#[derive(Drop)]
+#[derive(Clone, Copy)]
 struct AnswerNumbers {
     kind: u8,
     number: u64,

@@ -1,5 +1,7 @@
 // What random histories look at beside the answers: the paths that a call follows and the height of a tree, the head and the memory that it leaves,
 // clicks and crowded ticks; and the counts of what was seen. It shares no code with the calls.
+#![tactic(auto)]
+
 mod counts;
 mod left_behind;
 mod lives;

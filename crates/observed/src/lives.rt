@@ -5,7 +5,7 @@ use pass_list::{PassBook, pass_at};
 use random_calls::{NUMBERS, PASSES};
 use store::Answer;
 
-#[derive(Drop)]
+#[derive(Clone, Copy)]
 pub struct Lives {
     // Passes that ended at their own start tick
     pub clicks: u64,

@@ -56,7 +56,7 @@ fn number_if(number: u8, holds: bool) -> u8 {
 
 // What the book is told of a call, since it cannot know it: the store's refusal where it is 27 or 28 and can be so, and the pages on the paths that
 // the call's lookups follow. Beside it, whether 27 came where only the tree of time may lack pages.
-#[derive(Drop)]
+#[derive(Clone, Copy)]
 pub struct Hints {
     pub lacking: u8,
     pub pages: u32,
@@ -127,7 +127,7 @@ fn hints_of(
 
 // What a call on the store came to: its answer and its head, what the list is told of it, and whether the words that are lent were left as
 // they were.
-#[derive(Drop)]
+#[derive(Clone, Copy)]
 pub struct Outcome {
     pub answer: Answer,
     pub head: Head,

@@ -10,7 +10,7 @@ use tree::Row;
 use words::Value;
 
 // A page: its header, and the rows in its first `count` places.
-#[derive(Drop)]
+#[derive(Clone, Copy)]
 pub struct Page {
     pub level: u64,
     pub low: u16,

@@ -56,8 +56,8 @@ module _ (ws : List ℕ) (b : PassBook) (tick number : ℕ) (early : tick ≡ op
 
   pub end_accepted : (e : ℕ) → number < b.started → e ≡ (pass_at ws number).end → e ≡ open_end → 0 ≡ book_refusal (book_in ws b) (end tick number)
   unfolding book_refusal first_met
-  end_accepted e known is still_open =
-      rw (ne_eqb tick open_end early, le-ltb tick b.last later, pass_numbered_lem ws b.started number never_started known, ← is, still_open) refl
+  end_accepted e known is was_open =
+      rw (ne_eqb tick open_end early, le-ltb tick b.last later, pass_numbered_lem ws b.started number never_started known, ← is, was_open) refl
 
 -- What is known of a call that the book does not refuse
 module _ (ws : List ℕ) (b : PassBook) (call : Call) (none : book_refusal (book_in ws b) (call_of call) ≡ 0) where
@@ -88,5 +88,5 @@ module _ (ws : List ℕ) (b : PassBook) (call : Call) (none : book_refusal (book
         go (yes beyond) =
             let none : pass_numbered (book_in ws b) number ≡ never_started =
             get_or-eq_default (passes_in ws b.started) never_started {n = number} (omega (arith, passes_length ws b.started)) in
-            absurd (false≢true (sym (ap is_open none) ∙ (may_end (book_knows (book_in ws b) (end tick number)) tick number both.1).still_open))
+            absurd (false≢true (sym (ap is_open none) ∙ (may_end (book_knows (book_in ws b) (end tick number)) tick number both.1).was_open))
         go (no below) = omega (arith, below)

@@ -2,7 +2,7 @@
 use pass_list::{Asked, PassBook};
 use store::Answer;
 
-#[derive(Drop)]
+#[derive(Clone, Copy)]
 pub enum Call {
     Open,
     Start { tick: u32, key: u32, weight: u32 },
@@ -11,7 +11,7 @@ pub enum Call {
 }
 
 // What the book says to a call, with no page opened, and what it holds afterwards.
-#[derive(Drop)]
+#[derive(Clone, Copy)]
 pub struct Turn {
     pub answer: Answer,
     pub book: PassBook,

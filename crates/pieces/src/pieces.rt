@@ -11,7 +11,7 @@ use replies::Reply;
 use store::{Answer, Head};
 
 // What a piece leaves: the head for the next one, how many bytes were taken and written, and whether the run is over.
-#[derive(Drop)]
+#[derive(Clone, Copy)]
 pub struct Fed {
     pub head: Head,
     pub taken: usize,

@@ -19,7 +19,7 @@ use tree::{Plan, RootChange, Row, TreeUse};
 
 // The rows of a page before the entry: how many, how many live, and how many rows are appended where the row that gains the point,
 // or the row around the key, is replaced: 0 for a row that is altered where it is, else 1.
-#[derive(Drop)]
+#[derive(Clone, Copy)]
 pub struct Counts {
     pub rows: usize,
     pub live: usize,
@@ -28,7 +28,7 @@ pub struct Counts {
 }
 
 // What step 1 meets: a spoiled page, a page without a row around the key, or one with such a row.
-#[derive(Drop)]
+#[derive(Clone, Copy)]
 pub enum Met {
     Spoiled,
     Lowest(Counts),
@@ -37,7 +37,7 @@ pub enum Met {
 
 // What the entry does from a page down: it meets a spoiled page, or makes so many pages, of which the last `parts` take the rows of the page
 // itself: 0 where the page keeps its rows.
-#[derive(Drop)]
+#[derive(Clone, Copy)]
 pub enum PagePlan {
     Spoiled,
     Made { made: u32, parts: u32 },

@@ -1,4 +1,6 @@
 // The calls of random histories: of every kind, most of them accepted, drawn by the history's shape and by what the book holds.
+#![tactic(auto)]
+
 mod asked;
 mod list;
 mod next;

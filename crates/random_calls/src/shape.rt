@@ -4,7 +4,7 @@ ghost use Rattle.std.specs.Prelude.{◌<◌};
 use crate::random::{draw, one_in};
 
 // How keys are drawn.
-#[derive(Drop)]
+#[derive(Clone, Copy)]
 pub enum Keys {
     Uniform,
     // A few species
@@ -14,7 +14,7 @@ pub enum Keys {
 }
 
 // How ticks go on.
-#[derive(Drop)]
+#[derive(Clone, Copy)]
 pub enum Pace {
     // One tick or none
     Slow,
@@ -25,7 +25,7 @@ pub enum Pace {
     Late,
 }
 
-#[derive(Drop)]
+#[derive(Clone, Copy)]
 pub struct Shape {
     pub keys: Keys,
     pub pace: Pace,

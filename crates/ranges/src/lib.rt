@@ -1,4 +1,6 @@
 // Key ranges of rows, held in arrays in any order: the range that holds a key, the nearest range. No page words.
+#![tactic(auto)]
+
 mod range;
 mod search;
 

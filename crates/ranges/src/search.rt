@@ -9,7 +9,7 @@ use crate::range::{holds_key, lesser, range_high, range_low};
 const NO_RANGE: u32 = 16777216;
 
 // Where a search ends: at the row of a place, or nowhere.
-#[derive(Drop)]
+#[derive(Clone, Copy)]
 pub enum Place {
     At(usize),
     Missing,

@@ -30,7 +30,7 @@ module _ (s : Store) (tick number : ℕ) where
   pub not_missing : first_met (state_grounds (head_knows s.head (end tick number)) (end tick number)) ≡ 0 → pass_of s.head number ≡ Missing → ⊥
   not_missing e f =
       let may = may_end (head_knows s.head (end tick number)) tick number e in
-      false≢true (ap is_found (sym f) ∙ may.still_open)
+      false≢true (ap is_found (sym f) ∙ may.was_open)
 
   -- The entries of an end
   pub end_pages : {place : ℕ} {pass : OpenPass} → pass_of s.head number ≡ At place pass

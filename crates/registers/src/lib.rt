@@ -1,4 +1,6 @@
 // The registers of the block, in the 40 bytes that the radio side sees.
+#![tactic(auto)]
+
 mod layout;
 mod registers;
 mod showing;

@@ -5,7 +5,7 @@ ghost use Rattle.replies.specs.RefusedReplies.{refused_reply};
 use store::{Answer, Head};
 
 // The answer, and the head for the next call: refused, the head that was handed in.
-#[derive(Drop)]
+#[derive(Clone, Copy)]
 pub struct Reply {
     pub answer: Answer,
     pub head: Head,

@@ -1,4 +1,6 @@
 // The roots of a tree: the root for a tick in a lent root list, and the page that it names.
+#![tactic(auto)]
+
 mod search;
 mod top;
 

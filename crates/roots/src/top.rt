@@ -7,7 +7,7 @@ use rows::{in_use, page_at};
 use tree::{Root, TreeUse};
 
 // Where a lookup or an entry starts: the page of a root and its level, or no page that can be one.
-#[derive(Drop)]
+#[derive(Clone, Copy)]
 pub enum Top {
     At { page: u32, level: u64 },
     Missing,

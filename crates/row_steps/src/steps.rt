@@ -12,7 +12,7 @@ use words::Value;
 
 // What an entry does to one page, by the places of rows that the survey of the page found: to a leaf, to a lowest page above the leaves, or
 // to a page above the lowest, whose row at `place` follows what the page below became.
-#[derive(Drop)]
+#[derive(Clone, Copy)]
 pub enum Change {
     Leaf {
         inner: Place,

@@ -2,7 +2,7 @@
 use tree::Became;
 
 // What was done from a page down: what it became, and how many pages were made.
-#[derive(Drop)]
+#[derive(Clone, Copy)]
 pub struct Done {
     pub became: Became,
     pub made: u32,

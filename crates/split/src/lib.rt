@@ -1,4 +1,6 @@
 // The pages that an overflow makes, written into a lent page table.
+#![tactic(auto)]
+
 mod done;
 mod split;
 

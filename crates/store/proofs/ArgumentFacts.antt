@@ -44,7 +44,7 @@ pub record MayStart (known : Known) (tick : ℕ) : Type 0 where
 -- or an end: the pass is open; it may have started at the same tick
 pub record MayEnd (known : Known) (tick : ℕ) : Type 0 where
   pub later : known.last ≤ tick
-  pub still_open : known.found ≡ true
+  pub was_open : known.found ≡ true
 
 -- "A condition that holds is always refused; nothing else is." These are not refused
 module _ (tick key weight : ℕ) where
@@ -74,7 +74,7 @@ module _ (tick number : ℕ) where
 
   pub end_may : (known : Known) → MayEnd known tick → first_met (state_grounds known (end tick number)) ≡ 0
   unfolding first_met
-  end_may known h = rw (le-ltb tick known.last h.later, h.still_open) refl
+  end_may known h = rw (le-ltb tick known.last h.later, h.was_open) refl
 
 pub question_passes : (k1 k2 t1 t2 : ℕ) → Asked k1 k2 t1 t2 → first_met (argument_grounds (question k1 k2 t1 t2)) ≡ 0
 unfolding first_met
@@ -188,7 +188,7 @@ may_start known tick key weight e =
 pub may_end : (known : Known) (tick number : ℕ) → first_met (state_grounds known (end tick number)) ≡ 0 → MayEnd known tick
 may_end known tick number e =
     let none = none_met (state_grounds known (end tick number)) (states_numbered known (end tick number)) e in
-    record { later = ltb-false tick known.last none.0; still_open = go known.found none.1.0 }
+    record { later = ltb-false tick known.last none.0; was_open = go known.found none.1.0 }
   where
     go : (found : Bool) → not found ≡ false → found ≡ true
     go true e = refl

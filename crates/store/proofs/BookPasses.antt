@@ -155,7 +155,7 @@ ended_kept b tick number fits may kept =
       now = fits;
       few = omega (arith, same, kept.few);
       few_open = omega (arith, fewer_open tick number b.passes, kept.few_open);
-      within = omega (arith, same, same_gathered tick number b.passes may.still_open, later_within b kept tick may.later);
+      within = omega (arith, same, same_gathered tick number b.passes may.was_open, later_within b kept tick may.later);
     }
 
 -- A call that the book does not refuse

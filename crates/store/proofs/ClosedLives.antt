@@ -79,7 +79,7 @@ click_taken b tick key weight sent e =
     let both = first_both (argument_grounds begin) (state_grounds (book_knows b begin) begin) (arguments_numbered begin) e in
     first_passes (argument_grounds finish) (state_grounds known finish) (arguments_numbered finish)
     (end_passes tick (length b.passes) (start_arguments tick key weight sent both.0).bounds.tick)
-    ∙ end_may tick (length b.passes) known (record { later = omega arith; still_open = last_open b.passes _ refl })
+    ∙ end_may tick (length b.passes) known (record { later = omega arith; was_open = last_open b.passes _ refl })
 
 -- A lookup of the tree of starts
 in_starts : (t k : ℕ) → All (λ (l : PointLookup). l.tree ≡ Starts) (lookup_before Starts t k)

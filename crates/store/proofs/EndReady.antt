@@ -49,11 +49,11 @@ module _ (s : Store) (b : Book) (a : Agrees s b) (tick number : ℕ) (tick_fits 
   abbrev pass : Pass
   pass = pass_numbered b number
 
-  still_open : pass.end ≡ still_open
-  still_open = no_end pass.end may.still_open
+  end_open : pass.end ≡ still_open
+  end_open = no_end pass.end may.was_open
 
   abbrev at : FoundAt number tick 0 0 b.passes
-  at = find_open number tick 0 0 b.passes may.still_open
+  at = find_open number tick 0 0 b.passes may.was_open
 
   abbrev place : ℕ
   place = 0 + at.at
@@ -74,7 +74,7 @@ module _ (s : Store) (b : Book) (a : Agrees s b) (tick number : ℕ) (tick_fits 
   after = book_does b (end tick number)
 
   inside_book : number < length b.passes
-  inside_book = open_inside number b.passes may.still_open
+  inside_book = open_inside number b.passes may.was_open
 
   known : PassKept b.last pass
   known = all_at (PassKept b.last) b.passes number never_started a.kept.passes inside_book
@@ -112,13 +112,13 @@ module _ (s : Store) (b : Book) (a : Agrees s b) (tick number : ℕ) (tick_fits 
   module _ (f : Point → ℕ) (test : Point → Bool) where
     open_adds : sum_where f test (end_points_of pass pass.end) ≡ 0
     unfolding sum_where
-    open_adds = ap (λ (e : End). sum_where f test (end_points_of pass e)) still_open
+    open_adds = ap (λ (e : End). sum_where f test (end_points_of pass e)) end_open
 
     abbrev begun : Point
     begun = time_at_start pass.start pass.key pass.weight
 
     one_line : sum_where f test (begun ∷ end_time_of pass pass.end) ≡ cond (test begun) (f begun) 0
-    one_line = ap (λ (e : End). sum_where f test (begun ∷ end_time_of pass e)) still_open ∙ sum_where_one f test begun
+    one_line = ap (λ (e : End). sum_where f test (begun ∷ end_time_of pass e)) end_open ∙ sum_where_one f test begun
 
     two_lines : sum_where f test (begun ∷ (line ∷ [])) ≡ cond (test begun) (f begun) 0 + cond (test line) (f line) 0
     unfolding sum_where

@@ -2,7 +2,7 @@
 use tree::TreeUse;
 
 // The trees of a store, by name.
-#[derive(Drop)]
+#[derive(Clone, Copy)]
 pub enum TreeName {
     Starts,
     Ends,
@@ -10,7 +10,7 @@ pub enum TreeName {
 }
 
 // A pass that has started and not ended.
-#[derive(Drop)]
+#[derive(Clone, Copy)]
 pub struct OpenPass {
     pub number: u32,
     pub key: u32,
@@ -30,14 +30,14 @@ impl OpenPass {
 }
 
 // Where a search among the open passes ends: at the pass in a place of the head's list, or nowhere.
-#[derive(Drop)]
+#[derive(Clone, Copy)]
 pub enum FoundPass {
     Missing,
     At { place: usize, pass: OpenPass },
 }
 
 // The head: the last tick, the number of passes started, the open passes (the first `count` places), and what each tree uses.
-#[derive(Drop)]
+#[derive(Clone, Copy)]
 pub struct Head {
     pub last: u32,
     pub started: u32,
@@ -67,7 +67,7 @@ impl Head {
 }
 
 // What a call answers.
-#[derive(Drop)]
+#[derive(Clone, Copy)]
 pub enum Answer {
     Refused(u8),
     Opened,

@@ -1,4 +1,6 @@
 // Random histories of the store against the pass book. The program writes what was compared and what differed.
+#![tactic(auto)]
+
 mod report;
 
 use histories::group_of;

@@ -1,4 +1,6 @@
 // One tree, as definitions and theorems: this crate has the types and sizes that they speak of and no function. The crates above it have the code.
+#![tactic(auto)]
+
 mod geometry;
 mod types;
 

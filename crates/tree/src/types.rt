@@ -2,7 +2,7 @@
 use words::Value;
 
 // A row of a page: its words, taken apart.
-#[derive(Drop)]
+#[derive(Clone, Copy)]
 pub struct Row {
     pub low: u16,
     pub high: u16,
@@ -21,14 +21,14 @@ impl Row {
 }
 
 // What a lookup finds in a page: a spoiled page, or the row that holds (t, k) and its true value.
-#[derive(Drop)]
+#[derive(Clone, Copy)]
 pub enum Held {
     Spoiled,
     Found { row: Row, value: Value },
 }
 
 // The pages and the roots that a tree uses.
-#[derive(Drop)]
+#[derive(Clone, Copy)]
 pub struct TreeUse {
     pub pages: u32,
     pub roots: u32,
@@ -43,21 +43,21 @@ impl TreeUse {
 }
 
 // The page of the root for a tick.
-#[derive(Drop)]
+#[derive(Clone, Copy)]
 pub enum Root {
     At(u32),
     Missing,
 }
 
 // A lookup's answer: the total and the pages opened, or a spoiled page (26).
-#[derive(Drop)]
+#[derive(Clone, Copy)]
 pub enum Lookup {
     Spoiled,
     Found { value: Value, pages: u32 },
 }
 
 // What entering a point does to the root list.
-#[derive(Drop)]
+#[derive(Clone, Copy)]
 pub enum RootChange {
     Kept,
     Added,
@@ -65,14 +65,14 @@ pub enum RootChange {
 }
 
 // What entering a point would do: meet a spoiled page (26), or make so many pages and change the root list.
-#[derive(Drop)]
+#[derive(Clone, Copy)]
 pub enum Plan {
     Spoiled,
     Ready { made: u32, root: RootChange },
 }
 
 // A page that a split made, and its key range.
-#[derive(Drop)]
+#[derive(Clone, Copy)]
 pub struct Child {
     pub page: u32,
     pub low: u16,
@@ -80,7 +80,7 @@ pub struct Child {
 }
 
 // What a page became by an entry: it kept its number, or its rows went to one new page or to two.
-#[derive(Drop)]
+#[derive(Clone, Copy)]
 pub enum Became {
     Stays,
     Copied(Child),

@@ -1,4 +1,6 @@
 // The turns of the command program: read, run, write.
+#![tactic(auto)]
+
 mod run;
 mod turn;
 

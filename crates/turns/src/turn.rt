@@ -12,7 +12,7 @@ use store::Head;
 use turn_input::{keep_rest, read_behind};
 
 // What a turn leaves: the head, how many bytes wait at the front of the buffer, and whether the run is over.
-#[derive(Drop)]
+#[derive(Clone, Copy)]
 pub struct Left {
     pub head: Head,
     pub waiting: usize,

@@ -1,5 +1,5 @@
 -- Lines over ticks, modulo 2^64: a product from two halves, and a line less another.
-use Rattle.std.proofs.Common.{◌≡◌, ℕ, ◌+◌, ◌-◌, ◌*◌, ◌/◌, ◌%◌, ◌^◌, ◌<◌, ◌≤◌, sym, refl, ap, ◌∙◌, mul-le-mul_left, arith}
+use Rattle.std.proofs.Common.{◌≡◌, ℕ, ◌+◌, ◌-◌, ◌*◌, ◌/◌, ◌%◌, ◌^◌, ◌<◌, ◌≤◌, sym, ap, ◌∙◌, mul-le-mul_left, arith}
 use Rattle.words.specs.declared.value.Value.{Value}
 use Rattle.words.specs.Value.{subtract_words, minus, line, factor_of, constant_of, line_at}
 use Rattle.words.specs.Value as value

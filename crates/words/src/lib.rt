@@ -1,4 +1,6 @@
 // Words that hold several numbers, and the value that rows carry: the bottom layer of the index.
+#![tactic(auto)]
+
 mod limits;
 mod pack;
 mod value;

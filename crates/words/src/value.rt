@@ -4,7 +4,7 @@ ghost use Rattle.words.specs.Value.{zero, plus, minus, value_at, encode_value, v
 ghost use Rattle.words.specs.Overwrite.{overwrite};
 
 // A count and a weight sum. Whoever uses a value knows only that it has a zero, a sum and a difference.
-#[derive(Drop)]
+#[derive(Clone, Copy)]
 pub struct Value {
     pub count: u64,
     pub sum: u64,

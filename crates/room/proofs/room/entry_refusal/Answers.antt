@@ -1,0 +1,24 @@
+use borrow.Author.Tests.{lt-ltb, le-ltb}
+use Rattle.store.specs.Refusals.{first_met}
+use borrow.Author.Rules.{rules}
+use Rattle.room.proofs.room.entry_refusal.Goals as goal
+
+pub returns-in_default : goal.returns-in_default
+unfolding first_met
+returns-in_default c = search rules
+
+pub returns-then-pages_left-made : goal.returns-then-pages_left-made
+unfolding first_met
+returns-then-pages_left-made c = rw (c.plan-1.given.1, ← c.pages_left.ensures, lt-ltb _ _ c.if-pages_left-made.true)
+
+pub returns-in-Kept : goal.returns-in-Kept
+unfolding first_met
+returns-in-Kept c = rw (c.plan-1.given.1, ← c.pages_left.ensures, le-ltb _ _ c.if-pages_left-made.false, c.enum_told-in-Kept-1.given.1)
+
+pub returns-in-Added : goal.returns-in-Added
+unfolding first_met
+returns-in-Added c = rw (c.plan-1.given.1, ← c.pages_left.ensures, le-ltb _ _ c.if-pages_left-made.false, c.enum_told-in-Added-1.given.1) c.list_refusal.ensures
+
+pub returns-in-Replaced : goal.returns-in-Replaced
+unfolding first_met
+returns-in-Replaced c = rw (c.plan-1.given.1, ← c.pages_left.ensures, le-ltb _ _ c.if-pages_left-made.false, c.enum_told-in-Replaced-1.given.1)

@@ -1,0 +1,26 @@
+use mathlib.Core.Path.{ap, sym, ◌∙◌}
+use native.Mathlib.Omega.{arith}
+use Rattle.row_steps.specs.PageEdits.{leaf_words}
+use Rattle.ranges.specs.declared.search.Place.{Place}
+use borrow.Author.Rules.{rules}
+use Rattle.row_steps.proofs.steps.edit_leaf.Goals as goal
+
+pub cut_at-requires : goal.cut_at-requires
+cut_at-requires c =
+    record {
+      place_bound = rw c.inner-1.given.1 at c.pre.0;
+      page_in_bounds = c.pre.1.1;
+    }
+
+pub gain_row-requires : goal.gain_row-requires
+gain_row-requires c =
+    record {
+      within = c.pre.1.0;
+      page_in_bounds = omega arith;
+    }
+
+pub returns-in-At : goal.returns-in-At
+returns-in-At c = c.cut_at.ensures ∙ ap (λ (i : Place). leaf_words c.args.t c.args.k c.args.value c.args.page.now i c.args.gain) (sym c.inner-1.given.1)
+
+pub returns-in-Missing : goal.returns-in-Missing
+returns-in-Missing c = c.gain_row.ensures ∙ ap (λ (i : Place). leaf_words c.args.t c.args.k c.args.value c.args.page.now i c.args.gain) (sym c.enum_told-1.given.1)

@@ -1,0 +1,5 @@
+use borrow.Author.Rules.{rules}
+use Rattle.rows.proofs.row.gained_row.Goals as goal
+
+pub returns : goal.returns
+returns c = cc

@@ -1,0 +1,25 @@
+use Prim.Native.Nat.{ℕ, ◌-◌, ◌%◌, ◌≤◌}
+use native.Mathlib.Omega.{arith}
+use mathlib.Core.Path.{◌≡◌}
+use mathlib.Core.Bool.{true}
+use lib.ListN.{length}
+use Rattle.tree.proofs.Lists.{all_set}
+use Rattle.tiles.specs.TileTest.{slots, may_stop, Noted}
+use Rattle.tiles.proofs.NoteLaws.{all_same, low_may_stop, high_may_stop}
+use borrow.Author.Rules.{rules}
+use Rattle.tiles.proofs.tile.note_lows.Goals as goal
+
+pub loop-at-init : goal.loop-at-init
+loop-at-init c =
+    let a = c.args in
+    (search rules, all_same (λ (q : ℕ). may_stop a.high a.ranges.now q ≡ true) slots a.high (high_may_stop a.high a.ranges.now))
+
+pub loop-at-preserved : goal.loop-at-preserved
+loop-at-preserved c =
+    let a = c.args in
+    let l = c.loop-at in
+    let low = low_may_stop a.ranges.now l.at (omega arith) (search rules) a.high in (
+      search rules,
+      all_set (λ (q : ℕ). may_stop a.high a.ranges.now q ≡ true) l.noted (c.range_low-low.result % slots) c.range_low-low.result
+          (rw c.range_low-low.ensures low) l.invariant.1,
+    )

@@ -1,0 +1,32 @@
+use Rattle.tiles.proofs.SpanLaws.{spanned_small}
+use lib.ListN.{get_or}
+use mathlib.Core.Path.{◌≡◌}
+use Prim.Native.Nat.{◌+◌, ◌*◌, ◌-◌, ◌≤◌}
+use lib.ListN.{length, drop}
+use native.Mathlib.Omega.{arith}
+use Rattle.words.specs.Sums.{sum_by}
+use Rattle.tiles.specs.TileTest.{spanned}
+use Rattle.tiles.proofs.SumLaws.{sum_on, sum_done}
+use borrow.Author.Rules.{rules}
+use Rattle.tiles.proofs.tile.spanned_total.Goals as goal
+
+pub overflow_add-total : goal.overflow_add-total
+overflow_add-total c =
+    let a = c.args in
+    let l = c.loop-at in
+    omega (arith, spanned_small a.low a.high (get_or a.ranges.now l.at 0) (omega arith), c.spanned-total.ensures, l.invariant.1)
+
+pub loop-at-preserved : goal.loop-at-preserved
+loop-at-preserved c =
+    let a = c.args in
+    let l = c.loop-at in (
+      search rules,
+      omega (arith, spanned_small a.low a.high (get_or a.ranges.now l.at 0) (omega arith), c.spanned-total.ensures, l.invariant.1),
+      rw c.spanned-total.ensures (sum_on (spanned a.low a.high) a.ranges.now l.at l.total (omega arith) l.invariant.2),
+    )
+
+pub returns : goal.returns
+returns c =
+    let a = c.args in
+    let l = c.loop-at in
+    sum_done (spanned a.low a.high) a.ranges.now l.at l.total (omega arith) l.invariant.2

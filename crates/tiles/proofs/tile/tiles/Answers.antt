@@ -1,0 +1,38 @@
+use native.Mathlib.Omega.{arith}
+use mathlib.Core.Path.{sym, ◌∙◌}
+use borrow.Author.Tests.{eq-eqb, ne_eqb}
+use Rattle.tiles.proofs.SpanLaws.{none_empty, tiles_by_spans}
+use Rattle.tiles.proofs.NoteLaws.{may_hold, noted_may_stop}
+use borrow.Author.Rules.{rules}
+use Rattle.tiles.proofs.tile.tiles.Goals as goal
+
+pub returns-then-spanned_total-past : goal.returns-then-spanned_total-past
+returns-then-spanned_total-past c =
+    let a = c.args in
+    rw (tiles_by_spans a.low a.high a.ranges.now (omega arith), ← c.spanned_total.ensures, ne_eqb _ _ c.if-spanned_total-past.true)
+
+pub note_lows-noted-requires : goal.note_lows-noted-requires
+note_lows-noted-requires c =
+    let a = c.args in
+    (search rules, none_empty a.low a.high a.ranges.now (omega arith) (sym c.spanned_total.ensures ∙ c.if-spanned_total-past.false))
+
+pub is_held-requires : goal.is_held-requires
+is_held-requires c =
+    let a = c.args in
+    let noted = c.note_lows-noted.result in
+    record {
+      ranges_len_bound = search rules;
+      noted_len = search rules;
+      ranges_nonzero = λ e. may_hold a.high a.ranges.now a.low (omega arith)
+          (noted_may_stop a.high a.ranges.now noted a.low (search rules) c.note_lows-noted.ensures e);
+    }
+
+pub returns-then-is_held : goal.returns-then-is_held
+returns-then-is_held c =
+    let a = c.args in
+    rw (tiles_by_spans a.low a.high a.ranges.now (omega arith), ← c.spanned_total.ensures, eq-eqb _ _ c.if-spanned_total-past.false, sym c.is_held.ensures ∙ c.if-is_held.true, c.each_goes_on.ensures)
+
+pub returns : goal.returns
+returns c =
+    let a = c.args in
+    rw (tiles_by_spans a.low a.high a.ranges.now (omega arith), ← c.spanned_total.ensures, eq-eqb _ _ c.if-spanned_total-past.false, sym c.is_held.ensures ∙ c.if-is_held.false)
