@@ -27,7 +27,7 @@ unfolding answers_to store_behind book_answers_to book_behind
 events_alike s b [] sent a = record { answers = refl; next = a }
 events_alike s b (e ∷ es) sent a =
     let one = event_alike s b e sent.0 a in
-    let rest = events_alike _ _ es sent.1 one.next in
+    let rest = events_alike (answer_to s e).store (book_turn_at b e).book es sent.1 one.next in
     record { answers = ap₂ ◌∷◌ one.answer rest.answers; next = rest.next }
 
 -- A call or a burst, by its refusal as a whole

@@ -13,18 +13,18 @@ use Rattle.c_heads.proofs.head_written.write_passes.Goals as goal
 pub loop-place-init : goal.loop-place-init
 loop-place-init c =
     let a = c.args in
-    let long : length a.t2.passes ≡ open_limit = search (rules, length_mapped) in
-    (search rules, search rules, write_none a.numbers.now a.t2.passes long c.requires.numbers_len)
+    let long : length a.head.passes ≡ open_limit = search (rules, length_mapped) in
+    (search rules, search rules, write_none a.numbers.now a.head.passes long c.requires.numbers_len)
 
 pub loop-place-preserved : goal.loop-place-preserved
 loop-place-preserved c =
     let a = c.args in
     let l = c.loop-place in
-    let long : length a.t2.passes ≡ open_limit = search (rules, length_mapped) in (
+    let long : length a.head.passes ≡ open_limit = search (rules, length_mapped) in (
       search rules,
       search rules,
       rw (c.write_pass.ensures, l.invariant.2)
-          (write_more a.numbers.now a.t2.passes long c.requires.numbers_len _ l.place (omega (arith, c.requires.places_le_open_limit, c.loop-place-test.true))),
+          (write_more a.numbers.now a.head.passes long c.requires.numbers_len _ l.place (omega (arith, c.requires.places_le_open_limit, c.loop-place-test.true))),
     )
 
 pub returns : goal.returns
@@ -32,4 +32,4 @@ returns c =
     let a = c.args in
     let l = c.loop-place in
     let done : l.place ≡ a.places = omega (arith, l.invariant.0, c.loop-place-test.false) in
-    l.invariant.2 ∙ ap (λ (n : ℕ). overwrite a.numbers.now field_numbers (numbers_of_passes (take n a.t2.passes))) done
+    l.invariant.2 ∙ ap (λ (n : ℕ). overwrite a.numbers.now field_numbers (numbers_of_passes (take n a.head.passes))) done

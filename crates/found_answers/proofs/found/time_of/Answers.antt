@@ -8,15 +8,13 @@ use Rattle.found_answers.specs.FoundAnswers.{time_of}
 use Rattle.found_answers.proofs.found.time_of.Goals as goal
 
 pub overflow_add-opened : goal.overflow_add-opened
-overflow_add-opened c = omega (arith, ap pages_of c.until-1.given.1, ap pages_of c.before-1.given.1)
+overflow_add-opened c = omega (arith, ap pages_of c.in-Found.is, ap pages_of c.in-Found-before.is)
 
 pub returns : goal.returns
 returns c =
     let a = c.args in
-    let until = c.until-1.given in
-    let before = c.before-1.given in
-    let later = c.at.ensures ∙ ap (line_at until.0.0) c.tick_before.ensures in
-    let earlier = c.at-2.ensures ∙ ap (line_at before.0.0) c.tick_before-2.ensures in
+    let later = c.at.ensures ∙ ap (line_at c.in-Found.value) c.tick_before.ensures in
+    let earlier = c.at-2.ensures ∙ ap (line_at c.in-Found-before.value) c.tick_before-2.ensures in
     let less = taken_away _ _ _ (search rules) (search rules) c.wrapping_sub_u64.ensures.value in
-    ap (λ (total : ℕ). BatTime total (until.0.1.0 + before.0.1.0)) (less ∙ ap₂ subtract_words later earlier)
-    ∙ sym (ap₂ (λ (x y : Lookup). time_of x a.t2 y a.t1) until.1 before.1)
+    ap (λ (total : ℕ). BatTime total (c.in-Found.pages + c.in-Found-before.pages)) (less ∙ ap₂ subtract_words later earlier)
+    ∙ sym (ap₂ (λ (x y : Lookup). time_of x a.t2 y a.t1) c.in-Found.is c.in-Found-before.is)

@@ -9,8 +9,8 @@ returns-then-tick-last c = rw (lt-ltb _ _ c.if-tick-last.true)
 
 pub returns-in-Missing : goal.returns-in-Missing
 unfolding first_met
-returns-in-Missing c = rw (le-ltb _ _ c.if-tick-last.false, c.enum_told-1.given.1)
+returns-in-Missing c = rw (le-ltb _ _ c.if-tick-last.false, c.in-Missing.is)
 
 pub returns-in-At : goal.returns-in-At
 unfolding first_met
-returns-in-At c = rw (le-ltb _ _ c.if-tick-last.false, c.enum_told-in-At-1.given.1)
+returns-in-At c = rw (le-ltb _ _ c.if-tick-last.false, c.in-At.is)

@@ -10,7 +10,7 @@ use borrow.Author.Rules.{rules}
 use Rattle.open_passes.proofs.passes.find_pass.Goals as goal
 
 pub loop-place-init : goal.loop-place-init
-loop-place-init c = let h = c.args.t1 in
+loop-place-init c = let h = c.args.head in
     let full : length h.passes ≡ open_limit = search (rules, length_mapped) in
     let few = c.listed-count.ensures in
     (search rules, omega (arith, few, full), ap (λ (n : ℕ). find_pass c.args.number 0 (take n h.passes)) few ∙ ap (find_pass c.args.number 0) (take_listed h.passes h.count full))
@@ -19,17 +19,17 @@ pub returns-then-pass-number : goal.returns-then-pass-number
 returns-then-pass-number c = let n = c in
     let a = n.args in
     let l = c.loop-place in
-    sym (find_here a.t1.passes n.listed-count.result l.invariant.1 a.number l.place no_pass (omega arith) c.if-pass-number.true) ∙ l.invariant.2
+    sym (find_here a.head.passes n.listed-count.result l.invariant.1 a.number l.place no_pass (omega arith) c.if-pass-number.true) ∙ l.invariant.2
 
 pub loop-place-preserved : goal.loop-place-preserved
 loop-place-preserved c = let n = c in
     let a = n.args in
     let l = c.loop-place in
-    let on = find_next a.t1.passes n.listed-count.result l.invariant.1 a.number l.place no_pass (omega arith) c.if-pass-number.false in
+    let on = find_next a.head.passes n.listed-count.result l.invariant.1 a.number l.place no_pass (omega arith) c.if-pass-number.false in
     (search rules, search rules, sym on ∙ l.invariant.2)
 
 pub returns : goal.returns
 returns c = let n = c in
     let a = n.args in
     let l = c.loop-place in
-    sym (find_none a.t1.passes n.listed-count.result l.invariant.1 a.number l.place (omega arith)) ∙ l.invariant.2
+    sym (find_none a.head.passes n.listed-count.result l.invariant.1 a.number l.place (omega arith)) ∙ l.invariant.2

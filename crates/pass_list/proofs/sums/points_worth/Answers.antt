@@ -7,7 +7,7 @@ use Rattle.pass_list.proofs.sums.points_worth.Goals as goal
 pub returns-in-Starts : goal.returns-in-Starts
 returns-in-Starts c =
     let a = c.args in
-    rw c.enum_told-1.given.1
+    rw c.in-Starts.is
     (c.point_worth.ensures
     ∙ ap (point_worth a.t a.k a.pass.start a.pass.key) c.one_pass.ensures
     ∙ of_starts a.t a.k a.pass (search rules))
@@ -15,7 +15,7 @@ returns-in-Starts c =
 pub returns-in-Ends : goal.returns-in-Ends
 returns-in-Ends c =
     let a = c.args in
-    rw c.enum_told-in-Ends-1.given.1
+    rw c.in-Ends.is
     (c.end_worth.ensures
     ∙ ap (end_worth a.t a.k a.pass.end a.pass.key) c.one_pass-in-Ends.ensures
     ∙ of_ends a.t a.k a.pass (search rules))
@@ -26,5 +26,5 @@ returns-in-Time c =
     let started = c.point_worth-started.ensures
     ∙ ap (point_worth a.t a.k a.pass.start a.pass.key) c.start_line.ensures in
     let ended = c.end_worth-in-Time.ensures ∙ ap (end_worth a.t a.k a.pass.end a.pass.key) c.end_line.ensures in
-    rw c.enum_told-in-Time-1.given.1
+    rw c.in-Time.is
     (c.plus.ensures ∙ ap₂ plus started ended ∙ of_time a.t a.k a.pass (search rules))

@@ -14,4 +14,6 @@ pub returns : goal.returns
 returns c =
     let l = c.loop-number in
     let e : l.number ≡ c.args.started = omega arith in
-    rw (← e) (l.invariant.1.is, l.invariant.1.light)
+    rw (← e) record { value = l.invariant.1.is; all = l.invariant.1.light }
+
+-- ?? fields: value, all

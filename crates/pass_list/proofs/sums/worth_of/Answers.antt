@@ -2,10 +2,10 @@ use Rattle.std.proofs.Common.{rules}
 use Rattle.pass_list.proofs.sums.worth_of.Goals as goal
 
 pub returns-in-Question : goal.returns-in-Question
-returns-in-Question c = rw c.asked-1.given.1 c.band_worth.ensures
+returns-in-Question c = rw c.in-Question.is c.band_worth.ensures
 
 pub returns-in-BatTime : goal.returns-in-BatTime
-returns-in-BatTime c = rw c.asked-in-BatTime-1.given.1 c.time_worth.ensures
+returns-in-BatTime c = rw c.in-BatTime.is c.time_worth.ensures
 
 pub returns-in-Lookup : goal.returns-in-Lookup
-returns-in-Lookup c = rw c.asked-in-Lookup-1.given.1 c.points_worth.ensures
+returns-in-Lookup c = rw c.in-Lookup.is c.points_worth.ensures

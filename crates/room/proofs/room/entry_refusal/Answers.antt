@@ -9,16 +9,16 @@ returns-in_default c = search rules
 
 pub returns-then-pages_left-made : goal.returns-then-pages_left-made
 unfolding first_met
-returns-then-pages_left-made c = rw (c.plan-1.given.1, ← c.pages_left.ensures, lt-ltb _ _ c.if-pages_left-made.true)
+returns-then-pages_left-made c = rw (c.in-Ready.is, ← c.pages_left.ensures, lt-ltb _ _ c.if-pages_left-made.true)
 
 pub returns-in-Kept : goal.returns-in-Kept
 unfolding first_met
-returns-in-Kept c = rw (c.plan-1.given.1, ← c.pages_left.ensures, le-ltb _ _ c.if-pages_left-made.false, c.enum_told-in-Kept-1.given.1)
+returns-in-Kept c = rw (c.in-Ready.is, ← c.pages_left.ensures, le-ltb _ _ c.if-pages_left-made.false, c.in-Kept.is)
 
 pub returns-in-Added : goal.returns-in-Added
 unfolding first_met
-returns-in-Added c = rw (c.plan-1.given.1, ← c.pages_left.ensures, le-ltb _ _ c.if-pages_left-made.false, c.enum_told-in-Added-1.given.1) c.list_refusal.ensures
+returns-in-Added c = rw (c.in-Ready.is, ← c.pages_left.ensures, le-ltb _ _ c.if-pages_left-made.false, c.in-Added.is) c.list_refusal.ensures
 
 pub returns-in-Replaced : goal.returns-in-Replaced
 unfolding first_met
-returns-in-Replaced c = rw (c.plan-1.given.1, ← c.pages_left.ensures, le-ltb _ _ c.if-pages_left-made.false, c.enum_told-in-Replaced-1.given.1)
+returns-in-Replaced c = rw (c.in-Ready.is, ← c.pages_left.ensures, le-ltb _ _ c.if-pages_left-made.false, c.in-Replaced.is)

@@ -24,32 +24,32 @@ bounds-words-3 c = simp length-set (omega arith)
 
 pub loop-place-init : goal.loop-place-init
 loop-place-init c = let a = c.args in
-    let full : length a.t1.rows ≡ row_limit = search (rules, length_mapped) in (
+    let full : length a.self.rows ≡ row_limit = search (rules, length_mapped) in (
       search rules,
       search rules,
       simp length-set (search rules),
-      (a.words.now, search rules, rw c.key_range.ensures (header_words_lem a.words.now a.t1 (search rules) full)),
+      (a.words.now, search rules, rw c.key_range.ensures (header_words_lem a.words.now a.self (search rules) full)),
     )
 
 pub loop-place-preserved : goal.loop-place-preserved
 loop-place-preserved c = let a = c.args in
     let l = c.loop-place in
-    let full : length a.t1.rows ≡ row_limit = search (rules, length_mapped) in
+    let full : length a.self.rows ≡ row_limit = search (rules, length_mapped) in
     let base = l.invariant.3 in (
       search rules,
       search rules,
       search rules,
-      (base.0, base.1, rw (c.put_row.ensures, base.2) (row_words_lem base.0 a.t1 base.1 full _ l.place (omega arith))),
+      (base.0, base.1, rw (c.put_row.ensures, base.2) (row_words_lem base.0 a.self base.1 full _ l.place (omega arith))),
     )
 
 pub returns : goal.returns
 returns c = let a = c.args in
     let l = c.loop-place in
-    let full : length a.t1.rows ≡ row_limit = search (rules, length_mapped) in
+    let full : length a.self.rows ≡ row_limit = search (rules, length_mapped) in
     let base = l.invariant.3 in
-    let n = a.t1.count in
+    let n = a.self.count in
     let here : l.place ≡ n = omega arith in
     c.clear_from.ensures
     ∙ ap (λ (at : ℕ). overwrite l.words at (zeros (length l.words - at))) c.row_start.ensures
-    ∙ ap (λ (w : List ℕ). overwrite w (row_start n) (zeros (length w - row_start n))) (base.2 ∙ ap (λ (m : ℕ). overwrite base.0 0 (up_to a.t1 m)) here)
-    ∙ whole_words base.0 a.t1 base.1 full n refl (search rules)
+    ∙ ap (λ (w : List ℕ). overwrite w (row_start n) (zeros (length w - row_start n))) (base.2 ∙ ap (λ (m : ℕ). overwrite base.0 0 (up_to a.self m)) here)
+    ∙ whole_words base.0 a.self base.1 full n refl (search rules)
