@@ -6,10 +6,9 @@ use store::Answer;
 
 // Writes an answer's count, sum and pages, and returns its refusal, 0 for none.
 pub fn tell(answer: Answer, count: &mut u64, sum: &mut u64, pages: &mut u32) -> u8
-    ensures* { do
-      let before : List ℕ = count.old ∷ (sum.old ∷ (pages.old ∷ []))
-      let after : List ℕ = count.new ∷ (sum.new ∷ (pages.new ∷ []))
-      ⌜ Tells answer result before after ⌝ }
+    ensures { let before : List ℕ = count.old ∷ (sum.old ∷ (pages.old ∷ [])) in
+        let after : List ℕ = count.new ∷ (sum.new ∷ (pages.new ∷ [])) in
+        Tells answer result before after }
 {
     match answer {
         Answer::Refused(number) => number,
@@ -32,10 +31,9 @@ pub fn tell(answer: Answer, count: &mut u64, sum: &mut u64, pages: &mut u32) -> 
 
 // Writes the total and the pages of an answer about bat-time, and returns its refusal, 0 for none.
 pub fn tell_time(answer: Answer, total: &mut u64, pages: &mut u32) -> u8
-    ensures* { do
-      let before : List ℕ = total.old ∷ (pages.old ∷ [])
-      let after : List ℕ = total.new ∷ (pages.new ∷ [])
-      ⌜ Tells answer result before after ⌝ }
+    ensures { let before : List ℕ = total.old ∷ (pages.old ∷ []) in
+        let after : List ℕ = total.new ∷ (pages.new ∷ []) in
+        Tells answer result before after }
 {
     match answer {
         Answer::Refused(number) => number,

@@ -26,11 +26,12 @@ pub extern "C" fn nimbleshale_lookup_starts(
     sum: &mut u64,
     pages: &mut u32,
 ) -> u8
-    ensures* { do
-      let handed : Handed = handed_of head.now start_table.now start_roots.now end_table.now end_roots.now time_table.now time_roots.now
-      let before : List ℕ = count.old ∷ (sum.old ∷ (pages.old ∷ []))
-      let after : List ℕ = count.new ∷ (sum.new ∷ (pages.new ∷ []))
-      ⌜ Tells (perform (store_in handed) (lookup_in Starts t k)).answer result before after ⌝ }
+    ensures {
+        let handed : Handed = handed_of head.now start_table.now start_roots.now end_table.now end_roots.now time_table.now time_roots.now in
+        let before : List ℕ = count.old ∷ (sum.old ∷ (pages.old ∷ [])) in
+        let after : List ℕ = count.new ∷ (sum.new ∷ (pages.new ∷ [])) in
+        Tells (perform (store_in handed) (lookup_in Starts t k)).answer result before after
+    }
 {
     let answer = tree_lookups::lookup_starts(
         head_of(head),
@@ -62,11 +63,12 @@ pub extern "C" fn nimbleshale_lookup_ends(
     sum: &mut u64,
     pages: &mut u32,
 ) -> u8
-    ensures* { do
-      let handed : Handed = handed_of head.now start_table.now start_roots.now end_table.now end_roots.now time_table.now time_roots.now
-      let before : List ℕ = count.old ∷ (sum.old ∷ (pages.old ∷ []))
-      let after : List ℕ = count.new ∷ (sum.new ∷ (pages.new ∷ []))
-      ⌜ Tells (perform (store_in handed) (lookup_in Ends t k)).answer result before after ⌝ }
+    ensures {
+        let handed : Handed = handed_of head.now start_table.now start_roots.now end_table.now end_roots.now time_table.now time_roots.now in
+        let before : List ℕ = count.old ∷ (sum.old ∷ (pages.old ∷ [])) in
+        let after : List ℕ = count.new ∷ (sum.new ∷ (pages.new ∷ [])) in
+        Tells (perform (store_in handed) (lookup_in Ends t k)).answer result before after
+    }
 {
     let answer = tree_lookups::lookup_ends(
         head_of(head),
@@ -99,11 +101,12 @@ pub extern "C" fn nimbleshale_lookup_time(
     constant: &mut u64,
     pages: &mut u32,
 ) -> u8
-    ensures* { do
-      let handed : Handed = handed_of head.now start_table.now start_roots.now end_table.now end_roots.now time_table.now time_roots.now
-      let before : List ℕ = factor.old ∷ (constant.old ∷ (pages.old ∷ []))
-      let after : List ℕ = factor.new ∷ (constant.new ∷ (pages.new ∷ []))
-      ⌜ Tells (perform (store_in handed) (lookup_in Time t k)).answer result before after ⌝ }
+    ensures {
+        let handed : Handed = handed_of head.now start_table.now start_roots.now end_table.now end_roots.now time_table.now time_roots.now in
+        let before : List ℕ = factor.old ∷ (constant.old ∷ (pages.old ∷ [])) in
+        let after : List ℕ = factor.new ∷ (constant.new ∷ (pages.new ∷ [])) in
+        Tells (perform (store_in handed) (lookup_in Time t k)).answer result before after
+    }
 {
     let answer = tree_lookups::lookup_time(
         head_of(head),

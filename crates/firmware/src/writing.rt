@@ -26,13 +26,15 @@ pub extern "C" fn nimbleshale_start(
     weight: u32,
     number: &mut u32,
 ) -> u8
-    ensures* fact { do
-      let before : Handed = handed_of head.old start_table.old start_roots.old end_table.now end_roots.now time_table.old time_roots.old
-      let after : Handed = handed_of head.new start_table.new start_roots.new end_table.now end_roots.now time_table.new time_roots.new
-      ⌜ Leaves (perform (store_in before) (start tick key weight)) result before after ⌝ }
-    ensures* number_after { do
-      let before : Handed = handed_of head.old start_table.old start_roots.old end_table.now end_roots.now time_table.old time_roots.old
-      ⌜ number.new ≡ number_said number.old (values_of (perform (store_in before) (start tick key weight)).answer) ⌝ }
+    ensures leaves {
+        let before : Handed = handed_of head.old start_table.old start_roots.old end_table.now end_roots.now time_table.old time_roots.old in
+        let after : Handed = handed_of head.new start_table.new start_roots.new end_table.now end_roots.now time_table.new time_roots.new in
+        Leaves (perform (store_in before) (start tick key weight)) result before after
+    }
+    ensures number_after {
+        let before : Handed = handed_of head.old start_table.old start_roots.old end_table.now end_roots.now time_table.old time_roots.old in
+        number.new ≡ number_said number.old (values_of (perform (store_in before) (start tick key weight)).answer)
+    }
 {
     let reply = updates::start(
         head_of(head),
@@ -66,10 +68,11 @@ pub extern "C" fn nimbleshale_end(
     tick: u32,
     number: u32,
 ) -> u8
-    ensures* { do
-      let before : Handed = handed_of head.old start_table.now start_roots.now end_table.old end_roots.old time_table.old time_roots.old
-      let after : Handed = handed_of head.new start_table.now start_roots.now end_table.new end_roots.new time_table.new time_roots.new
-      ⌜ Leaves (perform (store_in before) (end tick number)) result before after ⌝ }
+    ensures {
+        let before : Handed = handed_of head.old start_table.now start_roots.now end_table.old end_roots.old time_table.old time_roots.old in
+        let after : Handed = handed_of head.new start_table.now start_roots.now end_table.new end_roots.new time_table.new time_roots.new in
+        Leaves (perform (store_in before) (end tick number)) result before after
+    }
 {
     let reply = updates::end(
         head_of(head),
@@ -99,10 +102,11 @@ pub extern "C" fn nimbleshale_open(
     time_table: &mut [u64],
     time_roots: &mut [u64],
 ) -> u8
-    ensures* { do
-      let before : Handed = handed_of head.old start_table.old start_roots.old end_table.old end_roots.old time_table.old time_roots.old
-      let after : Handed = handed_of head.new start_table.new start_roots.new end_table.new end_roots.new time_table.new time_roots.new
-      ⌜ Leaves (perform (store_in before) opening) result before after ⌝ }
+    ensures {
+        let before : Handed = handed_of head.old start_table.old start_roots.old end_table.old end_roots.old time_table.old time_roots.old in
+        let after : Handed = handed_of head.new start_table.new start_roots.new end_table.new end_roots.new time_table.new time_roots.new in
+        Leaves (perform (store_in before) opening) result before after
+    }
 {
     let reply = opening::open(
         head_of(head),

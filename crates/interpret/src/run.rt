@@ -37,9 +37,10 @@ pub fn answer_query(
     code: u8,
     operands: &[u8],
 ) -> Answer
-    ensures* { do
-      let s : Store = store_of head start_table.now start_roots.now end_table.now end_roots.now time_table.now time_roots.now
-      ⌜ result ≡ (answered s operands.now (query_kind code)).answer ⌝ }
+    ensures {
+        let s : Store = store_of head start_table.now start_roots.now end_table.now end_roots.now time_table.now time_roots.now in
+        result ≡ (answered s operands.now (query_kind code)).answer
+    }
 {
     if operands.len() < 12 {
         return Answer::Refused(7);
@@ -76,10 +77,11 @@ pub fn run_command(
     code: u8,
     operands: &[u8],
 ) -> Reply
-    ensures* { do
-      let s : Store = store_of head start_table.old start_roots.old end_table.old end_roots.old time_table.old time_roots.old
-      let left : Lent = lent_of start_table.new start_roots.new end_table.new end_roots.new time_table.new time_roots.new
-      ⌜ RepliedAs (answered s operands.now (kind_of code)) result left ⌝ }
+    ensures {
+        let s : Store = store_of head start_table.old start_roots.old end_table.old end_roots.old time_table.old time_roots.old in
+        let left : Lent = lent_of start_table.new start_roots.new end_table.new end_roots.new time_table.new time_roots.new in
+        RepliedAs (answered s operands.now (kind_of code)) result left
+    }
 {
     if is_query(code) {
         let answer = answer_query(

@@ -10,7 +10,7 @@ ghost use Rattle.roots.specs.TopPage.{TopFits};
 ghost use Rattle.lookup.specs.Descent.{Wide, lookup_held};
 ghost use Rattle.lookup_two.specs.Ahead.{FewPages, Begins, LeadsTo};
 
-use crate::together::{Fork, Keys, LookupTwo, descend_together, fork_of};
+use crate::together::{Fork, Keys, LookupTwo, descend_from_page, fork_of};
 use live::{HeldTwo, read_page_for_two};
 use lookup::descend_from;
 use roots::{Top, find_top};
@@ -143,7 +143,7 @@ fn descend_root(table: &[u64], used: TreeUse, root: RootPage, t: u32, keys: Keys
             upper: descend_from(table, used, upper, level, nothing, 0, t, keys.upper),
         };
     };
-    let below = descend_together(
+    let below = descend_from_page(
         table,
         used,
         row.child,

@@ -1,6 +1,7 @@
 // The lookups of two keys at one tick from one root. Both paths begin at the root page and often have the next ones in common: a page that
 // both have is tested once, as long as they stay together.
-ghost use Rattle.std.specs.Prelude.{◌≡◌, ◌*◌, ◌≤◌, ◌<◌, length};
+ghost use Rattle.std.specs.Prelude.{◌≡◌, ◌*◌, ◌≤◌, ◌<◌, [], length};
+ghost use Rattle.words.specs.Words.{key_limit};
 ghost use Rattle.tree.specs.Row.{page_words};
 ghost use Rattle.tree.specs.Tree.{top_level};
 ghost use Rattle.tree.specs.Taking.{rootless};
@@ -74,7 +75,7 @@ pub fn fork_of(level: u64, held: HeldTwo) -> Fork
 }
 
 // From a page of a level and a key range down to the leaves: together as far as the paths have their pages in common, then each on its own.
-pub fn descend_together(
+pub fn descend_from_page(
     table: &[u64],
     used: TreeUse,
     first: u32,
@@ -117,6 +118,23 @@ pub fn descend_together(
     }
 }
 
+// From a root of level `top` down to the leaves.
+fn descend_together(
+    table: &[u64],
+    used: TreeUse,
+    root: u32,
+    top: u64,
+    t: u32,
+    keys: Keys,
+) -> LookupTwo
+    requires page_words_in_bounds { used.pages * page_words ≤ length table.now }
+    requires top_le_top_level { top ≤ top_level }
+    ensures lower_value { result.lower ≡ lookup_from (record { table = table.now; roots = []; used = used }) t keys.lower top 0 key_limit root }
+    ensures upper_value { result.upper ≡ lookup_from (record { table = table.now; roots = []; used = used }) t keys.upper top 0 key_limit root }
+{
+    descend_from_page(table, used, root, top, 0, words::KEY_LIMIT, t, keys)
+}
+
 // The lookups of two keys from the root for t. The pages are counted for each path, also those that both have.
 pub fn lookup_two_at(
     table: &[u64],
@@ -127,8 +145,8 @@ pub fn lookup_two_at(
     upper_key: u16,
 ) -> LookupTwo
     requires { used.pages * page_words ≤ length table.now }
-    ensures lower_value { result.lower ≡ lookup_root (rootless table.now used) t lower_key root }
-    ensures upper_value { result.upper ≡ lookup_root (rootless table.now used) t upper_key root }
+    ensures lower_value { result.lower ≡ lookup_root (record { table = table.now; roots = []; used = used }) t lower_key root }
+    ensures upper_value { result.upper ≡ lookup_root (record { table = table.now; roots = []; used = used }) t upper_key root }
 {
     let top = find_top(table, used, root);
     let Top::At { page, level } = top else {
@@ -141,5 +159,5 @@ pub fn lookup_two_at(
         lower: lower_key,
         upper: upper_key,
     };
-    descend_together(table, used, page, level, 0, words::KEY_LIMIT, t, keys)
+    descend_together(table, used, page, level, t, keys)
 }

@@ -40,10 +40,11 @@ pub fn open(
     time_table: &mut [u64],
     time_roots: &mut [u64],
 ) -> Reply
-    ensures* { do
-      let s : Store = store_of head start_table.old start_roots.old end_table.old end_roots.old time_table.old time_roots.old
-      let left : Lent = lent_of start_table.new start_roots.new end_table.new end_roots.new time_table.new time_roots.new
-      ⌜ RepliedAs (perform s opening) result left ⌝ }
+    ensures {
+        let s : Store = store_of head start_table.old start_roots.old end_table.old end_roots.old time_table.old time_roots.old in
+        let left : Lent = lent_of start_table.new start_roots.new end_table.new end_roots.new time_table.new time_roots.new in
+        RepliedAs (perform s opening) result left
+    }
 {
     let refusal = opening_refusal(
         start_table,

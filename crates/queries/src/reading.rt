@@ -5,11 +5,13 @@ ghost use Rattle.store.specs.Calls.{question, bat_time};
 ghost use Rattle.store.specs.Performing.{perform};
 ghost use Rattle.queries.specs.QueryCalls.{query_call};
 
-use bands::{lookup_band, lookup_band_before, lookup_bands, without};
+use bands::{lookup_band, lookup_band_before, without};
 use found_answers::{answer_of, time_of};
 use grounds::question_input;
 use refusals::head_refusal;
+use roots::skip_later;
 use store::{Answer, Head};
+use tree::TreeUse;
 
 // A question, or bat-time of the same band and interval: they take the same arguments and are refused alike. Stream and register block call this one function, so that a
 // head which is handed on needs no further copy.
@@ -27,9 +29,10 @@ pub fn query(
     t1: u32,
     t2: u32,
 ) -> Answer
-    ensures* { do
-      let s : Store = store_of head start_table.now start_roots.now end_table.now end_roots.now time_table.now time_roots.now
-      ⌜ result ≡ (perform s (query_call time k1 k2 t1 t2)).answer ⌝ }
+    ensures {
+        let s : Store = store_of head start_table.now start_roots.now end_table.now end_roots.now time_table.now time_roots.now in
+        result ≡ (perform s (query_call time k1 k2 t1 t2)).answer
+    }
 {
     let input = question_input(k1, k2, t1, t2);
     let refusal = head_refusal(
@@ -46,11 +49,15 @@ pub fn query(
         return Answer::Refused(refusal);
     }
     if time {
-        // What has gathered before t2, less what had before t1.
-        let time_used = head.time;
-        let gathered = lookup_bands(time_table, time_roots, time_used, k1, k2, t1, t2);
-        let until = gathered.until;
-        let before = gathered.before;
+        // What has gathered before t2, less what had before t1. Both are in one tree: the root list is walked once.
+        let newest = head.time;
+        let entries = skip_later(time_roots, newest.roots as usize, t2 - 1);
+        let used = TreeUse {
+            pages: newest.pages,
+            roots: entries as u32,
+        };
+        let until = lookup_band(time_table, time_roots, used, t2 - 1, k1, k2);
+        let before = lookup_band_before(time_table, time_roots, used, t1, k1, k2);
         return time_of(until, t2, before, t1);
     }
     // The passes that started before t2, less those that ended before t1.
@@ -75,9 +82,10 @@ pub fn question(
     t1: u32,
     t2: u32,
 ) -> Answer
-    ensures* { do
-      let s : Store = store_of head start_table.now start_roots.now end_table.now end_roots.now time_table.now time_roots.now
-      ⌜ result ≡ (perform s (question k1 k2 t1 t2)).answer ⌝ }
+    ensures {
+        let s : Store = store_of head start_table.now start_roots.now end_table.now end_roots.now time_table.now time_roots.now in
+        result ≡ (perform s (question k1 k2 t1 t2)).answer
+    }
 {
     query(
         head,
@@ -109,9 +117,10 @@ pub fn bat_time(
     t1: u32,
     t2: u32,
 ) -> Answer
-    ensures* { do
-      let s : Store = store_of head start_table.now start_roots.now end_table.now end_roots.now time_table.now time_roots.now
-      ⌜ result ≡ (perform s (bat_time k1 k2 t1 t2)).answer ⌝ }
+    ensures {
+        let s : Store = store_of head start_table.now start_roots.now end_table.now end_roots.now time_table.now time_roots.now in
+        result ≡ (perform s (bat_time k1 k2 t1 t2)).answer
+    }
 {
     query(
         head,

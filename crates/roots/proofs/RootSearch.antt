@@ -4,7 +4,7 @@ use native.Mathlib.Omega.{arith}
 use native.Mathlib.Decide.{ℕ_discrete}
 use native.Mathlib.Nat.{not-suc-le-zero, le_trans}
 use native.Mathlib.Numerals.{sub-one}
-use mathlib.Core.Path.{◌≡◌, refl, ap, sym, subst, ◌∙◌}
+use mathlib.Core.Path.{◌≡◌, refl, ap, sym, ◌∙◌}
 use mathlib.Core.Bool.{cond}
 use mathlib.Core.List.{List, [], ◌∷◌, ◌++◌}
 use lib.ListN.{length, take, get_or}
@@ -72,20 +72,14 @@ module _ (ws : List ℕ) (t : ℕ) where
       ∙ ap (λ (k : ℕ). root_for t (take k ws)) last
       ∙ root_skip from n (omega arith) (λ i h. later i (omega arith))
 
--- One entry at the end that is born later
-pub one_later : (ws : List ℕ) (t left one : ℕ) → one ≤ 1 → (1 ≤ one → t < root_birth (get_or ws (left - 1) 0))
-    → (i : ℕ) → i < one → t < root_birth (get_or ws (left - one + i) 0)
-one_later ws t left one few later i h =
-    let last : left - one + i ≡ left - 1 = omega arith in
-    rw last (later (omega arith))
-
--- What holds of every place so far, and of the next one, holds of one place more
-pub one_more : (P : ℕ → Type 0) (at : ℕ) → ((i : ℕ) → i < at → P i) → P at → (i : ℕ) → i < at + 1 → P i
-one_more P at before last i h = go (ℕ_discrete i at)
+-- One entry more: as many later ones as entries, and all of them are later
+pub later_more : (ws : List ℕ) (t from at later one : ℕ) → later ≤ at → (at ≤ later → (i : ℕ) → i < at → t < root_birth (get_or ws (from + i) 0)) → one ≤ 1
+    → (1 ≤ one → t < root_birth (get_or ws (from + at) 0)) → at + 1 ≤ later + one → (i : ℕ) → i < at + 1 → t < root_birth (get_or ws (from + i) 0)
+later_more ws t from at later one few before small last all i h = go (ℕ_discrete i at)
   where
-    go : Dec (i ≡ at) → P i
-    go (yes e) = subst P (sym e) last
-    go (no n) = before i (below n)
+    go : Dec (i ≡ at) → t < root_birth (get_or ws (from + i) 0)
+    go (yes e) = rw e (last (omega arith))
+    go (no n) = before (omega arith) i (below n)
       where
         below : (i ≡ at → ⊥) → i < at
         below f = omega (arith, f)
@@ -93,6 +87,11 @@ one_more P at before last i h = go (ℕ_discrete i at)
 -- One entry more: the bits in common are no more than its birth either
 pub common_more : (ws : List ℕ) (from at common birth : ℕ) → ((i : ℕ) → i < at → common ≤ root_birth (get_or ws (from + i) 0))
     → birth ≡ root_birth (get_or ws (from + at) 0) → (i : ℕ) → i < at + 1 → bit_and common birth ≤ root_birth (get_or ws (from + i) 0)
-common_more ws from at common birth before born =
-    one_more (λ (i : ℕ). bit_and common birth ≤ root_birth (get_or ws (from + i) 0)) at (λ i h. le_trans (and_le_l common birth) (before i h))
-    (rw (← born) (and_le_r common birth))
+common_more ws from at common birth before born i h = go (ℕ_discrete i at)
+  where
+    go : Dec (i ≡ at) → bit_and common birth ≤ root_birth (get_or ws (from + i) 0)
+    go (yes e) = rw (e, ← born) (and_le_r common birth)
+    go (no n) = le_trans (and_le_l common birth) (before i (below n))
+      where
+        below : (i ≡ at → ⊥) → i < at
+        below f = omega (arith, f)

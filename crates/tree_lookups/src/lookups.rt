@@ -22,9 +22,10 @@ pub fn lookup_starts(
     t: u32,
     k: u32,
 ) -> Answer
-    ensures* { do
-      let s : Store = store_of head start_table.now start_roots.now end_table.now end_roots.now time_table.now time_roots.now
-      ⌜ result ≡ (perform s (lookup_in Starts t k)).answer ⌝ }
+    ensures {
+        let s : Store = store_of head start_table.now start_roots.now end_table.now end_roots.now time_table.now time_roots.now in
+        result ≡ (perform s (lookup_in Starts t k)).answer
+    }
 {
     let input = lookup_input(t, k);
     let refusal = head_refusal(
@@ -56,9 +57,10 @@ pub fn lookup_ends(
     t: u32,
     k: u32,
 ) -> Answer
-    ensures* { do
-      let s : Store = store_of head start_table.now start_roots.now end_table.now end_roots.now time_table.now time_roots.now
-      ⌜ result ≡ (perform s (lookup_in Ends t k)).answer ⌝ }
+    ensures {
+        let s : Store = store_of head start_table.now start_roots.now end_table.now end_roots.now time_table.now time_roots.now in
+        result ≡ (perform s (lookup_in Ends t k)).answer
+    }
 {
     let input = lookup_input(t, k);
     let refusal = head_refusal(
@@ -90,9 +92,10 @@ pub fn lookup_time(
     t: u32,
     k: u32,
 ) -> Answer
-    ensures* { do
-      let s : Store = store_of head start_table.now start_roots.now end_table.now end_roots.now time_table.now time_roots.now
-      ⌜ result ≡ (perform s (lookup_in Time t k)).answer ⌝ }
+    ensures {
+        let s : Store = store_of head start_table.now start_roots.now end_table.now end_roots.now time_table.now time_roots.now in
+        result ≡ (perform s (lookup_in Time t k)).answer
+    }
 {
     let input = lookup_input(t, k);
     let refusal = head_refusal(

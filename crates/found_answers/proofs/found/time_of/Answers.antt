@@ -14,7 +14,7 @@ pub returns : goal.returns
 returns c =
     let a = c.args in
     let later = c.at.ensures ∙ ap (line_at c.in-Found.value) c.tick_before.ensures in
-    let earlier = c.at-2.ensures ∙ ap (line_at c.in-Found-before.value) c.tick_before-2.ensures in
+    let earlier = c.at-2.ensures ∙ ap (line_at c.in-Found-before.earlier) c.tick_before-2.ensures in
     let less = taken_away _ _ _ (search rules) (search rules) c.wrapping_sub_u64.ensures.value in
-    ap (λ (total : ℕ). BatTime total (c.in-Found.pages + c.in-Found-before.pages)) (less ∙ ap₂ subtract_words later earlier)
+    ap (λ (total : ℕ). BatTime total (c.in-Found.pages + c.in-Found-before.more)) (less ∙ ap₂ subtract_words later earlier)
     ∙ sym (ap₂ (λ (x y : Lookup). time_of x a.t2 y a.t1) c.in-Found.is c.in-Found-before.is)

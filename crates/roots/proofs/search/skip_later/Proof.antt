@@ -2,6 +2,7 @@ use Prim.Native.Nat.{ℕ, ◌+◌, ◌-◌, ◌≤◌, ◌<◌}
 use native.Mathlib.Omega.{arith}
 use mathlib.Core.Path.{◌≡◌, refl, ap, sym, ◌∙◌}
 use lib.ListN.{length, take}
+use borrow.Author.Tests.{not-false}
 use Rattle.tree.specs.Tree.{root_for}
 use Rattle.roots.proofs.RootSearch.{root_skip}
 use borrow.Author.Rules.{rules}
@@ -17,16 +18,11 @@ decreases-loop roots used t left₀ left = left
 loop-holds : tie.Need-loop-init invariant-loop decreases-loop
 loop-holds c = (search rules, search rules, λ u earlier. refl)
 
-later-at-end-requires : tie.Need-later-at-end-requires invariant-loop decreases-loop
-later-at-end-requires c κs = search rules
+passes-block-requires : tie.Need-passes-block-requires invariant-loop decreases-loop
+passes-block-requires c κs = search rules
 
 returns : tie.Need-returns invariant-loop decreases-loop
-returns c =
-    let l = c.before.before.before.loop in
-    (l.invariant.0, ((λ _. c.before.later-at-end.ensures.1.0 c.if1.true), l.invariant.2))
-
-sub-left : tie.Need-overflow-sub-left invariant-loop decreases-loop
-sub-left c = search rules
+returns c = search rules
 
 loop-less : tie.Need-loop-smaller invariant-loop decreases-loop
 loop-less c = search rules
@@ -35,20 +31,18 @@ loop-again : tie.Need-loop-preserved invariant-loop decreases-loop
 loop-again c =
     let a = c.before.before.before.before.before.args in
     let l = c.before.before.before.loop in
-    let later = c.before.later-at-end in
-    let whole : l.left - later.result + later.result ≡ l.left = omega (arith, later.ensures.0) in (
+    let whole : l.left - 32 + 32 ≡ l.left = omega arith in
+    let born = c.before.passes-block.ensures (not-false c.before.passes-block.result c.if1.false) in (
       omega (arith, l.invariant.0),
       l.invariant.1,
       λ u earlier.
-          sym (root_skip a.roots.now u (l.left - later.result) later.result (omega (arith, l.invariant.0, l.invariant.1, later.ensures.0)) (λ i inside. omega (arith, later.ensures.1.1 i inside)))
+          sym (root_skip a.roots.now u (l.left - 32) 32 (omega (arith, l.invariant.0, l.invariant.1)) (λ i inside. omega (arith, born i inside)))
           ∙ ap (λ (k : ℕ). root_for u (take k a.roots.now)) whole
           ∙ l.invariant.2 u earlier,
     )
 
 returns-2 : tie.Need-returns-2 invariant-loop decreases-loop
-returns-2 c =
-    let l = c.before.loop in
-    (l.invariant.0, ((λ some. absurd (omega (arith, some, c.loop-test.false))), l.invariant.2))
+returns-2 c = search rules
 
 pub skip-later-spec : {M : Type 1} → statement M
 skip-later-spec =
@@ -57,9 +51,8 @@ skip-later-spec =
     invariant-loop
     decreases-loop
     loop-holds
-    later-at-end-requires
+    passes-block-requires
     returns
-    sub-left
     loop-less
     loop-again
     returns-2)

@@ -14,7 +14,7 @@ returns-then-old-t c =
 pub append_row-requires : goal.append_row-requires
 append_row-requires c = let a = c.args in
     let room = end_room a.page.now a.place (search rules) (search rules) a.t in
-    rw c.End-row.ensures (omega arith)
+    rw c.end_row.ensures (omega arith)
 
 pub returns : goal.returns
-returns c = rw (ne_eqb _ _ c.if-old-t.false) (c.append_row.ensures ∙ ap₂ append_row c.End-row.ensures c.born_at.ensures)
+returns c = rw (ne_eqb _ _ c.if-old-t.false) (c.append_row.ensures ∙ ap₂ append_row c.end_row.ensures c.born_at.ensures)

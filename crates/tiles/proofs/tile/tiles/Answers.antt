@@ -11,6 +11,14 @@ returns-then-spanned_total-past c =
     let a = c.args in
     rw (tiles_by_spans a.low a.high a.ranges.now (omega arith), ← c.spanned_total.ensures, ne_eqb _ _ c.if-spanned_total-past.true)
 
+pub note_lows-noted-requires : goal.note_lows-noted-requires
+note_lows-noted-requires c =
+    let a = c.args in
+    record {
+      ranges_len_bound = search rules;
+      ranges_value = none_empty a.low a.high a.ranges.now (omega arith) (sym c.spanned_total.ensures ∙ c.if-spanned_total-past.false);
+    }
+
 pub is_held-requires : goal.is_held-requires
 is_held-requires c =
     let a = c.args in

@@ -6,8 +6,8 @@ use Rattle.tree.specs.Taking.{rootless}
 use Rattle.tree.specs.Lookup.{lookup_from}
 use Rattle.lookup_two.proofs.TogetherLaws.{fork_shared, leads_wide, OnWay, on_start, on_shared}
 use borrow.Author.Rules.{rules}
-use Rattle.lookup_two.proofs.together.descend_together.Statement.{statement}
-use Rattle.lookup_two.proofs.together.descend_together.Tie as tie
+use Rattle.lookup_two.proofs.together.descend_from_page.Statement.{statement}
+use Rattle.lookup_two.proofs.together.descend_from_page.Tie as tie
 
 -- The pages that both have and those to come are at most 4
 abbrev invariant-loop : tie.invariant-loop
@@ -97,8 +97,8 @@ returns c =
     let l = c.before.before.before.before.before.loop in
     (c.before.descend-from.ensures ∙ l.invariant.1.1, c.descend-from2.ensures ∙ l.invariant.2.1)
 
-pub descend-together-spec : {M : Type 1} → statement M
-descend-together-spec =
+pub descend-from-page-spec : {M : Type 1} → statement M
+descend-from-page-spec =
     tie.close
     (tie.spec
     invariant-loop
