@@ -5,7 +5,7 @@ use mathlib.Core.List.{List, [], ◌∷◌, map}
 use Rattle.words.specs.Lists.{All}
 use Rattle.store.specs.Trees.{Store}
 use Rattle.store.specs.Answers.{refusal_of}
-use Rattle.store.specs.Book.{Book, book_part}
+use Rattle.store.specs.Book.{Book, book_part, fed_by}
 use Rattle.store.proofs.Agreement.{Agrees}
 use Rattle.store.proofs.Outcomes.{Alike, outcome, turn_alike}
 use Rattle.demand.specs.Bursts.{Asked, unknown_kind, asked, answer_to, answers_to, store_behind, Entered, unless_refused_whole}
@@ -27,7 +27,7 @@ unfolding answers_to store_behind book_answers_to book_behind
 events_alike s b [] sent a = record { answers = refl; next = a }
 events_alike s b (e ∷ es) sent a =
     let one = event_alike s b e sent.0 a in
-    let rest = events_alike (answer_to s e).store (book_turn_at b e).book es sent.1 one.next in
+    let rest = events_alike (answer_to s e).store (book_turn_at b e (fed_by (refusal_of (answer_to s e).answer))).book es sent.1 one.next in
     record { answers = ap₂ ◌∷◌ one.answer rest.answers; next = rest.next }
 
 -- A call or a burst, by its refusal as a whole

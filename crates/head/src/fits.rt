@@ -59,10 +59,8 @@ pub fn head_fits(
     time_table: &[u64],
     time_roots: &[u64],
 ) -> bool
-    ensures {
-        let s : Store = store_of head start_table.now start_roots.now end_table.now end_roots.now time_table.now time_roots.now in
-        result ≡ head_fits s
-    }
+    ensures { let s : Store = store_of head start_table.now start_roots.now end_table.now end_roots.now time_table.now time_roots.now in
+        result ≡ head_fits s }
 {
     if Head::OPEN_LIMIT < head.count {
         return false;

@@ -50,11 +50,9 @@ pub fn put_command(block: &mut [u8; BLOCK_BYTES], command: u8) -> usize
 
 // "Status is the first output byte and the result what follows": of an answer that is zero filled.
 pub fn show_answer(block: &mut [u8; BLOCK_BYTES], answer: &[u8; LONGEST_ANSWER], open_count: u32)
-    ensures {
-        let status : ℕ = get_or answer.now 0 0 in
+    ensures { let status : ℕ = get_or answer.now 0 0 in
         let flags : ℕ = flag_byte (flags_shown status open_count) in
-        block.new ≡ overwrite (set (set block.old status_at status) flags_at flags) result_at (take result_count (drop 1 answer.now))
-    }
+        block.new ≡ overwrite (set (set block.old status_at status) flags_at flags) result_at (take result_count (drop 1 answer.now)) }
 {
     let status = answer[0];
     block[STATUS] = status;

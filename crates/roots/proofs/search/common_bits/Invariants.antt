@@ -1,0 +1,13 @@
+use Prim.Native.Nat.{ℕ, ◌+◌, ◌-◌, ◌≤◌, ◌<◌}
+use native.Mathlib.Omega.{arith}
+use lib.ListN.{get_or}
+use Rattle.words.specs.Words.{root_birth}
+use Rattle.roots.proofs.RootSearch.{common_more}
+use borrow.Author.Rules.{rules}
+use Rattle.roots.proofs.search.common_bits.Given as goal
+
+abbrev pub invariant-loop-at : goal.invariant-loop-at
+invariant-loop-at l = (l.at ≤ 32) × ((i : ℕ) → i < l.at → l.common ≤ root_birth (get_or l.roots (l.from + i) 0))
+
+abbrev pub decreases-loop-at : goal.decreases-loop-at
+decreases-loop-at l = 32 - l.at
