@@ -35,10 +35,8 @@ fn filled(
     requires to_le_most_rows { to ≤ most_rows }
     requires from_bound { to - from ≤ row_limit }
     requires in_page { InPage words.now (drop from order.now) }
-    ensures {
-        let page : Page = fill_page words.now t (empty_page (word words.now 0) low high t) (between from to order.now) in
-        result ≡ gain_page gain page
-    }
+    ensures { let page : Page = fill_page words.now t (empty_page (word words.now 0) low high t) (between from to order.now) in
+        result ≡ gain_page gain page }
 {
     let mut page = Page::empty(words[0], low, high, t);
     let mut at = from;
@@ -104,10 +102,8 @@ fn put_rows(
     requires from_bound { to - from ≤ row_limit }
     requires in_page { InPage words.now (drop from order.now) }
     requires page_words_in_bounds { (number + 1) * page_words ≤ length table.old }
-    ensures {
-        let page : Page = fill_page words.now t (empty_page (word words.now 0) low high t) (between from to order.now) in
-        table.new ≡ put_page table.old number (encode_page (gain_page gain page))
-    }
+    ensures { let page : Page = fill_page words.now t (empty_page (word words.now 0) low high t) (between from to order.now) in
+        table.new ≡ put_page table.old number (encode_page (gain_page gain page)) }
 {
     put_page(
         table,
