@@ -40,11 +40,9 @@ pub fn open(
     time_table: &mut [u64],
     time_roots: &mut [u64],
 ) -> Reply
-    ensures {
-        let s : Store = store_of head start_table.old start_roots.old end_table.old end_roots.old time_table.old time_roots.old in
+    ensures { let s : Store = store_of head start_table.old start_roots.old end_table.old end_roots.old time_table.old time_roots.old in
         let left : Lent = lent_of start_table.new start_roots.new end_table.new end_roots.new time_table.new time_roots.new in
-        RepliedAs (perform s opening) result left
-    }
+        RepliedAs (perform s opening) result left }
 {
     let refusal = opening_refusal(
         start_table,

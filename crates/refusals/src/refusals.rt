@@ -30,10 +30,8 @@ pub fn opening_refusal(
     time_table: &[u64],
     time_roots: &[u64],
 ) -> u8
-    ensures {
-        let lent : Lent = lent_of start_table.now start_roots.now end_table.now end_roots.now time_table.now time_roots.now in
-        ((head : Head) → result ≡ refusal (record { head = head; lent = lent }) opening)
-    }
+    ensures { let lent : Lent = lent_of start_table.now start_roots.now end_table.now end_roots.now time_table.now time_roots.now in
+        ((head : Head) → result ≡ refusal (record { head = head; lent = lent }) opening) }
 {
     if too_small(start_table, start_roots) {
         return 8;
@@ -58,10 +56,8 @@ pub fn head_refusal(
     time_roots: &[u64],
     input: u8,
 ) -> u8
-    ensures {
-        let s : Store = store_of head start_table.now start_roots.now end_table.now end_roots.now time_table.now time_roots.now in
-        result ≡ earlier input (first_met (head_grounds s))
-    }
+    ensures { let s : Store = store_of head start_table.now start_roots.now end_table.now end_roots.now time_table.now time_roots.now in
+        result ≡ earlier input (first_met (head_grounds s)) }
 {
     if input != 0 {
         return input;
@@ -84,10 +80,8 @@ pub fn head_refusal(
 fn planned_refusal(table: &[u64], roots: &[u64], used: TreeUse, tick: u32, key: u16) -> u8
     requires use_fits { UseFits (record { table = table.now; roots = roots.now; used = used }) }
     requires tick_lt_open_end { tick < open_end }
-    ensures {
-        let tree : Tree = record { table = table.entry.now; roots = roots.now; used = used } in
-        ((value : Value) → result ≡ first_met (plan_grounds tree (plan tree (record { tick = tick; key = key; value = value }))))
-    }
+    ensures { let tree : Tree = record { table = table.entry.now; roots = roots.now; used = used } in
+        ((value : Value) → result ≡ first_met (plan_grounds tree (plan tree (record { tick = tick; key = key; value = value })))) }
 {
     let plan = plan::plan(table, roots, used, tick, key);
     entry_refusal(table, roots, used, plan)
@@ -122,10 +116,8 @@ pub fn start_refusal(
     key: u32,
     weight: u32,
 ) -> u8
-    ensures {
-        let s : Store = store_of head start_table.now start_roots.now end_table.now end_roots.now time_table.now time_roots.now in
-        result ≡ refusal s (start tick key weight)
-    }
+    ensures { let s : Store = store_of head start_table.now start_roots.now end_table.now end_roots.now time_table.now time_roots.now in
+        result ≡ refusal s (start tick key weight) }
 {
     let input = start_input(tick, key, weight);
     let early = head_refusal(
@@ -165,10 +157,8 @@ pub fn end_refusal(
     found: FoundPass,
 ) -> u8
     requires { (number : ℕ) × (found ≡ pass_of head number) }
-    ensures {
-        let s : Store = store_of head start_table.now start_roots.now end_table.now end_roots.now time_table.now time_roots.now in
-        ((number : ℕ) → found ≡ pass_of head number → result ≡ refusal s (end tick number))
-    }
+    ensures { let s : Store = store_of head start_table.now start_roots.now end_table.now end_roots.now time_table.now time_roots.now in
+        ((number : ℕ) → found ≡ pass_of head number → result ≡ refusal s (end tick number)) }
 {
     let input = end_input(tick);
     let early = head_refusal(

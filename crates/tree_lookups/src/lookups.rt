@@ -22,10 +22,8 @@ pub fn lookup_starts(
     t: u32,
     k: u32,
 ) -> Answer
-    ensures {
-        let s : Store = store_of head start_table.now start_roots.now end_table.now end_roots.now time_table.now time_roots.now in
-        result ≡ (perform s (lookup_in Starts t k)).answer
-    }
+    ensures { let s : Store = store_of head start_table.now start_roots.now end_table.now end_roots.now time_table.now time_roots.now in
+        result ≡ (perform s (lookup_in Starts t k)).answer }
 {
     let input = lookup_input(t, k);
     let refusal = head_refusal(
@@ -57,10 +55,8 @@ pub fn lookup_ends(
     t: u32,
     k: u32,
 ) -> Answer
-    ensures {
-        let s : Store = store_of head start_table.now start_roots.now end_table.now end_roots.now time_table.now time_roots.now in
-        result ≡ (perform s (lookup_in Ends t k)).answer
-    }
+    ensures { let s : Store = store_of head start_table.now start_roots.now end_table.now end_roots.now time_table.now time_roots.now in
+        result ≡ (perform s (lookup_in Ends t k)).answer }
 {
     let input = lookup_input(t, k);
     let refusal = head_refusal(
@@ -92,10 +88,8 @@ pub fn lookup_time(
     t: u32,
     k: u32,
 ) -> Answer
-    ensures {
-        let s : Store = store_of head start_table.now start_roots.now end_table.now end_roots.now time_table.now time_roots.now in
-        result ≡ (perform s (lookup_in Time t k)).answer
-    }
+    ensures { let s : Store = store_of head start_table.now start_roots.now end_table.now end_roots.now time_table.now time_roots.now in
+        result ≡ (perform s (lookup_in Time t k)).answer }
 {
     let input = lookup_input(t, k);
     let refusal = head_refusal(
