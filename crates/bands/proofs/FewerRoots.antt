@@ -36,11 +36,11 @@ module _ (tree : Tree) (n : ℕ) where
     unfolding lookup
     lookup_same k = root_same t k (root_at (with_roots tree n) t) ∙ ap (lookup_root tree t k) same
 
-    band_same : (k1 k2 : ℕ) → in_band (with_roots tree n) t k1 k2 ≡ in_band tree t k1 k2
+    pub band_same : (k1 k2 : ℕ) → in_band (with_roots tree n) t k1 k2 ≡ in_band tree t k1 k2
     band_same k1 k2 =
         ap₂ (λ (high low : Lookup). cond (eqb k1 0) high (without high low)) (lookup_same (k2 - 1)) (lookup_same (k1 - 1))
 
-  before_same : (t : ℕ) → root_for (t - 1) (take n tree.roots) ≡ root_at tree (t - 1) → (k1 k2 : ℕ)
+  pub before_same : (t : ℕ) → root_for (t - 1) (take n tree.roots) ≡ root_at tree (t - 1) → (k1 k2 : ℕ)
       → band_before (with_roots tree n) t k1 k2 ≡ band_before tree t k1 k2
   before_same t same k1 k2 = ap (cond (eqb t 0) nothing) (band_same (t - 1) same k1 k2)
 

@@ -19,11 +19,9 @@ pub fn run_event(
     code: u8,
     operands: &[u8],
 ) -> Reply
-    ensures {
-        let s : Store = store_of head start_table.old start_roots.old end_table.old end_roots.old time_table.old time_roots.old in
+    ensures { let s : Store = store_of head start_table.old start_roots.old end_table.old end_roots.old time_table.old time_roots.old in
         let left : Lent = lent_of start_table.new start_roots.new end_table.new end_roots.new time_table.new time_roots.new in
-        RepliedAs (answered s operands.now (event_kind code)) result left
-    }
+        RepliedAs (answered s operands.now (event_kind code)) result left }
 {
     let event = read_event(code, operands);
     match event {

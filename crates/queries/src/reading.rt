@@ -29,10 +29,8 @@ pub fn query(
     t1: u32,
     t2: u32,
 ) -> Answer
-    ensures {
-        let s : Store = store_of head start_table.now start_roots.now end_table.now end_roots.now time_table.now time_roots.now in
-        result ≡ (perform s (query_call time k1 k2 t1 t2)).answer
-    }
+    ensures { let s : Store = store_of head start_table.now start_roots.now end_table.now end_roots.now time_table.now time_roots.now in
+        result ≡ (perform s (query_call time k1 k2 t1 t2)).answer }
 {
     let input = question_input(k1, k2, t1, t2);
     let refusal = head_refusal(
@@ -82,10 +80,8 @@ pub fn question(
     t1: u32,
     t2: u32,
 ) -> Answer
-    ensures {
-        let s : Store = store_of head start_table.now start_roots.now end_table.now end_roots.now time_table.now time_roots.now in
-        result ≡ (perform s (question k1 k2 t1 t2)).answer
-    }
+    ensures { let s : Store = store_of head start_table.now start_roots.now end_table.now end_roots.now time_table.now time_roots.now in
+        result ≡ (perform s (question k1 k2 t1 t2)).answer }
 {
     query(
         head,
@@ -117,10 +113,8 @@ pub fn bat_time(
     t1: u32,
     t2: u32,
 ) -> Answer
-    ensures {
-        let s : Store = store_of head start_table.now start_roots.now end_table.now end_roots.now time_table.now time_roots.now in
-        result ≡ (perform s (bat_time k1 k2 t1 t2)).answer
-    }
+    ensures { let s : Store = store_of head start_table.now start_roots.now end_table.now end_roots.now time_table.now time_roots.now in
+        result ≡ (perform s (bat_time k1 k2 t1 t2)).answer }
 {
     query(
         head,

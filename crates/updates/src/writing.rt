@@ -68,11 +68,9 @@ pub fn start(
     key: u32,
     weight: u32,
 ) -> Reply
-    ensures {
-        let s : Store = store_of head start_table.old start_roots.old end_table.now end_roots.now time_table.old time_roots.old in
+    ensures { let s : Store = store_of head start_table.old start_roots.old end_table.now end_roots.now time_table.old time_roots.old in
         let left : Lent = lent_of start_table.new start_roots.new end_table.now end_roots.now time_table.new time_roots.new in
-        RepliedAs (perform s (start tick key weight)) result left
-    }
+        RepliedAs (perform s (start tick key weight)) result left }
 {
     let refusal = start_refusal(
         head,
@@ -141,11 +139,9 @@ pub fn end(
     tick: u32,
     number: u32,
 ) -> Reply
-    ensures {
-        let s : Store = store_of head start_table.now start_roots.now end_table.old end_roots.old time_table.old time_roots.old in
+    ensures { let s : Store = store_of head start_table.now start_roots.now end_table.old end_roots.old time_table.old time_roots.old in
         let left : Lent = lent_of start_table.now start_roots.now end_table.new end_roots.new time_table.new time_roots.new in
-        RepliedAs (perform s (end tick number)) result left
-    }
+        RepliedAs (perform s (end tick number)) result left }
 {
     let found = find_pass(head, number);
     let refusal = end_refusal(

@@ -1,0 +1,29 @@
+use Prim.Native.Nat.{◌-◌}
+use mathlib.Core.Path.{◌∙◌}
+use borrow.Author.Tests.{eq-eqb}
+use Rattle.tree.specs.Tree.{Tree}
+use Rattle.bands.proofs.BandLaws.{looked_up, band_between, few_pages}
+use borrow.Author.Rules.{rules}
+use Rattle.bands.proofs.band.lookup_band.Goals as goal
+
+pub returns-then-k1-eq0 : goal.returns-then-k1-eq0
+returns-then-k1-eq0 c =
+    let a = c.args in
+    let tree : Tree = record { table = a.table.now; roots = a.roots.now; used = a.used } in
+    rw (eq-eqb a.k1 0 c.if-k1-eq0.true) (looked_up tree a.t (a.k2 - 1) c.find_root-root.ensures c.lookup_at.ensures)
+
+pub without-requires : goal.without-requires
+without-requires c =
+    let a = c.args in
+    let tree : Tree = record { table = a.table.now; roots = a.roots.now; used = a.used } in
+    record {
+      all_bound = few_pages tree a.t (a.k2 - 1) (looked_up tree a.t (a.k2 - 1) c.find_root-root.ensures c.lookup_two_at-two.ensures.upper_value);
+      part_bound = few_pages tree a.t (a.k1 - 1) (looked_up tree a.t (a.k1 - 1) c.find_root-root.ensures c.lookup_two_at-two.ensures.lower_value);
+    }
+
+pub returns : goal.returns
+returns c =
+    let a = c.args in
+    let tree : Tree = record { table = a.table.now; roots = a.roots.now; used = a.used } in
+    c.without.ensures
+    ∙ band_between tree a.t a.k1 a.k2 c.if-k1-eq0.false (looked_up tree a.t (a.k2 - 1) c.find_root-root.ensures c.lookup_two_at-two.ensures.upper_value) (looked_up tree a.t (a.k1 - 1) c.find_root-root.ensures c.lookup_two_at-two.ensures.lower_value)

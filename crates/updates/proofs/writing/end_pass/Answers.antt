@@ -1,0 +1,44 @@
+use native.Mathlib.Omega.{arith}
+use mathlib.Core.Path.{refl, ap₂, ◌∙◌}
+use Rattle.tree.specs.declared.types.TreeUse.{TreeUse}
+use Rattle.store.specs.declared.types.FoundPass.TheVariants.{At}
+use Rattle.store.specs.declared.types.TreeName.TheVariants.{Ends, Time}
+use Rattle.store.specs.Trees.{with_use}
+use Rattle.store.specs.Writing.{ended_head}
+use Rattle.store.proofs.TreeLaws.{same_lent}
+use borrow.Author.Rules.{rules}
+use Rattle.updates.proofs.writing.end_pass.Goals as goal
+
+pub overflow_cast-pass : goal.overflow_cast-pass
+overflow_cast-pass c = omega (arith, c.requires.key)
+
+pub enter-ends_after-requires : goal.enter-ends_after-requires
+enter-ends_after-requires c = rw c.one_pass-value.ensures c.requires.planned
+
+pub overflow_cast-pass-2 : goal.overflow_cast-pass-2
+overflow_cast-pass-2 c = omega (arith, c.requires.key)
+
+pub enter-time_after-requires : goal.enter-time_after-requires
+enter-time_after-requires c = rw c.time_at_end-line.ensures c.requires.time_planned
+
+pub ended_head-requires : goal.ended_head-requires
+ended_head-requires c =
+    record {
+      place_lt_count = c.requires.inside;
+      count_le_open_limit = c.requires.count;
+    }
+
+pub returns : goal.returns
+returns c = λ start_table start_roots.
+    let time = c in
+    let ends = time in
+    let a = ends.args in
+    let entered = rw ends.one_pass-value.ensures at ends.enter-ends_after.ensures in
+    let timed = rw time.time_at_end-line.ensures at time.enter-time_after.ensures in
+    record {
+      answer = refl;
+      head =
+          c.ended_head.ensures a.pass
+          ∙ ap₂ (λ (used used' : TreeUse). ended_head (with_use (with_use a.head Ends used) Time used') a.tick (At a.place a.pass)) entered.use_is timed.use_is;
+      lent_is = same_lent refl refl entered.table_is entered.roots_are timed.table_is timed.roots_are;
+    }
