@@ -8,9 +8,8 @@ returns-then-refusal-ne0 c = refused_whole _ _ _ _ c.burst_refusal-refusal.ensur
 
 pub enter_events-after-requires : goal.enter_events-after-requires
 enter_events-after-requires c =
-    takes_few _ _ (sym c.burst_refusal-refusal.ensures ∙ c.if-refusal-ne0.false)
-
--- ?? fields: bytes_bound, bytes_in_bounds
+    let few = takes_few _ _ (sym c.burst_refusal-refusal.ensures ∙ c.if-refusal-ne0.false) in
+    record { bytes_bound = few.0; bytes_in_bounds = few.1 }
 
 pub returns : goal.returns
 returns c =

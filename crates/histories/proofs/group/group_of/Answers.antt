@@ -11,10 +11,10 @@ pub loop-left-preserved : goal.loop-left-preserved
 loop-left-preserved c =
     let made = c.history_on-more in
     let l = c.loop-left in (
-      made.auto.0 ∙ l.invariant.0,
-      made.auto.1.0 ∙ l.invariant.1,
-      made.auto.1.1.0 ∙ l.invariant.2,
-      made.auto.1.1.1.0 ∙ l.invariant.3,
-      made.auto.1.1.1.1.0 ∙ l.invariant.4,
-      made.auto.1.1.1.1.1.0 ∙ l.invariant.5,
+      made.auto.start_table ∙ l.invariant.0,
+      made.auto.start_roots ∙ l.invariant.1,
+      made.auto.end_table ∙ l.invariant.2,
+      made.auto.end_roots ∙ l.invariant.3,
+      made.auto.time_table ∙ l.invariant.4,
+      made.auto.time_roots ∙ l.invariant.5,
     )

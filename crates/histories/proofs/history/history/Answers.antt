@@ -8,11 +8,11 @@ pub loop-left-preserved : goal.loop-left-preserved
 loop-left-preserved c =
     let turned = c.turn-run in
     let l = c.loop-left in (
-      turned.auto.1.0 ∙ l.invariant.0,
-      turned.auto.1.1.0 ∙ l.invariant.1,
-      turned.auto.1.1.1.0 ∙ l.invariant.2,
-      turned.auto.1.1.1.1.0 ∙ l.invariant.3,
-      turned.auto.1.1.1.1.1.0 ∙ l.invariant.4,
-      turned.auto.1.1.1.1.1.1.0 ∙ l.invariant.5,
+      turned.auto.start_table ∙ l.invariant.0,
+      turned.auto.start_roots ∙ l.invariant.1,
+      turned.auto.end_table ∙ l.invariant.2,
+      turned.auto.end_roots ∙ l.invariant.3,
+      turned.auto.time_table ∙ l.invariant.4,
+      turned.auto.time_roots ∙ l.invariant.5,
       l.invariant.6,
     )

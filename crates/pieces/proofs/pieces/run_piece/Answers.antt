@@ -54,7 +54,7 @@ overflow_add-taken c =
     let l = c.loop-on in
     let all = take_all (length a.input.now - (l.taken + 1)) (drop (l.taken + 1) a.input.now) (omega (arith, length-drop (l.taken + 1) a.input.now)) in
     let more = (ready _ _ _ _ _ (sym c.runs_at.ensures ∙ c.loop-on-test.true)).more in
-    omega (arith, more, c.command_length-taken.ensures.upper_bound, ap length all, length-drop (l.taken + 1) a.input.now, c.well-formed.1.1.1.1.1.1.1.0.0)
+    omega (arith, more, c.command_length-taken.ensures.upper_bound, ap length all, length-drop (l.taken + 1) a.input.now)
 
 pub loop-on-smaller : goal.loop-on-smaller
 loop-on-smaller c = omega (arith, (ready _ _ _ _ _ (sym c.runs_at.ensures ∙ c.loop-on-test.true)).more, c.command_length-taken.ensures.value)
@@ -70,15 +70,15 @@ loop-on-preserved c =
     let now = ready l.on (length a.out.now - l.written) a.ended a.input.now l.taken (sym (c.runs_at.ensures ∙ same) ∙ c.loop-on-test.true) in
     let run = c.run_command-reply in
     let put = c.put_answer-written in
-    let ran = ran_at s a.input.now l.taken now.more all run.ensures put.ensures.0 put.ensures.1 c.command_length-taken.ensures.value c.command_length-taken.ensures.upper_bound c.goes_on-on.ensures in
+    let ran = ran_at s a.input.now l.taken now.more all run.ensures put.ensures.out_after put.ensures.value c.command_length-taken.ensures.value c.command_length-taken.ensures.upper_bound c.goes_on-on.ensures in
     let next = moves_on a.out.now a.ended s₀ a.input.now s l.out l.taken l.written l.invariant.8 now ran in (
-      run.auto.1.0 ∙ l.invariant.0,
-      run.auto.1.1.0 ∙ l.invariant.1,
-      run.auto.1.1.1.0 ∙ l.invariant.2,
-      run.auto.1.1.1.1.0 ∙ l.invariant.3,
-      run.auto.1.1.1.1.1.0 ∙ l.invariant.4,
-      run.auto.1.1.1.1.1.1.0 ∙ l.invariant.5,
-      put.auto.0 ∙ l.invariant.6,
+      run.auto.start_table ∙ l.invariant.0,
+      run.auto.start_roots ∙ l.invariant.1,
+      run.auto.end_table ∙ l.invariant.2,
+      run.auto.end_roots ∙ l.invariant.3,
+      run.auto.time_table ∙ l.invariant.4,
+      run.auto.time_roots ∙ l.invariant.5,
+      put.auto.out ∙ l.invariant.6,
       next.fits,
       next,
     )
