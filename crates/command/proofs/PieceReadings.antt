@@ -1,5 +1,5 @@
 -- What a call takes of a piece, in words: why it takes no more, that it takes no byte twice, and how much room is always enough.
-use Prim.Native.Nat.{ℕ, zero, suc, ◌+◌, ◌-◌, ◌*◌, ◌≤◌, ◌<◌, min}
+use Prim.Native.Nat.{ℕ, ◌+◌, ◌-◌, ◌*◌, ◌≤◌, ◌<◌}
 use native.Mathlib.Omega.{arith}
 use mathlib.Core.Path.{◌≡◌, refl, ap, sym, subst, ◌∙◌}
 use mathlib.Core.Bool.{Bool, true, false, true≢false, not, ◌&&◌, ◌||◌}
@@ -11,7 +11,7 @@ use borrow.Author.Tests.{ltb-true, not-false}
 use Rattle.store.specs.Trees.{Store}
 use Rattle.store.specs.Answers.{Answered}
 use Rattle.command.specs.Stream.{Kind, unknown, command, kind_of, operand_bytes, written, longest_answer, goes_on, run_kind, run_one}
-use Rattle.command.specs.Pieces.{Fed, takes_nothing, followed, command_length, is_unfinished, must_wait, run_piece}
+use Rattle.command.specs.Pieces.{Fed, command_length, is_unfinished, must_wait, run_piece}
 use Rattle.command.proofs.KindLaws.{by_kind, few_operands, cut_short}
 use Rattle.command.proofs.AnswerLengths.{code_length, output_fits}
 use Rattle.command.proofs.PieceSteps.{on_whole, has_room, taken_on, each_piece}

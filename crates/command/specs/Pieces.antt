@@ -1,7 +1,7 @@
 -- The stream in pieces: what firmware or the program hands over is as much of the input as has come, and so much room for answers.
 use Rattle.std.specs.Prelude.{ℕ, zero, suc, ◌+◌, ◌-◌, min, ◌≡◌, List, [], ◌∷◌, ◌++◌, Bool, true, false, cond, not, ◌&&◌, ◌||◌, length, drop, ltb}
 use Rattle.store.specs.Trees.{Store}
-use Rattle.command.specs.Stream.{Kind, kind_of, operand_bytes, longest_answer, Ran, run_one, program_store}
+use Rattle.command.specs.Stream.{kind_of, operand_bytes, longest_answer, Ran, run_one, program_store}
 
 -- What a piece comes to: how many of its bytes are taken, what is written, what is left, and whether the run is over
 pub record Fed : Type 0 where

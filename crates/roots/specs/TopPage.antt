@@ -1,5 +1,5 @@
 -- The page where a lookup or an entry starts: that of a root, if it may be one.
-use Rattle.std.specs.Prelude.{ℕ, ◌≤◌, cond}
+use Rattle.std.specs.Prelude.{◌≤◌, cond}
 use Rattle.tree.specs.declared.types.Root.{Root}
 use Rattle.tree.specs.declared.types.Root.TheVariants as root
 use Rattle.tree.specs.Tree.{Tree, level_of, top_level, root_in_use}

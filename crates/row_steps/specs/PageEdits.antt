@@ -9,7 +9,6 @@ use Rattle.tree.specs.RowEdits.{row_in, put_row, end_row, append_row}
 use Rattle.tree.specs.Edit.{born_at}
 use Rattle.tree.specs.Fresh.{new_row}
 use Rattle.tree.specs.RowSteps.{gained, cut_at, linked_to}
-use Rattle.tree.specs.declared.types.Child.{Child}
 use Rattle.tree.specs.declared.types.Became.{Became}
 use Rattle.tree.specs.declared.types.Became.TheVariants.{Stays, Copied, Halved}
 use Rattle.row_steps.specs.declared.steps.Change.{Change}

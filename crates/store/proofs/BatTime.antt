@@ -2,7 +2,7 @@
 use Prim.Native.Nat.{ℕ, ◌+◌, ◌*◌, ◌^◌, ◌≤◌, ◌<◌}
 use native.Mathlib.Omega.{arith}
 use native.Mathlib.Nat.{mul-le-mul_left}
-use mathlib.Core.Path.{◌≡◌, refl, ap, sym, subst, ◌∙◌}
+use mathlib.Core.Path.{◌≡◌, refl, ap, ◌∙◌}
 use mathlib.Core.Bool.{Bool, true, false, cond}
 use mathlib.Core.List.{List, [], ◌∷◌, ◌++◌, map}
 use lib.ListN.{length, length-append}
@@ -13,12 +13,12 @@ use Rattle.store.specs.declared.types.TreeName.TheVariants.{Starts, Ends, Time}
 use Rattle.store.specs.declared.types.Answer.TheVariants.{BatTime}
 use Rattle.store.specs.Trees.{Store}
 use Rattle.store.specs.Calls.{Call, opening, question, bat_time, Sent}
-use Rattle.store.specs.Refusals.{Ground, first_met}
+use Rattle.store.specs.Refusals.{Ground}
 use Rattle.store.specs.Grounds.{Known, argument_grounds, state_grounds}
 use Rattle.store.specs.Answers.{refusal_of, pages_said, Answered, unless_refused}
-use Rattle.store.specs.Reading.{PointLookup, points_before, none_precede, lookup_before, lookups_of, pages_in, bat_time_total}
+use Rattle.store.specs.Reading.{PointLookup, points_before, none_precede, lookup_before, lookups_of, pages_in}
 use Rattle.store.specs.Performing.{head_knows, opens_over_too_little, head_unfit, page_grounds, refusal, served, perform, perform_all, store_after}
-use Rattle.store.specs.Passes.{End, still_open, ended_at, Pass, sum_where}
+use Rattle.store.specs.Passes.{End, still_open, ended_at, Pass}
 use Rattle.store.specs.BatTime.{shared_ticks, has_key_in, bat_time_of}
 use Rattle.store.specs.Points.{end_points_of, end_time_of, points_of}
 use Rattle.store.specs.Book.{Book, empty_book}
@@ -33,7 +33,7 @@ use Rattle.store.proofs.BookPasses.{BookKept, GatheredWithin, empty_kept}
 use Rattle.store.proofs.Agreement.{Agrees}
 use Rattle.store.proofs.LookupPages.{pages_most}
 use Rattle.store.proofs.BandLookups.{four_most}
-use Rattle.store.proofs.BatTimeSums.{most_time, most_fits, lived_most}
+use Rattle.store.proofs.BatTimeSums.{most_fits, lived_most}
 use Rattle.store.proofs.BatTimeValues.{bat_time_exact}
 use Rattle.store.proofs.Outcomes.{outcome, turn_alike}
 use Rattle.store.proofs.Main.{just_opened}

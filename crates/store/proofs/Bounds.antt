@@ -1,5 +1,5 @@
 -- Height and pages of a tree that took the book's points, and the pages on a path.
-use Prim.Native.Nat.{ℕ, suc, ◌+◌, ◌-◌, ◌*◌, ◌/◌, ◌^◌, ◌≤◌, ◌<◌}
+use Prim.Native.Nat.{ℕ, ◌+◌, ◌-◌, ◌*◌, ◌/◌, ◌^◌, ◌≤◌, ◌<◌}
 use native.Mathlib.Omega.{arith}
 use mathlib.Core.Path.{◌≡◌, refl, ap, sym, subst, ◌∙◌}
 use mathlib.Core.Bool.{Bool, true, false, cond, ◌||◌}
@@ -14,10 +14,8 @@ use Rattle.tree.specs.Path.{path}
 use Rattle.tree.specs.PointSums.{is_taken, different_keys}
 use Rattle.tree.proofs.Height.{many_same}
 use Rattle.tree.proofs.Main.{height_took, pages_at_most_used, path_short}
-use Rattle.store.specs.declared.types.TreeName.{TreeName}
-use Rattle.store.specs.Trees.{Store, tree_in}
+use Rattle.store.specs.Trees.{Store}
 use Rattle.store.specs.Passes.{sum_where}
-use Rattle.store.specs.Points.{points_of}
 use Rattle.store.specs.Book.{Book}
 use Rattle.store.specs.Demand.{Bounded, AllBounded}
 use Rattle.store.proofs.SumLaws.{sum_where_all}

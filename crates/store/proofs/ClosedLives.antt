@@ -1,5 +1,5 @@
 -- Document 02, Paper 2, "The last tick is heard": what closed lives mean, of whole lists of calls and of any store. Of this crate's proofs about that paper open this first.
-use Prim.Native.Nat.{ℕ, ◌+◌, ◌≤◌, ◌<◌}
+use Prim.Native.Nat.{ℕ, ◌≤◌, ◌<◌}
 use native.Mathlib.Omega.{arith}
 use mathlib.Core.Path.{◌≡◌, refl, ◌∙◌}
 use mathlib.Core.Bool.{Bool, true, false, cond}

@@ -2,7 +2,7 @@
 use Prim.Native.Nat.{ℕ, zero, suc, ◌+◌, ◌-◌, ◌<◌}
 use native.Mathlib.Omega.{arith}
 use mathlib.Core.Path.{◌≡◌, refl, ap, ap₂, sym, subst, ◌∙◌}
-use mathlib.Core.Bool.{Bool, true, false, cond, false≢true}
+use mathlib.Core.Bool.{Bool, true, cond, false≢true}
 use mathlib.Core.List.{List, [], ◌∷◌, ◌++◌}
 use lib.ListN.{length, get_or, take, drop, length-append, length-take, length-drop}
 use Rattle.words.specs.Lists.{All}
@@ -24,7 +24,7 @@ use Rattle.store.specs.Passes.{End, still_open, ended_at, Pass, sum_where}
 use Rattle.store.specs.Points.{end_points_of, end_time_of, points_of}
 use Rattle.store.specs.Book.{Book, is_open, not_ended, never_started, pass_numbered, book_knows, end_pass_at, book_does}
 use Rattle.store.proofs.SumLaws.{sum_where_one}
-use Rattle.store.proofs.PointLaws.{ended, points_ended}
+use Rattle.store.proofs.PointLaws.{points_ended}
 use Rattle.store.proofs.BookPasses.{PassKept, ended_length, ended_kept}
 use Rattle.store.proofs.OpenPasses.{open_of, open_pass, FoundAt, find_open}
 use Rattle.store.proofs.HeadLists.{closed_length, list_closed}

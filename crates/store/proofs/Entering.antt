@@ -1,12 +1,11 @@
 -- The grounds of the points that a call enters: 26 never, then 27, 28, or room for all of them.
-use Prim.Native.Nat.{ℕ, zero, suc, ◌≤◌, ◌<◌}
+use Prim.Native.Nat.{ℕ, ◌≤◌, ◌<◌}
 use native.Mathlib.Omega.{arith}
 use mathlib.Core.Path.{◌≡◌, refl, ap, sym, subst, ◌∙◌}
-use mathlib.Core.Bool.{Bool, true, false, cond, false≢true}
-use mathlib.Core.List.{List, [], ◌∷◌, ◌++◌, map, append-nil}
+use mathlib.Core.Bool.{Bool, true, false, false≢true}
+use mathlib.Core.List.{List, [], ◌∷◌, ◌++◌, append-nil}
 use mathlib.Core.Logic.{◌⊎◌, inl, inr}
 use lib.ListN.{length}
-use lib.Dec.{leb, ltb}
 use borrow.Author.Tests.{ltb-true, ltb-false, leb-true, leb-false}
 use Rattle.words.specs.Lists.{All}
 use Rattle.tree.specs.declared.types.Plan.{Plan}
@@ -18,7 +17,7 @@ use Rattle.tree.specs.Plan.{plan}
 use Rattle.tree.specs.RowSteps.{Point}
 use Rattle.tree.specs.Grown.{Room}
 use Rattle.store.specs.Trees.{Store, tree_in}
-use Rattle.store.specs.Refusals.{Ground, ◌gives◌, first_met}
+use Rattle.store.specs.Refusals.{first_met}
 use Rattle.store.specs.Writing.{Entry, plan_of, plan_spoiled, lacks_pages, root_list_full, lacks_root, entry_grounds}
 use Rattle.store.specs.Demand.{pages_made, new_root, PagesLack, ListFull}
 use Rattle.store.proofs.RefusalLaws.{each, each_none, EachCase, each_case, some_map, none_some}

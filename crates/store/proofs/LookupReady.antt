@@ -1,7 +1,6 @@
 -- Lookups: the store answers as the book, and stays as it is.
-use Prim.Native.Nat.{ℕ, ◌≤◌}
-use native.Mathlib.Omega.{arith}
-use mathlib.Core.Path.{◌≡◌, refl, ap}
+use Prim.Native.Nat.{ℕ}
+use mathlib.Core.Path.{ap}
 use mathlib.Core.List.{[], ◌∷◌}
 use Rattle.tree.specs.declared.types.Lookup.{Lookup}
 use Rattle.store.specs.declared.types.TreeName.{TreeName}

@@ -2,9 +2,8 @@
 use Prim.Native.Nat.{ℕ, zero, suc, ◌≤◌}
 use native.Mathlib.Omega.{arith}
 use mathlib.Core.Path.{◌≡◌, refl, ap, sym, subst, ◌∙◌}
-use mathlib.Core.Bool.{Bool, true, false}
 use mathlib.Core.List.{List, [], ◌∷◌, ◌++◌}
-use mathlib.Core.Logic.{◌⊎◌, inl, inr}
+use mathlib.Core.Logic.{inl, inr}
 use Rattle.words.specs.Lists.{All}
 use Rattle.tree.specs.Grown.{InTime}
 use Rattle.tree.proofs.Lists.{all_append}
@@ -22,7 +21,7 @@ use Rattle.store.proofs.RefusalLaws.{first_has, first_refuses, first_passes, fir
 use Rattle.store.proofs.ArgumentFacts.{Usual, AllUsual, arguments_usual, states_usual, usual_numbered, arguments_numbered, lookup_bounds, start_arguments, end_tick, asked, may_start, may_end}
 use Rattle.store.proofs.Agreement.{Agrees, same_grounds}
 use Rattle.store.proofs.TreesTook.{planned}
-use Rattle.store.proofs.Entering.{PlanReady, HasRoom, EntryCase, entry_case}
+use Rattle.store.proofs.Entering.{PlanReady, EntryCase, entry_case}
 use Rattle.store.proofs.Ready.{ServedAlike, Ready, never_spoiled}
 use Rattle.store.proofs.OpeningReady.{opening_ready}
 use Rattle.store.proofs.StartReady.{start_ready}

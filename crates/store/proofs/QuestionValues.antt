@@ -1,5 +1,5 @@
 -- The value of a question: "starts(t2 - 1, k2 - 1) - ends(t1 - 1, k2 - 1) - starts(t2 - 1, k1 - 1) + ends(t1 - 1, k1 - 1)", modulo 2^64, is the book's.
-use Prim.Native.Nat.{ℕ, zero, ◌+◌, ◌-◌, ◌%◌, ◌^◌, ◌≤◌, ◌<◌}
+use Prim.Native.Nat.{ℕ, ◌+◌, ◌-◌, ◌%◌, ◌^◌, ◌≤◌, ◌<◌}
 use native.Mathlib.Omega.{arith}
 use native.Mathlib.Decide.{ℕ_discrete}
 use mathlib.Core.Path.{◌≡◌, refl, ap, ap₂, sym, ◌∙◌}
@@ -20,7 +20,7 @@ use Rattle.tree.proofs.Lists.{all_map}
 use Rattle.store.specs.declared.types.TreeName.{TreeName}
 use Rattle.store.specs.declared.types.TreeName.TheVariants.{Starts, Ends, Time}
 use Rattle.store.specs.Trees.{Store}
-use Rattle.store.specs.Reading.{value_of, PointLookup, found_in, points_before, value_before, question_value}
+use Rattle.store.specs.Reading.{value_of, found_in, points_before, value_before, question_value}
 use Rattle.store.specs.Passes.{Pass, meets, sum_where, question_count, question_sum}
 use Rattle.store.specs.Points.{points_of, answered_by}
 use Rattle.store.specs.Book.{Book}

@@ -1,15 +1,15 @@
 -- The trees of a store that agrees with the book, as they take one point more, or none.
-use Prim.Native.Nat.{ℕ, zero, suc, ◌+◌, ◌≤◌, ◌<◌}
+use Prim.Native.Nat.{ℕ, ◌+◌, ◌≤◌}
 use native.Mathlib.Omega.{arith}
-use mathlib.Core.Path.{◌≡◌, refl, ap, sym, subst, ◌∙◌}
-use mathlib.Core.Bool.{Bool, true, false, cond}
-use mathlib.Core.List.{List, [], ◌∷◌}
+use mathlib.Core.Path.{◌≡◌, ap, sym, subst, ◌∙◌}
+use mathlib.Core.Bool.{Bool, cond}
+use mathlib.Core.List.{List, ◌∷◌}
 use Rattle.tree.specs.declared.types.Plan.TheVariants.{Ready}
 use Rattle.tree.specs.declared.types.RootChange.{RootChange}
 use Rattle.tree.specs.Tree.{Tree}
 use Rattle.tree.specs.RowSteps.{Point}
 use Rattle.tree.specs.Plan.{plan, enter}
-use Rattle.tree.specs.Grown.{grow, last_tick, InTime, Room}
+use Rattle.tree.specs.Grown.{last_tick, InTime, Room}
 use Rattle.tree.proofs.Main.{grown_more, plan_never_spoiled}
 use Rattle.store.specs.Passes.{sum_where}
 use Rattle.store.proofs.Agreement.{TreeTook}

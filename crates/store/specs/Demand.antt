@@ -9,7 +9,6 @@ use Rattle.tree.specs.Tree.{Tree, height, pages_left}
 use Rattle.tree.specs.RowSteps.{Point}
 use Rattle.tree.specs.Path.{path}
 use Rattle.tree.specs.PointSums.{different_keys}
-use Rattle.store.specs.declared.types.Answer.{Answer}
 use Rattle.store.specs.declared.types.Head.{Head}
 use Rattle.store.specs.declared.types.TreeName.{TreeName}
 use Rattle.store.specs.Trees.{Lent, Store, tree_in}

@@ -5,7 +5,7 @@ use mathlib.Core.Path.{◌≡◌, refl, sym, ap, ◌∙◌}
 use mathlib.Core.Bool.{Bool, true, false, cond, ◌&&◌}
 use mathlib.Core.List.{List, [], ◌∷◌}
 use lib.Dec.{eqb, ltb}
-use borrow.Author.Tests.{leb-true, ltb-true, eqb-true, eqb-false, eq-eqb, ne_eqb}
+use borrow.Author.Tests.{leb-true, ltb-true, eqb-true, eqb-false, ne_eqb}
 use Rattle.words.specs.Sums.{sum_by, count}
 use Rattle.ranges.specs.KeyRanges.{range_low, range_high, holds_key}
 use Rattle.tiles.specs.TileTest.{larger, is_empty, clipped, spanned, stops_well, every, tiles}

@@ -1,5 +1,5 @@
 -- "the lower taking the larger half": of the two pages that rows go to, the lower takes as many as the upper, or one more.
-use Prim.Native.Nat.{ℕ, ◌+◌, ◌≤◌}
+use Prim.Native.Nat.{◌+◌, ◌≤◌}
 use native.Mathlib.Omega.{arith}
 use mathlib.Core.List.{List}
 use lib.ListN.{length, take, drop, length-take, length-drop}

@@ -1,6 +1,6 @@
 -- What is known of an entry before anything is written: 26, the pages that the splits make, "counted as if table and root list had room",
 -- and whether a root entry is added, replaced or neither.
-use Rattle.std.specs.Prelude.{ℕ, zero, suc, ◌+◌, ◌*◌, Bool, true, false, cond, ◌&&◌, not, eqb}
+use Rattle.std.specs.Prelude.{ℕ, zero, suc, Bool, true, false, cond, ◌&&◌, not, eqb}
 use Rattle.words.specs.Words.{key_limit}
 use Rattle.tree.specs.declared.types.Row.{Row}
 use Rattle.tree.specs.Row.{rows_of}

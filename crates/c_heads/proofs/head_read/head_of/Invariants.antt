@@ -1,14 +1,9 @@
-use Prim.Native.Nat.{ℕ, ◌+◌, ◌-◌, ◌≤◌}
-use native.Mathlib.Omega.{arith}
-use mathlib.Core.Path.{◌≡◌, refl, ap, sym, ◌∙◌}
-use lib.ListN.{length, get_or, take, set, length-set}
-use lib.Seq.{take_all}
-use Rattle.store.specs.declared.types.OpenPass.{OpenPass}
-use Rattle.store.specs.declared.types.Head.{Head}
+use Prim.Native.Nat.{◌-◌, ◌≤◌}
+use mathlib.Core.Path.{◌≡◌}
+use lib.ListN.{length, take}
 use Rattle.store.specs.Head.{open_limit}
 use Rattle.c_heads.specs.Heads.{field_numbers, passes_from}
-use Rattle.c_heads.proofs.HeadNumbers.{with_passes, read_more}
-use borrow.Author.Rules.{rules}
+use Rattle.c_heads.proofs.HeadNumbers.{with_passes}
 use Rattle.c_heads.proofs.head_read.head_of.Given as goal
 
 abbrev pub invariant-loop-place : goal.invariant-loop-place

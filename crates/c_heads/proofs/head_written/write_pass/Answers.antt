@@ -1,7 +1,6 @@
 use native.Mathlib.Omega.{arith}
 use lib.ListN.{length-set}
 use Rattle.c_heads.proofs.HeadNumbers.{four_set}
-use borrow.Author.Rules.{rules}
 use Rattle.c_heads.proofs.head_written.write_pass.Goals as goal
 
 pub bounds-numbers-at-2 : goal.bounds-numbers-at-2

@@ -1,11 +1,11 @@
-use Prim.Native.Nat.{ℕ, ◌-◌, ◌≤◌}
+use Prim.Native.Nat.{ℕ}
 use native.Mathlib.Omega.{arith}
 use mathlib.Core.Path.{◌≡◌, ap, ◌∙◌}
 use lib.ListN.{length, take}
 use Rattle.words.specs.Overwrite.{overwrite}
 use Rattle.tree.proofs.Lists.{length_mapped}
 use Rattle.store.specs.Head.{open_limit}
-use Rattle.c_heads.specs.Heads.{field_numbers, head_numbers, numbers_of_passes}
+use Rattle.c_heads.specs.Heads.{field_numbers, numbers_of_passes}
 use Rattle.c_heads.proofs.HeadNumbers.{write_none, write_more}
 use borrow.Author.Rules.{rules}
 use Rattle.c_heads.proofs.head_written.write_passes.Goals as goal

@@ -1,6 +1,5 @@
 use native.Mathlib.Omega.{arith}
 use Rattle.codec.proofs.ByteLaws.{spell2}
-use borrow.Author.Rules.{rules}
 use Rattle.codec.proofs.numbers.number2.Goals as goal
 
 pub returns : goal.returns

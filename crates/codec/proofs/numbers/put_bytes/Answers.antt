@@ -1,9 +1,8 @@
-use Prim.Native.Nat.{ℕ, ◌+◌, ◌-◌, ◌≤◌}
+use Prim.Native.Nat.{ℕ, ◌+◌}
 use native.Mathlib.Omega.{arith}
-use mathlib.Core.Path.{◌≡◌, ap, ◌∙◌}
+use mathlib.Core.Path.{ap, ◌∙◌}
 use mathlib.Core.List.{List}
-use lib.ListN.{length, get_or, set, take, length-set}
-use Rattle.words.specs.Overwrite.{overwrite}
+use lib.ListN.{get_or, set, length-set}
 use Rattle.codec.proofs.ByteLaws.{put_none, put_more, put_all}
 use borrow.Author.Rules.{rules}
 use Rattle.codec.proofs.numbers.put_bytes.Goals as goal

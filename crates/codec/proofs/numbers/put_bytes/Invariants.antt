@@ -1,11 +1,7 @@
-use Prim.Native.Nat.{ℕ, ◌+◌, ◌-◌, ◌≤◌}
-use native.Mathlib.Omega.{arith}
-use mathlib.Core.Path.{◌≡◌, ap, ◌∙◌}
-use mathlib.Core.List.{List}
-use lib.ListN.{length, get_or, set, take, length-set}
+use Prim.Native.Nat.{◌-◌, ◌≤◌}
+use mathlib.Core.Path.{◌≡◌}
+use lib.ListN.{length, take}
 use Rattle.words.specs.Overwrite.{overwrite}
-use Rattle.codec.proofs.ByteLaws.{put_none, put_more, put_all}
-use borrow.Author.Rules.{rules}
 use Rattle.codec.proofs.numbers.put_bytes.Given as goal
 
 abbrev pub invariant-loop-at : goal.invariant-loop-at

@@ -1,12 +1,8 @@
-use Prim.Native.Nat.{ℕ, suc, ◌+◌, ◌-◌, ◌/◌, ◌%◌, ◌≤◌, ◌<◌}
-use native.Mathlib.Omega.{arith}
-use mathlib.Core.Path.{◌≡◌, refl, ap, ap₂, sym, ◌∙◌}
-use mathlib.Core.List.{List}
-use lib.ListN.{length, get_or, set, take, drop, length-set}
+use Prim.Native.Nat.{◌-◌, ◌≤◌}
+use mathlib.Core.Path.{◌≡◌}
+use lib.ListN.{length, take, drop}
 use Rattle.words.specs.Overwrite.{overwrite}
 use Rattle.codec.specs.Bytes.{bytes_of}
-use Rattle.codec.proofs.ByteLaws.{bytes_length, left_head, put_none, put_more, put_all}
-use borrow.Author.Rules.{rules}
 use Rattle.codec.proofs.numbers.put_number.Given as goal
 
 abbrev pub invariant-loop-at : goal.invariant-loop-at

@@ -2,7 +2,6 @@ use mathlib.Core.Path.{sym}
 use Rattle.command.specs.Stream.{end_command}
 use Rattle.command.proofs.KindLaws.{cut_short}
 use Rattle.events.proofs.ReadLaws.{end_read}
-use borrow.Author.Rules.{rules}
 use Rattle.events.proofs.reading.read_end.Goals as goal
 
 pub returns-then-operands-lt8 : goal.returns-then-operands-lt8

@@ -1,7 +1,6 @@
 use mathlib.Core.Path.{ap, sym, ◌∙◌}
 use Rattle.command.specs.Stream.{answered}
 use Rattle.command.proofs.KindLaws.{event_start, event_end, event_unknown}
-use borrow.Author.Rules.{rules}
 use Rattle.events.proofs.reading.read_event.Goals as goal
 
 pub returns-then-code-eq1 : goal.returns-then-code-eq1

@@ -2,7 +2,6 @@ use mathlib.Core.Path.{sym}
 use Rattle.command.specs.Stream.{start_command}
 use Rattle.command.proofs.KindLaws.{cut_short}
 use Rattle.events.proofs.ReadLaws.{start_read}
-use borrow.Author.Rules.{rules}
 use Rattle.events.proofs.reading.read_start.Goals as goal
 
 pub returns-then-operands-lt8 : goal.returns-then-operands-lt8

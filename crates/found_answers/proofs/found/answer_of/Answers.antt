@@ -1,4 +1,4 @@
-use Rattle.std.proofs.Common.{sym, ap, rules}
+use Rattle.std.proofs.Common.{sym, ap}
 use Rattle.found_answers.specs.FoundAnswers.{answer_of}
 use Rattle.found_answers.proofs.found.answer_of.Goals as goal
 

@@ -1,7 +1,6 @@
 use mathlib.Core.Path.{ap, sym, ◌∙◌}
 use mathlib.Core.Bool.{not}
 use Rattle.framing.proofs.FramingLaws.{unknown_ends, known_goes_on}
-use borrow.Author.Rules.{rules}
 use Rattle.framing.proofs.framing.goes_on.Goals as goal
 
 pub returns-then-operand_count-eq0 : goal.returns-then-operand_count-eq0

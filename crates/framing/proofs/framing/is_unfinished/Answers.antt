@@ -1,7 +1,6 @@
 use mathlib.Core.Path.{ap}
 use lib.ListN.{length}
 use lib.Dec.{ltb}
-use borrow.Author.Rules.{rules}
 use Rattle.framing.proofs.framing.is_unfinished.Goals as goal
 
 pub returns : goal.returns

@@ -1,6 +1,5 @@
 use mathlib.Core.Path.{◌∙◌}
 use Rattle.framing.proofs.FramingLaws.{waits_for_room, ended_runs, waits_for_bytes}
-use borrow.Author.Rules.{rules}
 use Rattle.framing.proofs.framing.must_wait.Goals as goal
 
 pub returns-then-room-lt-LONGEST_ANSWER : goal.returns-then-room-lt-LONGEST_ANSWER

@@ -1,6 +1,5 @@
 use borrow.Author.Tests.{lt-ltb, le-ltb}
 use Rattle.store.specs.Refusals.{first_met}
-use borrow.Author.Rules.{rules}
 use Rattle.grounds.proofs.grounds.end_state.Goals as goal
 
 pub returns-then-tick-last : goal.returns-then-tick-last

@@ -1,10 +1,9 @@
-use mathlib.Core.Path.{◌≡◌, sym, ◌∙◌}
+use mathlib.Core.Path.{sym, ◌∙◌}
 use mathlib.Core.Bool.{and-false}
 use borrow.Author.Tests.{le-leb, lt-leb}
 use Rattle.store.specs.declared.types.TreeName.TheVariants.{Starts, Ends, Time}
 use Rattle.store.specs.Head.{head_fits}
 use Rattle.head.proofs.HeadParts.{tree_unfit, passes_decide}
-use borrow.Author.Rules.{rules}
 use Rattle.head.proofs.fits.head_fits.Goals as goal
 
 pub returns-then-head-gt-OPEN_LIMIT : goal.returns-then-head-gt-OPEN_LIMIT

@@ -1,12 +1,9 @@
 use mathlib.Core.Path.{◌≡◌, sym, ◌∙◌}
-use mathlib.Core.Bool.{◌&&◌}
-use Prim.Native.Nat.{◌≤◌, ◌-◌}
 use lib.ListN.{length, get_or}
-use lib.Seq.{slice}
 use native.Mathlib.Omega.{arith}
 use Rattle.tree.proofs.Lists.{length_mapped}
-use Rattle.store.specs.Head.{open_limit, no_pass, open_passes, passes_fit, numbers_rise}
-use Rattle.head.proofs.FitLaws.{fit_from, fit_all, fits_below, fit_next, fit_low, fit_not, fit_none}
+use Rattle.store.specs.Head.{open_limit, no_pass, open_passes}
+use Rattle.head.proofs.FitLaws.{fit_all, fits_below, fit_next, fit_low, fit_not, fit_none}
 use borrow.Author.Rules.{rules}
 use Rattle.head.proofs.fits.passes_fit.Goals as goal
 

@@ -1,5 +1,5 @@
 use mathlib.Core.Path.{◌≡◌, ap, ◌∙◌}
-use Prim.Native.Nat.{ℕ, ◌≤◌, ◌-◌, ◌+◌}
+use Prim.Native.Nat.{ℕ, ◌-◌}
 use lib.ListN.{length, set}
 use native.Mathlib.Omega.{arith}
 use Rattle.tree.proofs.Lists.{length_mapped}

@@ -1,11 +1,7 @@
-use mathlib.Core.Path.{◌≡◌, ap, ◌∙◌}
-use Prim.Native.Nat.{ℕ, ◌≤◌, ◌-◌, ◌+◌}
-use lib.ListN.{length, set}
-use native.Mathlib.Omega.{arith}
-use Rattle.tree.proofs.Lists.{length_mapped}
-use Rattle.store.specs.Head.{open_limit, no_pass}
-use Rattle.open_passes.proofs.ClosingUp.{with_passes, ended_with, moved_to, move_none, move_more, move_done}
-use borrow.Author.Rules.{rules}
+use mathlib.Core.Path.{◌≡◌}
+use Prim.Native.Nat.{◌≤◌, ◌-◌, ◌+◌}
+use lib.ListN.{length}
+use Rattle.open_passes.proofs.ClosingUp.{with_passes, moved_to}
 use Rattle.open_passes.proofs.passes.ended_head.Given as goal
 
 abbrev pub invariant-loop-at : goal.invariant-loop-at

@@ -1,10 +1,9 @@
 use mathlib.Core.Path.{◌≡◌, ap, sym, ◌∙◌}
-use Prim.Native.Nat.{ℕ, ◌≤◌, ◌-◌}
+use Prim.Native.Nat.{ℕ}
 use lib.ListN.{length, take}
-use lib.Seq.{slice}
 use native.Mathlib.Omega.{arith}
 use Rattle.tree.proofs.Lists.{length_mapped}
-use Rattle.store.specs.Head.{open_limit, no_pass, find_pass, pass_of}
+use Rattle.store.specs.Head.{open_limit, no_pass, find_pass}
 use Rattle.open_passes.proofs.FindLaws.{find_here, find_next, find_none, take_listed}
 use borrow.Author.Rules.{rules}
 use Rattle.open_passes.proofs.passes.find_pass.Goals as goal

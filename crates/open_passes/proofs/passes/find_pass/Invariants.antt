@@ -1,12 +1,8 @@
-use mathlib.Core.Path.{◌≡◌, ap, sym, ◌∙◌}
-use Prim.Native.Nat.{ℕ, ◌≤◌, ◌-◌}
-use lib.ListN.{length, take}
+use mathlib.Core.Path.{◌≡◌}
+use Prim.Native.Nat.{◌≤◌, ◌-◌}
+use lib.ListN.{length}
 use lib.Seq.{slice}
-use native.Mathlib.Omega.{arith}
-use Rattle.tree.proofs.Lists.{length_mapped}
-use Rattle.store.specs.Head.{open_limit, no_pass, find_pass, pass_of}
-use Rattle.open_passes.proofs.FindLaws.{find_here, find_next, find_none, take_listed}
-use borrow.Author.Rules.{rules}
+use Rattle.store.specs.Head.{find_pass, pass_of}
 use Rattle.open_passes.proofs.passes.find_pass.Given as goal
 
 abbrev pub invariant-loop-place : goal.invariant-loop-place

@@ -1,4 +1,3 @@
-use borrow.Author.Rules.{rules}
 use Rattle.open_passes.proofs.passes.opened_head.Goals as goal
 
 pub returns : goal.returns

@@ -1,12 +1,8 @@
 use Prim.Native.Nat.{ℕ}
 use mathlib.Core.List.{List}
 use lib.ListN.{length-set, set}
-use mathlib.Core.Path.{◌≡◌, ap, ◌∙◌}
-use Prim.Native.Nat.{◌≤◌, ◌-◌}
-use lib.ListN.{length}
+use mathlib.Core.Path.{ap, ◌∙◌}
 use native.Mathlib.Omega.{arith}
-use Rattle.words.specs.Overwrite.{overwrite}
-use Rattle.tree.specs.Fresh.{zeros}
 use Rattle.page.proofs.FreshLaws.{clear_none, clear_more, clear_done}
 use borrow.Author.Rules.{rules}
 use Rattle.page.proofs.fresh.clear_from.Goals as goal

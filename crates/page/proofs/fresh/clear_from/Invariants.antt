@@ -1,14 +1,8 @@
-use Prim.Native.Nat.{ℕ}
-use mathlib.Core.List.{List}
-use lib.ListN.{length-set, set}
-use mathlib.Core.Path.{◌≡◌, ap, ◌∙◌}
+use mathlib.Core.Path.{◌≡◌}
 use Prim.Native.Nat.{◌≤◌, ◌-◌}
 use lib.ListN.{length}
-use native.Mathlib.Omega.{arith}
 use Rattle.words.specs.Overwrite.{overwrite}
 use Rattle.tree.specs.Fresh.{zeros}
-use Rattle.page.proofs.FreshLaws.{clear_none, clear_more, clear_done}
-use borrow.Author.Rules.{rules}
 use Rattle.page.proofs.fresh.clear_from.Given as goal
 
 abbrev pub invariant-loop-at : goal.invariant-loop-at

@@ -1,5 +1,4 @@
 use Rattle.store.specs.Book.{book_refusal}
-use borrow.Author.Rules.{rules}
 use Rattle.pass_book.proofs.grounds.asked_refusal.Goals as goal
 
 pub returns-in-Question : goal.returns-in-Question

@@ -1,7 +1,6 @@
 use mathlib.Core.Path.{refl}
 use Rattle.store.specs.Refusals.{first_met}
 use Rattle.store.specs.Book.{book_refusal}
-use borrow.Author.Rules.{rules}
 use Rattle.pass_book.proofs.grounds.refusal.Goals as goal
 
 pub returns-in-Open : goal.returns-in-Open

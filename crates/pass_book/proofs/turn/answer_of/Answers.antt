@@ -1,5 +1,4 @@
 use mathlib.Core.Path.{refl}
-use borrow.Author.Rules.{rules}
 use Rattle.pass_book.proofs.turn.answer_of.Goals as goal
 
 pub returns-in-Question : goal.returns-in-Question

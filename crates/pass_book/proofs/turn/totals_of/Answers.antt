@@ -4,7 +4,6 @@ use Rattle.store.specs.Book.{book_part}
 use Rattle.pass_list.specs.PassList.{book_in}
 use Rattle.pass_list.proofs.PassLaws.{passes_length}
 use Rattle.pass_book.proofs.SaidLaws.{said_as}
-use borrow.Author.Rules.{rules}
 use Rattle.pass_book.proofs.turn.totals_of.Goals as goal
 
 pub returns : goal.returns

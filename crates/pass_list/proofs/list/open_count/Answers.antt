@@ -1,6 +1,5 @@
-use Rattle.std.proofs.Common.{◌≡◌, ◌-◌, ◌≤◌, arith, rules}
-use Rattle.store.specs.Passes.{sum_where, count_where}
-use Rattle.store.specs.Book.{is_open}
+use Rattle.std.proofs.Common.{◌≡◌, arith, rules}
+use Rattle.store.specs.Passes.{sum_where}
 use Rattle.pass_list.specs.PassList.{passes_in}
 use Rattle.pass_list.proofs.TotalLaws.{open_next}
 use Rattle.pass_list.proofs.list.open_count.Goals as goal

@@ -1,8 +1,7 @@
-use Rattle.std.proofs.Common.{◌≡◌, ◌-◌, ◌≤◌, arith, rules}
-use Rattle.store.specs.Passes.{sum_where, count_where}
+use Rattle.std.proofs.Common.{◌≡◌, ◌-◌, ◌≤◌}
+use Rattle.store.specs.Passes.{count_where}
 use Rattle.store.specs.Book.{is_open}
 use Rattle.pass_list.specs.PassList.{passes_in}
-use Rattle.pass_list.proofs.TotalLaws.{open_next}
 use Rattle.pass_list.proofs.list.open_count.Given as goal
 
 abbrev pub invariant-loop-number : goal.invariant-loop-number

@@ -1,4 +1,4 @@
-use Rattle.std.proofs.Common.{arith, length-set, rules}
+use Rattle.std.proofs.Common.{arith, length-set}
 use Rattle.pass_list.proofs.list.put_pass.Goals as goal
 
 pub bounds-passes-at-2 : goal.bounds-passes-at-2

@@ -1,4 +1,4 @@
-use Rattle.std.proofs.Common.{sym, ◌∙◌, rules}
+use Rattle.std.proofs.Common.{sym, ◌∙◌}
 use Rattle.pass_list.proofs.WorthLaws.{counted, uncounted}
 use Rattle.pass_list.proofs.sums.band_worth.Goals as goal
 

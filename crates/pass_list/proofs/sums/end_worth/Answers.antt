@@ -1,4 +1,4 @@
-use Rattle.std.proofs.Common.{rules, eq-eqb, ne_eqb}
+use Rattle.std.proofs.Common.{eq-eqb, ne_eqb}
 use Rattle.pass_list.proofs.sums.end_worth.Goals as goal
 
 pub returns-then-pass-eq-OPEN : goal.returns-then-pass-eq-OPEN

@@ -1,4 +1,4 @@
-use Rattle.std.proofs.Common.{ℕ, ◌-◌, ap, ◌∙◌, ap₂, rules, eq-eqb, ne_eqb}
+use Rattle.std.proofs.Common.{ℕ, ◌-◌, ap, ◌∙◌, ap₂, eq-eqb, ne_eqb}
 use Rattle.pass_list.proofs.sums.shared_ticks.Goals as goal
 
 pub returns-then-pass-eq-OPEN : goal.returns-then-pass-eq-OPEN

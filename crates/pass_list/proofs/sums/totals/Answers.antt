@@ -1,5 +1,5 @@
-use Rattle.std.proofs.Common.{◌≡◌, ◌-◌, ◌≤◌, arith, rules}
-use Rattle.pass_list.proofs.TotalLaws.{TotalSoFar, total_none, total_next}
+use Rattle.std.proofs.Common.{◌≡◌, arith, rules}
+use Rattle.pass_list.proofs.TotalLaws.{total_none, total_next}
 use Rattle.pass_list.proofs.sums.totals.Goals as goal
 
 pub loop-number-init : goal.loop-number-init

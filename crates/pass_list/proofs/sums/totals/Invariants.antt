@@ -1,5 +1,5 @@
-use Rattle.std.proofs.Common.{◌≡◌, ◌-◌, ◌≤◌, arith, rules}
-use Rattle.pass_list.proofs.TotalLaws.{TotalSoFar, total_none, total_next}
+use Rattle.std.proofs.Common.{◌-◌, ◌≤◌}
+use Rattle.pass_list.proofs.TotalLaws.{TotalSoFar}
 use Rattle.pass_list.proofs.sums.totals.Given as goal
 
 abbrev pub invariant-loop-number : goal.invariant-loop-number

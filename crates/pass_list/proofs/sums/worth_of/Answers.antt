@@ -1,4 +1,3 @@
-use Rattle.std.proofs.Common.{rules}
 use Rattle.pass_list.proofs.sums.worth_of.Goals as goal
 
 pub returns-in-Question : goal.returns-in-Question

@@ -1,4 +1,4 @@
-use Rattle.std.proofs.Common.{◌-◌, ◌≤◌, rules}
+use Rattle.std.proofs.Common.{◌-◌, ◌≤◌}
 use Rattle.random_calls.proofs.list.open_number.Given as goal
 
 abbrev pub invariant-loop-number : goal.invariant-loop-number

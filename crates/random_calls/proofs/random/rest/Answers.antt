@@ -1,4 +1,4 @@
-use Rattle.std.proofs.Common.{mod-lt, arith, rules}
+use Rattle.std.proofs.Common.{mod-lt, arith}
 use Rattle.random_calls.proofs.random.rest.Goals as goal
 
 pub returns : goal.returns

@@ -1,5 +1,4 @@
 use borrow.Author.Tests.{le-leb, lt-leb}
-use borrow.Author.Rules.{rules}
 use Rattle.ranges.proofs.range.holds_key.Goals as goal
 
 pub returns-then-range_low-key : goal.returns-then-range_low-key

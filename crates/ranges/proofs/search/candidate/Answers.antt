@@ -1,7 +1,6 @@
 use mathlib.Core.Path.{◌≡◌, sym, ◌∙◌}
 use mathlib.Core.Bool.{true, false}
 use Rattle.ranges.specs.Nearest.{fits}
-use borrow.Author.Rules.{rules}
 use Rattle.ranges.proofs.search.candidate.Goals as goal
 
 pub returns-then-range_fits : goal.returns-then-range_fits

@@ -2,7 +2,6 @@ use Prim.Native.Nat.{◌%◌}
 use native.Mathlib.Omega.{arith}
 use mathlib.Core.Path.{sym}
 use Rattle.ranges.proofs.HolderLaws.{one_holder, holder_place}
-use borrow.Author.Rules.{rules}
 use Rattle.ranges.proofs.search.find_holder.Goals as goal
 
 pub bounds-places-sum : goal.bounds-places-sum

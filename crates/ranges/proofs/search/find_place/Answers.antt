@@ -3,7 +3,6 @@ use native.Mathlib.Omega.{arith}
 use borrow.Author.Tests.{le-leb, lt-leb}
 use Rattle.ranges.specs.Nearest.{no_range, least}
 use Rattle.ranges.proofs.NearestLaws.{least_inside}
-use borrow.Author.Rules.{rules}
 use Rattle.ranges.proofs.search.find_place.Goals as goal
 
 pub returns-then-best-ge-NO_RANGE : goal.returns-then-best-ge-NO_RANGE

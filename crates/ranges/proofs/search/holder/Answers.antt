@@ -1,5 +1,4 @@
 use mathlib.Core.Path.{sym, ◌∙◌}
-use borrow.Author.Rules.{rules}
 use Rattle.ranges.proofs.search.holder.Goals as goal
 
 pub returns-then-holds_key : goal.returns-then-holds_key

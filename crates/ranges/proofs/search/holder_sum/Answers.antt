@@ -1,7 +1,5 @@
-use Prim.Native.Nat.{◌+◌, ◌-◌, ◌*◌, ◌≤◌}
 use native.Mathlib.Omega.{arith}
-use mathlib.Core.Path.{◌≡◌}
-use lib.ListN.{length, get_or, drop}
+use lib.ListN.{get_or}
 use Rattle.ranges.specs.Nearest.{holder_sum}
 use Rattle.ranges.proofs.HolderLaws.{holder_small, holders_on, holders_done}
 use borrow.Author.Rules.{rules}

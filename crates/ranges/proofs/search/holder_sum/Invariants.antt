@@ -1,10 +1,7 @@
 use Prim.Native.Nat.{◌+◌, ◌-◌, ◌*◌, ◌≤◌}
-use native.Mathlib.Omega.{arith}
 use mathlib.Core.Path.{◌≡◌}
-use lib.ListN.{length, get_or, drop}
+use lib.ListN.{length, drop}
 use Rattle.ranges.specs.Nearest.{holder_sum}
-use Rattle.ranges.proofs.HolderLaws.{holder_small, holders_on, holders_done}
-use borrow.Author.Rules.{rules}
 use Rattle.ranges.proofs.search.holder_sum.Given as goal
 
 abbrev pub invariant-loop-at : goal.invariant-loop-at

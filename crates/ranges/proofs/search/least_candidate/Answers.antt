@@ -2,11 +2,6 @@ use native.Mathlib.Omega.{arith}
 use Rattle.ranges.specs.Nearest.{no_range}
 use Rattle.ranges.proofs.NearestLaws.{least_most, least_on, least_done}
 use Rattle.ranges.proofs.LesserLaws.{lesser_second, lesser_still}
-use mathlib.Core.Path.{◌≡◌}
-use Prim.Native.Nat.{◌-◌, ◌≤◌}
-use lib.ListN.{length, drop}
-use Rattle.ranges.specs.KeyRanges.{lesser}
-use Rattle.ranges.specs.Nearest.{least}
 use borrow.Author.Rules.{rules}
 use Rattle.ranges.proofs.search.least_candidate.Goals as goal
 

@@ -4,7 +4,6 @@ use mathlib.Core.Bool.{true}
 use lib.Dec.{leb, ltb}
 use borrow.Author.Tests.{le-leb, lt-leb, lt-ltb, le-ltb}
 use Rattle.ranges.specs.KeyRanges.{range_low}
-use borrow.Author.Rules.{rules}
 use Rattle.ranges.proofs.search.range_fits.Goals as goal
 
 pub returns-then-range_low-from : goal.returns-then-range_low-from

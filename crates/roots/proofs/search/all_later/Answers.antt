@@ -1,10 +1,9 @@
-use Prim.Native.Nat.{ℕ, ◌+◌, ◌-◌, ◌≤◌, ◌<◌}
+use Prim.Native.Nat.{◌+◌, ◌≤◌, ◌<◌}
 use native.Mathlib.Omega.{arith}
 use lib.ListN.{get_or}
 use borrow.Author.Tests.{eqb-true}
 use Rattle.words.specs.Words.{root_birth}
 use Rattle.roots.proofs.RootSearch.{later_more}
-use borrow.Author.Rules.{rules}
 use Rattle.roots.proofs.search.all_later.Goals as goal
 
 pub loop-at-init : goal.loop-at-init

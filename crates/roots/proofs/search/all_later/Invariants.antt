@@ -1,10 +1,6 @@
 use Prim.Native.Nat.{ℕ, ◌+◌, ◌-◌, ◌≤◌, ◌<◌}
-use native.Mathlib.Omega.{arith}
 use lib.ListN.{get_or}
-use borrow.Author.Tests.{eqb-true}
 use Rattle.words.specs.Words.{root_birth}
-use Rattle.roots.proofs.RootSearch.{later_more}
-use borrow.Author.Rules.{rules}
 use Rattle.roots.proofs.search.all_later.Given as goal
 
 abbrev pub invariant-loop-at : goal.invariant-loop-at

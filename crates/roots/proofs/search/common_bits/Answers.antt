@@ -1,7 +1,4 @@
-use Prim.Native.Nat.{ℕ, ◌+◌, ◌-◌, ◌≤◌, ◌<◌}
 use native.Mathlib.Omega.{arith}
-use lib.ListN.{get_or}
-use Rattle.words.specs.Words.{root_birth}
 use Rattle.roots.proofs.RootSearch.{common_more}
 use borrow.Author.Rules.{rules}
 use Rattle.roots.proofs.search.common_bits.Goals as goal

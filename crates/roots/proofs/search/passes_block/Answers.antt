@@ -1,5 +1,4 @@
 use native.Mathlib.Omega.{arith}
-use borrow.Author.Rules.{rules}
 use Rattle.roots.proofs.search.passes_block.Goals as goal
 
 pub returns-then-t-common_bits : goal.returns-then-t-common_bits

@@ -1,8 +1,7 @@
-use Prim.Native.Nat.{ℕ, ◌+◌, ◌-◌, ◌≤◌, ◌<◌}
+use Prim.Native.Nat.{ℕ, ◌+◌, ◌-◌}
 use native.Mathlib.Omega.{arith}
 use mathlib.Core.Path.{◌≡◌, refl, ap, sym, ◌∙◌}
-use lib.ListN.{length, take}
-use borrow.Author.Tests.{not-false}
+use lib.ListN.{take}
 use Rattle.tree.specs.Tree.{root_for}
 use Rattle.roots.proofs.RootSearch.{root_skip}
 use borrow.Author.Rules.{rules}

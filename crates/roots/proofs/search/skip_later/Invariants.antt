@@ -1,11 +1,7 @@
-use Prim.Native.Nat.{ℕ, ◌+◌, ◌-◌, ◌≤◌, ◌<◌}
-use native.Mathlib.Omega.{arith}
-use mathlib.Core.Path.{◌≡◌, refl, ap, sym, ◌∙◌}
+use Prim.Native.Nat.{ℕ, ◌≤◌}
+use mathlib.Core.Path.{◌≡◌}
 use lib.ListN.{length, take}
-use borrow.Author.Tests.{not-false}
 use Rattle.tree.specs.Tree.{root_for}
-use Rattle.roots.proofs.RootSearch.{root_skip}
-use borrow.Author.Rules.{rules}
 use Rattle.roots.proofs.search.skip_later.Given as goal
 
 abbrev pub invariant-loop-left : goal.invariant-loop-left

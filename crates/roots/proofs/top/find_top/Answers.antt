@@ -3,7 +3,6 @@ use native.Mathlib.Omega.{arith}
 use mathlib.Core.Path.{ap, sym, ◌∙◌}
 use mathlib.Core.List.{List, []}
 use lib.ListN.{length}
-use borrow.Author.Tests.{not-true, not-false}
 use Rattle.tree.specs.Row.{word}
 use Rattle.tree.proofs.TableLaws.{page_length}
 use Rattle.tree.proofs.UseLaws.{in_use_inside}

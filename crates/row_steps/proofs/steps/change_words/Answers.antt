@@ -1,7 +1,6 @@
 use native.Mathlib.Omega.{arith}
 use mathlib.Core.Path.{ap, sym, ◌∙◌}
 use Rattle.row_steps.specs.PageEdits.{change_words}
-use borrow.Author.Rules.{rules}
 use Rattle.row_steps.proofs.steps.change_words.Goals as goal
 
 pub edit_leaf-requires : goal.edit_leaf-requires

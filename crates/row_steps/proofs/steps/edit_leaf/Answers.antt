@@ -2,7 +2,6 @@ use mathlib.Core.Path.{ap, sym, ◌∙◌}
 use native.Mathlib.Omega.{arith}
 use Rattle.row_steps.specs.PageEdits.{leaf_words}
 use Rattle.ranges.specs.declared.search.Place.{Place}
-use borrow.Author.Rules.{rules}
 use Rattle.row_steps.proofs.steps.edit_leaf.Goals as goal
 
 pub cut_at-requires : goal.cut_at-requires

@@ -5,7 +5,6 @@ use Prim.Native.Nat.{ℕ}
 use Rattle.tree.specs.declared.types.Row.{Row}
 use Rattle.row_steps.specs.PageEdits.{link_words}
 use Rattle.row_steps.proofs.EditSizes.{gain_grown}
-use borrow.Author.Rules.{rules}
 use Rattle.row_steps.proofs.steps.gain_and_link.Goals as goal
 
 pub link_row-requires : goal.link_row-requires

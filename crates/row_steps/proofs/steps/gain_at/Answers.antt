@@ -1,4 +1,3 @@
-use borrow.Author.Rules.{rules}
 use Rattle.row_steps.proofs.steps.gain_at.Goals as goal
 
 pub returns : goal.returns

@@ -1,6 +1,5 @@
 use mathlib.Core.Path.{ap, sym, ◌∙◌}
 use Rattle.row_steps.specs.PageEdits.{gain_words}
-use borrow.Author.Rules.{rules}
 use Rattle.row_steps.proofs.steps.gain_row.Goals as goal
 
 pub gain_at-requires : goal.gain_at-requires

@@ -1,6 +1,5 @@
 use mathlib.Core.Path.{ap, sym, ◌∙◌}
 use Rattle.row_steps.specs.PageEdits.{link_words}
-use borrow.Author.Rules.{rules}
 use Rattle.row_steps.proofs.steps.link_row.Goals as goal
 
 pub returns-in-Stays : goal.returns-in-Stays

@@ -3,7 +3,6 @@ use native.Mathlib.Omega.{arith}
 use mathlib.Core.Path.{◌≡◌, ap}
 use lib.ListN.{take, drop}
 use Rattle.tree.specs.Row.{page_words}
-use borrow.Author.Rules.{rules}
 use Rattle.rows.proofs.table.page_at.Goals as goal
 
 pub returns : goal.returns

@@ -1,10 +1,8 @@
 use Prim.Native.Nat.{ℕ, ◌+◌, ◌≤◌, ◌<◌, ◌^◌}
 use native.Mathlib.Omega.{arith}
-use mathlib.Core.Path.{◌≡◌, ap, ap₂, ◌∙◌}
-use lib.ListN.{length}
+use mathlib.Core.Path.{◌≡◌, ap₂, ◌∙◌}
 use Rattle.words.specs.Words.{low_key, high_key}
 use Rattle.words.specs.declared.value.Value.{Value}
-use Rattle.words.specs.Value as value
 use Rattle.page.specs.declared.fresh.Page.{Page}
 use Rattle.page.specs.PageValue.{empty_page, encode_page}
 use Rattle.tree.specs.Row.{word, copy_limit}

@@ -1,16 +1,16 @@
-use Prim.Native.Nat.{ℕ, ◌+◌, ◌-◌, ◌≤◌}
+use Prim.Native.Nat.{ℕ, ◌+◌, ◌≤◌}
 use native.Mathlib.Omega.{arith}
 use mathlib.Core.Path.{◌≡◌, ap, sym, ◌∙◌}
 use mathlib.Core.List.{List}
-use lib.ListN.{length, drop, get_or, set, length-set}
+use lib.ListN.{length, get_or, set, length-set}
 use Rattle.tree.specs.declared.types.Row.{Row}
-use Rattle.tree.specs.Row.{word, row_start, row_words, row_limit}
+use Rattle.tree.specs.Row.{row_start, row_words}
 use Rattle.tree.specs.Limits.{most_rows}
 use Rattle.tree.specs.RowEdits.{row_in}
 use Rattle.tree.specs.Edit.{born_at}
 use Rattle.page.specs.declared.fresh.Page.{Page}
-use Rattle.page.specs.PageValue.{with_row, empty_page}
-use Rattle.key_order.specs.Entries.{entry_place, InPage}
+use Rattle.page.specs.PageValue.{with_row}
+use Rattle.key_order.specs.Entries.{entry_place}
 use Rattle.tree.proofs.Lists.{length_mapped}
 use Rattle.words.proofs.LoopLaws.{all_here}
 use Rattle.split.specs.SplitWords.{between, copy_of, fill_page, gain_page}

@@ -3,11 +3,8 @@ use native.Mathlib.Omega.{arith}
 use mathlib.Core.Path.{◌≡◌, ap, ap₂, ◌∙◌}
 use mathlib.Core.List.{List}
 use lib.ListN.{length}
-use Rattle.words.specs.Words.{low_key, high_key}
 use Rattle.words.specs.declared.value.Value.{Value}
-use Rattle.words.specs.Value as value
 use Rattle.tree.specs.declared.types.Row.{Row}
-use Rattle.page.specs.declared.fresh.Page.{Page}
 use Rattle.tree.specs.Row.{word, row_start, row_words, copy_limit}
 use Rattle.tree.specs.Limits.{most_rows}
 use Rattle.tree.specs.RowEdits.{row_in}
@@ -16,9 +13,8 @@ use Rattle.key_order.specs.Entries.{entry_place}
 use Rattle.words.proofs.LoopLaws.{all_here}
 use Rattle.tree.specs.Tree.{put_page}
 use Rattle.tree.specs.Overflow.{lower_half}
-use Rattle.split.specs.SplitWords.{between, fill_page, add_rows, gain_page, middle_key}
+use Rattle.split.specs.SplitWords.{between, fill_page, gain_page, middle_key}
 use Rattle.split.proofs.SplitRows.{in_words, in_words_from, middle_is, halve_table}
-use borrow.Author.Rules.{rules}
 use Rattle.split.proofs.split.halve_rows.Goals as goal
 
 pub row_at-middle-requires : goal.row_at-middle-requires

@@ -6,7 +6,6 @@ use borrow.Rule.Slice.PartMut.{mid_of, mid_len}
 use Rattle.tree.specs.Row.{page_words}
 use Rattle.page.specs.PageValue.{encode_page}
 use Rattle.split.proofs.SplitLaws.{put_part}
-use borrow.Author.Rules.{rules}
 use Rattle.split.proofs.split.put_page.Goals as goal
 
 pub returns : goal.returns

@@ -8,7 +8,6 @@ use Rattle.tree.specs.Row.{word}
 use Rattle.tree.specs.Tree.{put_page}
 use Rattle.split.specs.SplitWords.{between}
 use Rattle.split.proofs.SplitLaws.{filled_count}
-use borrow.Author.Rules.{rules}
 use Rattle.split.proofs.split.put_rows.Goals as goal
 
 pub filled-requires : goal.filled-requires

@@ -10,7 +10,6 @@ use Rattle.tree.specs.Taking.{HasPages}
 use Rattle.tree.specs.Overflow.{Written}
 use Rattle.split.specs.SplitWords.{live_copies, split_words, copied_table, halved_table}
 use Rattle.split.proofs.SplitRows.{live_count, sourced, split_copied, split_halved}
-use borrow.Author.Rules.{rules}
 use Rattle.tree.proofs.UseLaws.{taken_inside}
 use Rattle.split.proofs.split.split_page.Goals as goal
 

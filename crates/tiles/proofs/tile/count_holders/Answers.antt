@@ -1,9 +1,6 @@
-use mathlib.Core.Path.{◌≡◌}
 use mathlib.Core.Bool.{cond}
-use Prim.Native.Nat.{ℕ, ◌+◌, ◌-◌, ◌≤◌}
-use lib.ListN.{length, drop}
+use Prim.Native.Nat.{ℕ}
 use native.Mathlib.Omega.{arith}
-use Rattle.words.specs.Sums.{count}
 use Rattle.ranges.specs.KeyRanges.{holds_key}
 use Rattle.tiles.proofs.SumLaws.{sum_on, sum_done, one_small}
 use borrow.Author.Rules.{rules}

@@ -1,12 +1,8 @@
 use mathlib.Core.Path.{◌≡◌}
-use mathlib.Core.Bool.{cond}
-use Prim.Native.Nat.{ℕ, ◌+◌, ◌-◌, ◌≤◌}
+use Prim.Native.Nat.{◌+◌, ◌-◌, ◌≤◌}
 use lib.ListN.{length, drop}
-use native.Mathlib.Omega.{arith}
 use Rattle.words.specs.Sums.{count}
 use Rattle.ranges.specs.KeyRanges.{holds_key}
-use Rattle.tiles.proofs.SumLaws.{sum_on, sum_done, one_small}
-use borrow.Author.Rules.{rules}
 use Rattle.tiles.proofs.tile.count_holders.Given as goal
 
 abbrev pub invariant-loop-at : goal.invariant-loop-at

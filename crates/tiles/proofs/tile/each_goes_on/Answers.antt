@@ -1,9 +1,6 @@
-use Prim.Native.Nat.{◌-◌, ◌≤◌}
 use native.Mathlib.Omega.{arith}
-use mathlib.Core.Path.{◌≡◌, sym, ◌∙◌}
-use lib.ListN.{length, drop}
-use borrow.Author.Tests.{not-true, not-false}
-use Rattle.tiles.specs.TileTest.{every, stops_well}
+use mathlib.Core.Path.{sym, ◌∙◌}
+use Rattle.tiles.specs.TileTest.{stops_well}
 use Rattle.tiles.proofs.TileLaws.{every_on, every_stop, every_none}
 use borrow.Author.Rules.{rules}
 use Rattle.tiles.proofs.tile.each_goes_on.Goals as goal

@@ -1,5 +1,4 @@
 use borrow.Author.Tests.{le-leb, lt-leb}
-use borrow.Author.Rules.{rules}
 use Rattle.tiles.proofs.tile.goes_on.Goals as goal
 
 pub returns-then-key-low : goal.returns-then-key-low

@@ -1,4 +1,3 @@
-use borrow.Author.Rules.{rules}
 use Rattle.tiles.proofs.tile.is_empty.Goals as goal
 
 pub returns : goal.returns

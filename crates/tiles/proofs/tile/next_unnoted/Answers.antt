@@ -1,10 +1,6 @@
-use Prim.Native.Nat.{◌-◌, ◌≤◌}
 use native.Mathlib.Omega.{arith}
 use mathlib.Core.Path.{sym, ◌∙◌}
-use lib.ListN.{length, get_or}
-use borrow.Author.Tests.{eqb-true, not-false}
-use Rattle.ranges.specs.KeyRanges.{range_high}
-use Rattle.tiles.specs.TileTest.{Passed}
+use borrow.Author.Tests.{eqb-true}
 use Rattle.tiles.proofs.NoteLaws.{pass_none, pass_noted}
 use borrow.Author.Rules.{rules}
 use Rattle.tiles.proofs.tile.next_unnoted.Goals as goal

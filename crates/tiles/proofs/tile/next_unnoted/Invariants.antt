@@ -1,12 +1,6 @@
 use Prim.Native.Nat.{◌-◌, ◌≤◌}
-use native.Mathlib.Omega.{arith}
-use mathlib.Core.Path.{sym, ◌∙◌}
-use lib.ListN.{length, get_or}
-use borrow.Author.Tests.{eqb-true, not-false}
-use Rattle.ranges.specs.KeyRanges.{range_high}
+use lib.ListN.{length}
 use Rattle.tiles.specs.TileTest.{Passed}
-use Rattle.tiles.proofs.NoteLaws.{pass_none, pass_noted}
-use borrow.Author.Rules.{rules}
 use Rattle.tiles.proofs.tile.next_unnoted.Given as goal
 
 abbrev pub invariant-loop-at : goal.invariant-loop-at

@@ -1,12 +1,6 @@
-use Prim.Native.Nat.{ℕ, ◌-◌, ◌%◌, ◌≤◌}
-use native.Mathlib.Omega.{arith}
-use mathlib.Core.Path.{◌≡◌}
-use mathlib.Core.Bool.{true}
+use Prim.Native.Nat.{◌-◌, ◌≤◌}
 use lib.ListN.{length}
-use Rattle.tree.proofs.Lists.{all_set}
-use Rattle.tiles.specs.TileTest.{slots, may_stop, Noted}
-use Rattle.tiles.proofs.NoteLaws.{all_same, low_may_stop, high_may_stop}
-use borrow.Author.Rules.{rules}
+use Rattle.tiles.specs.TileTest.{Noted}
 use Rattle.tiles.proofs.tile.note_lows.Given as goal
 
 abbrev pub invariant-loop-at : goal.invariant-loop-at

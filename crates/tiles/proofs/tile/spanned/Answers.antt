@@ -1,5 +1,4 @@
 use mathlib.Core.Path.{sym, ◌∙◌}
-use borrow.Author.Rules.{rules}
 use Rattle.tiles.proofs.tile.spanned.Goals as goal
 
 pub returns-then-is_empty : goal.returns-then-is_empty

@@ -1,10 +1,6 @@
 use Rattle.tiles.proofs.SpanLaws.{spanned_small}
 use lib.ListN.{get_or}
-use mathlib.Core.Path.{◌≡◌}
-use Prim.Native.Nat.{◌+◌, ◌*◌, ◌-◌, ◌≤◌}
-use lib.ListN.{length, drop}
 use native.Mathlib.Omega.{arith}
-use Rattle.words.specs.Sums.{sum_by}
 use Rattle.tiles.specs.TileTest.{spanned}
 use Rattle.tiles.proofs.SumLaws.{sum_on, sum_done}
 use borrow.Author.Rules.{rules}

@@ -1,13 +1,8 @@
-use Rattle.tiles.proofs.SpanLaws.{spanned_small}
-use lib.ListN.{get_or}
 use mathlib.Core.Path.{◌≡◌}
 use Prim.Native.Nat.{◌+◌, ◌*◌, ◌-◌, ◌≤◌}
 use lib.ListN.{length, drop}
-use native.Mathlib.Omega.{arith}
 use Rattle.words.specs.Sums.{sum_by}
 use Rattle.tiles.specs.TileTest.{spanned}
-use Rattle.tiles.proofs.SumLaws.{sum_on, sum_done}
-use borrow.Author.Rules.{rules}
 use Rattle.tiles.proofs.tile.spanned_total.Given as goal
 
 abbrev pub invariant-loop-at : goal.invariant-loop-at

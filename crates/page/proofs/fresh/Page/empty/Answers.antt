@@ -1,5 +1,4 @@
 use Rattle.page.specs.PageValue.{no_rows}
-use borrow.Author.Rules.{rules}
 use Rattle.page.proofs.fresh.Page.empty.Goals as goal
 
 pub returns : goal.returns

@@ -1,5 +1,4 @@
 use native.Mathlib.Omega.{arith}
-use borrow.Author.Rules.{rules}
 use Rattle.page.proofs.fresh.Page.two_row_root.Goals as goal
 
 pub with_row-requires : goal.with_row-requires

@@ -1,7 +1,7 @@
-use Rattle.tree.specs.Row.{row_limit, row_start, page_words}
+use Rattle.tree.specs.Row.{row_limit, row_start}
 use Rattle.tree.specs.Fresh.{zeros}
 use mathlib.Core.Path.{◌≡◌, refl, ap, ◌∙◌}
-use Prim.Native.Nat.{◌≤◌, ◌-◌}
+use Prim.Native.Nat.{◌-◌}
 use lib.ListN.{length}
 use native.Mathlib.Omega.{arith}
 use Prim.Native.Nat.{ℕ}

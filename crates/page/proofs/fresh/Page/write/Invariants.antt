@@ -1,16 +1,11 @@
-use Rattle.tree.specs.Row.{row_limit, row_start, page_words}
-use Rattle.tree.specs.Fresh.{zeros}
-use mathlib.Core.Path.{◌≡◌, refl, ap, ◌∙◌}
+use Rattle.tree.specs.Row.{page_words}
+use mathlib.Core.Path.{◌≡◌}
 use Prim.Native.Nat.{◌≤◌, ◌-◌}
 use lib.ListN.{length}
-use native.Mathlib.Omega.{arith}
 use Prim.Native.Nat.{ℕ}
 use mathlib.Core.List.{List}
-use lib.ListN.{length-set}
 use Rattle.words.specs.Overwrite.{overwrite}
-use Rattle.tree.proofs.Lists.{length_mapped}
-use Rattle.page.proofs.FreshLaws.{up_to, header_words_lem, row_words_lem, whole_words}
-use borrow.Author.Rules.{rules}
+use Rattle.page.proofs.FreshLaws.{up_to}
 use Rattle.page.proofs.fresh.Page.write.Given as goal
 
 abbrev pub invariant-loop-place : goal.invariant-loop-place
