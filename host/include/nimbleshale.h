@@ -49,7 +49,7 @@
  * the 128 bytes below the interrupted stack pointer (docs/FIRMWARE.md).
  *
  * Stack. What is said at each function are bytes below the caller, arguments included, at their deepest in trees four pages high, on x86-64
- * (host/bench/run measures them).
+ * (host/bench/run measures them; these are of the archive that an older kit built).
  */
 #ifndef NIMBLESHALE_H
 #define NIMBLESHALE_H

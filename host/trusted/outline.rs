@@ -41,6 +41,8 @@ enum Line {
 
 pub struct Language {
     pub comment: &'static str,
+    /// How a line begins on which a clause may have a name before its brace.
+    pub clauses: &'static [&'static str],
     /// How much further in each level stands.
     step: usize,
     line: fn(&str) -> Line,
@@ -48,9 +50,9 @@ pub struct Language {
 
 pub fn language_of(file: &str) -> Language {
     if file.ends_with(".rt") {
-        Language { comment: "//", step: 4, line: rattle_line }
+        Language { comment: "//", clauses: &["requires", "ensures"], step: 4, line: rattle_line }
     } else {
-        Language { comment: "--", step: 2, line: antt_line }
+        Language { comment: "--", clauses: &[], step: 2, line: antt_line }
     }
 }
 
@@ -64,16 +66,18 @@ fn first_name(code: &str) -> String {
 }
 
 fn rattle_line(code: &str) -> Line {
-    let item = without(code, &["pub ", "extern \"C\" "]);
+    let item = without(code, &["pub ", "ghost ", "extern \"C\" "]);
     let (word, rest) = item.split_once(' ').unwrap_or((item, ""));
     match word {
-        "use" | "ghost" => Line::Use,
+        "use" => Line::Use,
         // What a module publishes as a whole is not known by name.
         "mod" if code == item => Line::Use,
-        "impl" => Line::Begins(Kind::Around, first_name(rest)),
+        "impl" => Line::Begins(Kind::Around, first_name(rest.split_once(" for ").map_or(rest, |(_, of)| of))),
         "enum" => Line::Begins(Kind::Enum, first_name(rest)),
         "fn" => Line::Begins(Kind::Function, first_name(rest)),
         "struct" | "const" => Line::Begins(Kind::Other, first_name(rest)),
+        // Of the whole file
+        _ if code.starts_with("#![") => Line::Use,
         _ if code.starts_with("//") || code.starts_with("#[") => Line::Before,
         _ => Line::Onward,
     }
@@ -101,11 +105,17 @@ struct Outline {
     before: Option<usize>,
     /// Whether the line above is no part of an item.
     gap: bool,
+    /// Whether the names of a `use` go on.
+    in_use: bool,
 }
 
 impl Outline {
     fn line(&mut self, at: usize, line: &str) -> Result<(), String> {
         let code = line.trim_start();
+        if self.in_use {
+            self.in_use = !code.contains('}');
+            return Ok(());
+        }
         if code.is_empty() {
             (self.before, self.gap) = (None, true);
             return Ok(());
@@ -119,7 +129,7 @@ impl Outline {
             return self.further_in(at, inset, code);
         }
         match (self.language.line)(code) {
-            Line::Use => (self.before, self.gap) = (None, true),
+            Line::Use => (self.before, self.gap, self.in_use) = (None, true, code.contains('{') && !code.contains('}')),
             Line::Before => _ = self.before.get_or_insert(at),
             Line::Begins(kind, name) => self.begin(at, inset, code, kind, name),
             Line::Onward => return self.onward(at, inset, code),
@@ -175,10 +185,26 @@ impl Outline {
     }
 }
 
+/// What each `use` of a file says, with `pub` before it where the file hands it on, and whatever the lines that it stands on.
+pub fn uses_of(text: &str) -> Vec<String> {
+    let mut uses: Vec<String> = Vec::new();
+    let mut goes_on = false;
+    for line in text.lines().map(str::trim) {
+        match ["use ", "pub use ", "ghost use "].iter().find(|word| line.starts_with(**word)) {
+            Some(_) => uses.push(without(line, &["ghost "]).to_string()),
+            None if goes_on => uses.last_mut().expect("a use goes on").push_str(&format!(" {line}")),
+            None => continue,
+        }
+        let said = uses.last().expect("a use");
+        goes_on = said.contains('{') && !said.contains('}');
+    }
+    uses.iter().map(|said| said.trim_end_matches(';').replace("{ ", "{").replace(", }", "}")).collect()
+}
+
 /// The items of a file, in their order.
 pub fn items_of(file: &str, text: &str) -> Result<Vec<Item>, String> {
     let language = language_of(file);
-    let mut outline = Outline { language, items: Vec::new(), around: Vec::new(), before: None, gap: true };
+    let mut outline = Outline { language, items: Vec::new(), around: Vec::new(), before: None, gap: true, in_use: false };
     for (at, line) in text.lines().enumerate() {
         outline.line(at, line)?;
     }

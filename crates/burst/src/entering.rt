@@ -30,11 +30,9 @@ fn enter_event(
     place: usize,
 ) -> Reply
     requires { event_bytes * place + event_bytes ≤ length bytes.now }
-    ensures {
-        let s : Store = store_of head start_table.old start_roots.old end_table.old end_roots.old time_table.old time_roots.old in
+    ensures { let s : Store = store_of head start_table.old start_roots.old end_table.old end_roots.old time_table.old time_roots.old in
         let left : Lent = lent_of start_table.new start_roots.new end_table.new end_roots.new time_table.new time_roots.new in
-        RepliedAs (answer_to s (first_event (drop (event_bytes * place) bytes.now))) result left
-    }
+        RepliedAs (answer_to s (first_event (drop (event_bytes * place) bytes.now))) result left }
 {
     let first = EVENT_BYTES * place;
     let operands = first + 1;
@@ -82,11 +80,9 @@ fn enter_events(
 ) -> Head
     requires bytes_bound { event_count bytes.now ≤ most_events }
     requires bytes_in_bounds { event_words * event_count bytes.now ≤ length results.old }
-    ensures {
-        let s : Store = store_of head start_table.old start_roots.old end_table.old end_roots.old time_table.old time_roots.old in
+    ensures { let s : Store = store_of head start_table.old start_roots.old end_table.old end_roots.old time_table.old time_roots.old in
         let left : Lent = lent_of start_table.new start_roots.new end_table.new end_roots.new time_table.new time_roots.new in
-        EventsEntered s (events_of bytes.now) result results.old results.new left
-    }
+        EventsEntered s (events_of bytes.now) result results.old results.new left }
 {
     let count = bytes.len() / EVENT_BYTES;
     let mut after = head;
@@ -123,11 +119,9 @@ pub fn enter_burst(
     bytes: &[u8],
     results: &mut [u64],
 ) -> BurstReply
-    ensures {
-        let s : Store = store_of head start_table.old start_roots.old end_table.old end_roots.old time_table.old time_roots.old in
+    ensures { let s : Store = store_of head start_table.old start_roots.old end_table.old end_roots.old time_table.old time_roots.old in
         let left : Lent = lent_of start_table.new start_roots.new end_table.new end_roots.new time_table.new time_roots.new in
-        BurstAs (enter_burst s bytes.now (length results.old)) result results.old results.new left
-    }
+        BurstAs (enter_burst s bytes.now (length results.old)) result results.old results.new left }
 {
     let refusal = burst_refusal(bytes, results.len());
     if refusal != 0 {

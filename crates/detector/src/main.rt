@@ -1,12 +1,14 @@
 // The command program: commands from standard input, what they say to standard output, over a store of its own.
 #![tactic(auto)]
 
-ghost use Rattle.std.specs.Prelude.{◌≡◌};
-ghost use Rattle.store.specs.Trees.{Store, store_of};
+ghost use Rattle.std.specs.Prelude.{◌≡◌, IfOk, OnErr};
+ghost use Rattle.store.specs.Trees.{Lent, lent_of, Store, store_of};
 ghost use Rattle.command.specs.Stream.{program_tree};
 ghost use Rattle.command.specs.Pieces.{program_feed};
-ghost use Rattle.turns.specs.Turns.{Served};
+ghost use Rattle.turns.specs.Turns.{Served, CutShort};
 
+use std::io;
+use std::io::{Read, Write};
 use turns::{Left, serve};
 
 // "the program's tables shrink to 10 pages and 10 roots a tree" (document 02, Paper 4): arrays of 2,600 words and of 10.
@@ -17,23 +19,28 @@ const ROOTS: usize = 10;
 const TABLE_WORDS: usize = PAGES * tree::PAGE_WORDS;
 
 // Opens the store in the program's tables and runs the input on it.
-fn run_program(
+fn run_program<R: Read, W: Write>(
+    input: &mut R,
+    output: &mut W,
     start_table: &mut [u64; TABLE_WORDS],
     start_roots: &mut [u64; ROOTS],
     end_table: &mut [u64; TABLE_WORDS],
     end_roots: &mut [u64; ROOTS],
     time_table: &mut [u64; TABLE_WORDS],
     time_roots: &mut [u64; ROOTS],
-) -> Left
+) -> io::Result<Left>
     requires start_table_value { start_table.old ≡ program_tree.table }
     requires start_roots_value { start_roots.old ≡ program_tree.roots }
     requires end_table_value { end_table.old ≡ program_tree.table }
     requires end_roots_value { end_roots.old ≡ program_tree.roots }
     requires time_table_value { time_table.old ≡ program_tree.table }
     requires time_roots_value { time_roots.old ≡ program_tree.roots }
-    ensures* { do
-      let after : Store = store_of result.head start_table.new start_roots.new end_table.new end_roots.new time_table.new time_roots.new
-      ⌜ Served program_feed after result.over ⌝ }
+    ensures served { IfOk result
+        (λ left.
+        let after : Store = store_of left.head start_table.new start_roots.new end_table.new end_roots.new time_table.new time_roots.new in
+        Served program_feed after left.over) }
+    ensures cut_short { let lent : Lent = lent_of start_table.new start_roots.new end_table.new end_roots.new time_table.new time_roots.new in
+        OnErr result (CutShort program_feed lent) }
 {
     let reply = opening::open(
         open_passes::opened_head(),
@@ -46,6 +53,8 @@ fn run_program(
     );
     let opened = reply.head;
     serve(
+        input,
+        output,
         opened,
         start_table,
         start_roots,
@@ -56,7 +65,7 @@ fn run_program(
     )
 }
 
-fn main() {
+fn main(rt: HostRuntime) -> io::Result<()> {
     let mut start_table = [0u64; TABLE_WORDS];
     let mut start_roots = [0u64; ROOTS];
     let mut end_table = [0u64; TABLE_WORDS];
@@ -64,11 +73,14 @@ fn main() {
     let mut time_table = [0u64; TABLE_WORDS];
     let mut time_roots = [0u64; ROOTS];
     run_program(
+        &mut rt.stdin(),
+        &mut rt.stdout(),
         &mut start_table,
         &mut start_roots,
         &mut end_table,
         &mut end_roots,
         &mut time_table,
         &mut time_roots,
-    );
+    )?;
+    Ok(())
 }

@@ -37,10 +37,8 @@ pub fn answer_query(
     code: u8,
     operands: &[u8],
 ) -> Answer
-    ensures {
-        let s : Store = store_of head start_table.now start_roots.now end_table.now end_roots.now time_table.now time_roots.now in
-        result ≡ (answered s operands.now (query_kind code)).answer
-    }
+    ensures { let s : Store = store_of head start_table.now start_roots.now end_table.now end_roots.now time_table.now time_roots.now in
+        result ≡ (answered s operands.now (query_kind code)).answer }
 {
     if operands.len() < 12 {
         return Answer::Refused(7);
@@ -77,11 +75,9 @@ pub fn run_command(
     code: u8,
     operands: &[u8],
 ) -> Reply
-    ensures {
-        let s : Store = store_of head start_table.old start_roots.old end_table.old end_roots.old time_table.old time_roots.old in
+    ensures { let s : Store = store_of head start_table.old start_roots.old end_table.old end_roots.old time_table.old time_roots.old in
         let left : Lent = lent_of start_table.new start_roots.new end_table.new end_roots.new time_table.new time_roots.new in
-        RepliedAs (answered s operands.now (kind_of code)) result left
-    }
+        RepliedAs (answered s operands.now (kind_of code)) result left }
 {
     if is_query(code) {
         let answer = answer_query(

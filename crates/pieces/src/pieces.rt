@@ -60,11 +60,9 @@ pub fn run_piece(
     ended: bool,
     out: &mut [u8],
 ) -> Fed
-    ensures {
-        let s : Store = store_of head start_table.old start_roots.old end_table.old end_roots.old time_table.old time_roots.old in
+    ensures { let s : Store = store_of head start_table.old start_roots.old end_table.old end_roots.old time_table.old time_roots.old in
         let left : Lent = lent_of start_table.new start_roots.new end_table.new end_roots.new time_table.new time_roots.new in
-        FedAs (run_piece (length out.old) ended s input.now) result out.old out.new left
-    }
+        FedAs (run_piece (length out.old) ended s input.now) result out.old out.new left }
 {
     // A head is 1 KB, and each struct that holds one gets its own place on the stack. So the loop keeps the head in the reply alone, where a command
     // leaves it for the next one, and has one way out. The answer set here is never written.

@@ -7,9 +7,11 @@ use histories::group_of;
 use observed::Counts;
 use random_calls::NUMBERS;
 use report::{say, say_counts, say_group};
+use std::io;
 
 // Every group of histories, with a line for each.
 fn run_groups(
+    rt: &impl Print,
     start_table: &mut [u64],
     start_roots: &mut [u64],
     end_table: &mut [u64],
@@ -17,7 +19,7 @@ fn run_groups(
     time_table: &mut [u64],
     time_roots: &mut [u64],
     passes: &mut [u32; NUMBERS],
-) -> Counts {
+) -> io::Result<Counts> {
     let mut all = Counts::none();
     let mut number: u32 = 0;
     while number < 8 {
@@ -31,16 +33,16 @@ fn run_groups(
             passes,
             number,
         );
-        say_group(number);
-        say_counts(counts);
+        say_group(rt, number)?;
+        say_counts(rt, counts)?;
         all = all.plus(counts);
         number += 1;
     }
-    all
+    Ok(all)
 }
 
 // On tables of 320 pages and lists of 320 roots.
-fn main() {
+fn main(rt: HostRuntime) -> io::Result<()> {
     let mut start_table = [0u64; 83200];
     let mut start_roots = [0u64; 320];
     let mut end_table = [0u64; 83200];
@@ -49,6 +51,7 @@ fn main() {
     let mut time_roots = [0u64; 320];
     let mut passes = [0u32; NUMBERS];
     let all = run_groups(
+        &rt,
         &mut start_table,
         &mut start_roots,
         &mut end_table,
@@ -56,7 +59,7 @@ fn main() {
         &mut time_table,
         &mut time_roots,
         &mut passes,
-    );
-    say(b"all");
-    say_counts(all);
+    )?;
+    say(&rt, b"all")?;
+    say_counts(&rt, all)
 }

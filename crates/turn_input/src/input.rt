@@ -1,17 +1,20 @@
 // The bytes that have come: read behind those that wait, and moved to the front when others before them were taken.
-ghost use Rattle.std.specs.Prelude.{◌≡◌, ◌+◌, ◌≤◌, length, take, drop};
+ghost use Rattle.std.specs.Prelude.{◌≡◌, ◌+◌, ◌≤◌, length, take, drop, IfOk};
+ghost use Rattle.std.specs.Io.KnownBytes.{ReadConsumes};
 ghost use Rattle.words.specs.Overwrite.{overwrite};
 
-use libc::STDIN_FILENO;
+use std::io;
+use std::io::Read;
 
-// Reads once, behind the bytes that wait, and says how many bytes came: none where the input has ended.
-pub fn read_behind(buffer: &mut [u8], waiting: usize) -> usize
+// Reads once, behind the bytes that wait, and says how many bytes came: none where the input has ended. A read that fails leaves the bytes that wait.
+pub fn read_behind<R: Read>(input: &mut R, buffer: &mut [u8], waiting: usize) -> io::Result<usize>
     requires { waiting ≤ length buffer.old }
-    ensures result_in_bounds { waiting + result ≤ length buffer.new }
+    ensures result_in_bounds { IfOk result (λ came. waiting + came ≤ length buffer.new) }
     ensures buffer_unchanged { take waiting buffer.new ≡ take waiting buffer.old }
+    ensures same_length { length buffer.new ≡ length buffer.old }
+    ensures read_once { ReadConsumes (R.remaining input.old) (R.remaining input.new) result (drop waiting buffer.new) }
 {
-    let got = libc::read(STDIN_FILENO, &mut buffer[waiting..]);
-    io::count(got, &buffer[waiting..])
+    input.read(&mut buffer[waiting..])
 }
 
 // Moves the bytes from a place on, up to where they end, to the front.

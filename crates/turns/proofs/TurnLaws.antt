@@ -18,7 +18,7 @@ use Rattle.command.specs.Pieces.{run_piece, Piece, Feed, fed_with, feed_after, f
 use Rattle.command.proofs.PieceReadings.{takes_inside, room_enough, unfinished_short}
 use Rattle.pieces.specs.declared.pieces.Fed.{Fed}
 use Rattle.pieces.specs.Fed.{FedAs}
-use Rattle.turns.specs.Turns.{piece_read, IsRead, feed_of, most_waiting, Turned, most_turns, Served}
+use Rattle.turns.specs.Turns.{piece_read, IsRead, feed_of, most_waiting, Turned, IsCutTurn, most_turns, Served, CutShort}
 use Rattle.turn_input.proofs.BufferLaws.{rest_waits}
 
 module _ (s : Store) (room : ℕ) (before : List ℕ) (waiting : ℕ) (read : List ℕ) (came : ℕ) (front : take waiting read ≡ take waiting before)
@@ -46,6 +46,10 @@ module _ (s : Store) (room : ℕ) (before : List ℕ) (waiting : ℕ) (read : Li
   module _ {r : Fed} {out out' : List ℕ} {lent : Lent} (is : FedAs fed r out out' lent) where
     pub taken_inside : r.taken ≤ waiting + came
     taken_inside = omega (arith, is.taken, takes_inside room (eqb came 0) s front_bytes, length-take-le (waiting + came) read inside)
+
+    -- What was run stays in the tables where it can't be written
+    pub cut_turn : IsCutTurn room (feed_of s before waiting false) lent
+    cut_turn = inr (bytes, is.lent_is ∙ sym (ap (λ (f : piece.Fed). f.store.lent) same_fed))
 
     module _ {after : List ℕ} (moved : after ≡ overwrite read 0 (drop r.taken front_bytes)) {left : ℕ} (count : left ≡ waiting + came - r.taken)
         (roomy : 2 * length read + longest_answer ≤ room) where
@@ -149,4 +153,22 @@ no_turn_left g all e =
       store = ap (λ (f : Feed). f.store) g.feeds;
       over_is = e ∙ ap (λ (f : Feed). f.over) g.feeds;
       finished = inr (g.count ∙ all);
+    }
+
+-- An error of reading or writing leaves what the pieces so far left, or those and one more
+pub cut_run : {before now : Feed} {turns : ℕ} {lent : Lent} (room : ℕ) → Going before now turns → IsCutTurn room now lent → CutShort before lent
+cut_run room g (inl e) =
+    record {
+      pieces = g.pieces;
+      reads = g.reads;
+      ends = ends_open g.pieces g.open_yet;
+      lent = e ∙ ap (λ (f : Feed). f.store.lent) g.feeds;
+    }
+cut_run {before} room g (inr (came, e)) =
+    let next : Piece = piece_read room came in
+    record {
+      pieces = g.pieces ++ (next ∷ []);
+      reads = all_append IsRead g.pieces (next ∷ []) g.reads (refl, tt);
+      ends = ends_last g.pieces next g.open_yet;
+      lent = e ∙ ap (λ (f : Feed). (feed_after f next).store.lent) g.feeds ∙ sym (ap (λ (f : Feed). f.store.lent) (feed_more before g.pieces next));
     }

@@ -1,7 +1,7 @@
 -- A turn of the command program: bytes are read behind those that wait, and as much as may be is run.
-use Rattle.std.specs.Prelude.{ℕ, ◌-◌, ◌^◌, ◌≤◌, ◌≡◌, Bool, true, false, ◌⊎◌, List, length, take, eqb}
+use Rattle.std.specs.Prelude.{ℕ, ◌-◌, ◌^◌, ◌≡◌, Bool, true, false, ◌⊎◌, List, length, take, eqb}
 use Rattle.words.specs.Lists.{All}
-use Rattle.store.specs.Trees.{Store}
+use Rattle.store.specs.Trees.{Lent, Store}
 use Rattle.command.specs.Pieces.{Piece, Feed, feed_after, feed_all, EndsOnce}
 
 -- What a read brings: bytes, or none where the input has ended
@@ -26,6 +26,10 @@ pub record Turned (room : ℕ) (before after : Feed) : Type 0 where
   pub feeds : after ≡ feed_after before (piece_read room came)
   pub goes_on_lem : after.over ≡ false → (piece_read room came).ended ≡ false
 
+-- A turn that an error of reading or writing ends: the tables hold what they held, or what the bytes that came make of it
+abbrev pub IsCutTurn : (room : ℕ) (before : Feed) (left : Lent) → Type 0
+IsCutTurn room before left = (left ≡ before.store.lent) ⊎ ((came : List ℕ) × (left ≡ (feed_after before (piece_read room came)).store.lent))
+
 -- A proved loop has an end: so many turns, more than any run has
 abbrev pub most_turns : ℕ
 most_turns = 2 ^ 64 - 1
@@ -38,3 +42,10 @@ pub record Served (before : Feed) (left : Store) (over : Bool) : Type 0 where
   pub store : left ≡ (feed_all before pieces).store
   pub over_is : over ≡ (feed_all before pieces).over
   pub finished : (over ≡ true) ⊎ (length pieces ≡ most_turns)
+
+-- A run that an error of reading or writing ends: the tables hold what the pieces that were run left there
+pub record CutShort (before : Feed) (left : Lent) : Type 0 where
+  pub pieces : List Piece
+  pub reads : All IsRead pieces
+  pub ends : EndsOnce pieces
+  pub lent : left ≡ (feed_all before pieces).store.lent

@@ -1,13 +1,14 @@
 // One turn of the program: read, run, write.
-ghost use Rattle.std.specs.Prelude.{◌≡◌, ◌+◌, ◌*◌, ◌≤◌, ◌<◌, false, length, take};
+ghost use Rattle.std.specs.Prelude.{◌≡◌, ◌+◌, ◌*◌, ◌≤◌, ◌<◌, false, length, take, IfOk, OnErr};
 ghost use Rattle.store.specs.Trees.{Lent, lent_of, Store, store_of};
 ghost use Rattle.command.specs.Stream.{longest_answer};
 ghost use Rattle.command.specs.Pieces.{run_piece};
 ghost use Rattle.pieces.specs.Fed.{FedAs};
-ghost use Rattle.turns.specs.Turns.{feed_of, most_waiting, Turned};
+ghost use Rattle.turns.specs.Turns.{feed_of, most_waiting, Turned, IsCutTurn};
 
-use libc::STDOUT_FILENO;
 use pieces::{Fed, run_piece};
+use std::io;
+use std::io::{Read, Write};
 use store::Head;
 use turn_input::{keep_rest, read_behind};
 
@@ -34,10 +35,9 @@ fn run_front(
     out: &mut [u8],
 ) -> Fed
     requires { count ≤ length buffer.now }
-    ensures* fact { do
-      let s : Store = store_of head start_table.old start_roots.old end_table.old end_roots.old time_table.old time_roots.old
-      let left : Lent = lent_of start_table.new start_roots.new end_table.new end_roots.new time_table.new time_roots.new
-      ⌜ FedAs (run_piece (length out.old) ended s (take count buffer.now)) result out.old out.new left ⌝ }
+    ensures fact { let s : Store = store_of head start_table.old start_roots.old end_table.old end_roots.old time_table.old time_roots.old in
+        let left : Lent = lent_of start_table.new start_roots.new end_table.new end_roots.new time_table.new time_roots.new in
+        FedAs (run_piece (length out.old) ended s (take count buffer.now)) result out.old out.new left }
     ensures taken_le_count { result.taken ≤ count }
     ensures written_in_bounds { result.written ≤ length out.new }
 {
@@ -56,15 +56,18 @@ fn run_front(
 }
 
 // Writes so many bytes from the front of the answers.
-fn write_front(out: &[u8], written: usize)
+fn write_front<W: Write>(output: &mut W, out: &[u8], written: usize) -> io::Result<()>
     requires { written ≤ length out.now }
 {
-    io::write_all(STDOUT_FILENO, &out[..written]);
+    output.write_all(&out[..written])
 }
 
 // Room for twice the buffer and one answer more is always enough, so that what waits after a turn is a command that lacks operands: there is
-// always a byte to read, and a read that brings none says that the input has ended.
-pub fn turn(
+// always a byte to read, and a read that brings none says that the input has ended. A read that fails leaves the tables as they were, and a write
+// that fails leaves them as the bytes that came have them.
+pub fn turn<R: Read, W: Write>(
+    input: &mut R,
+    output: &mut W,
     head: Head,
     start_table: &mut [u64],
     start_roots: &mut [u64],
@@ -75,17 +78,21 @@ pub fn turn(
     buffer: &mut [u8],
     waiting: usize,
     out: &mut [u8],
-) -> Left
+) -> io::Result<Left>
     requires waiting_le_most_waiting { waiting ≤ most_waiting }
     requires most_waiting_in_bounds { most_waiting < length buffer.old }
     requires longest_answer_in_bounds { 2 * length buffer.old + longest_answer ≤ length out.old }
-    ensures* fact { do
-      let s : Store = store_of head start_table.old start_roots.old end_table.old end_roots.old time_table.old time_roots.old
-      let after : Store = store_of result.head start_table.new start_roots.new end_table.new end_roots.new time_table.new time_roots.new
-      ⌜ Turned (length out.old) (feed_of s buffer.old waiting false) (feed_of after buffer.new result.waiting result.over) ⌝ }
-    ensures waiting_le_most_waiting_2 { result.over ≡ false → result.waiting ≤ most_waiting }
+    ensures fact { let s : Store = store_of head start_table.old start_roots.old end_table.old end_roots.old time_table.old time_roots.old in
+        IfOk result
+        (λ left.
+        let after : Store = store_of left.head start_table.new start_roots.new end_table.new end_roots.new time_table.new time_roots.new in
+        Turned (length out.old) (feed_of s buffer.old waiting false) (feed_of after buffer.new left.waiting left.over)) }
+    ensures waiting_le_most_waiting_2 { IfOk result (λ left. left.over ≡ false → left.waiting ≤ most_waiting) }
+    ensures cut_short { let s : Store = store_of head start_table.old start_roots.old end_table.old end_roots.old time_table.old time_roots.old in
+        let lent : Lent = lent_of start_table.new start_roots.new end_table.new end_roots.new time_table.new time_roots.new in
+        OnErr result (IsCutTurn (length out.old) (feed_of s buffer.old waiting false) lent) }
 {
-    let came = read_behind(buffer, waiting);
+    let came = read_behind(input, buffer, waiting)?;
     let count = waiting + came;
     let fed = run_front(
         head,
@@ -100,12 +107,12 @@ pub fn turn(
         came == 0,
         out,
     );
-    write_front(out, fed.written);
+    write_front(output, out, fed.written)?;
     keep_rest(buffer, fed.taken, count);
     let after = fed.head;
-    Left {
+    Ok(Left {
         head: after,
         waiting: count - fed.taken,
         over: fed.over,
-    }
+    })
 }

@@ -1,0 +1,27 @@
+use Rattle.std.proofs.Common.{IfOk, OnErr}
+use Rattle.store.specs.Trees.{lent_of, store_of}
+use Rattle.command.specs.Pieces.{Feed}
+use Rattle.turns.specs.Turns.{Served, CutShort}
+use Rattle.detector.proofs.ProgramLaws.{program_opened, from_opened}
+use Rattle.detector.proofs.run_program.Goals as goal
+
+pub returns-clause-served : goal.returns-clause-served
+returns-clause-served g c =
+    let p = c.requires in
+    let n = c.serve.new in
+    from_opened
+    (program_opened c.opened_head.ensures p.start_table_value p.start_roots_value p.end_table_value p.end_roots_value p.time_table_value p.time_roots_value)
+    c.open-reply.ensures
+    (λ (f : Feed).
+    IfOk c.serve.result (λ left. Served f (store_of left.head n.start_table n.start_roots n.end_table n.end_roots n.time_table n.time_roots) left.over))
+    c.serve.ensures.served
+
+pub returns-clause-cut_short : goal.returns-clause-cut_short
+returns-clause-cut_short g c =
+    let p = c.requires in
+    let n = c.serve.new in
+    from_opened
+    (program_opened c.opened_head.ensures p.start_table_value p.start_roots_value p.end_table_value p.end_roots_value p.time_table_value p.time_roots_value)
+    c.open-reply.ensures
+    (λ (f : Feed). OnErr c.serve.result (CutShort f (lent_of n.start_table n.start_roots n.end_table n.end_roots n.time_table n.time_roots)))
+    c.serve.ensures.cut_short
