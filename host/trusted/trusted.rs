@@ -14,7 +14,7 @@ use std::collections::{BTreeMap, BTreeSet};
 use std::process::ExitCode;
 
 /// The public contracts: what each is, and where it stands.
-const ROOTS: [(&str, &str); 16] = [
+const ROOTS: [(&str, &str); 17] = [
     ("the calls that only read", "tree_lookups"),
     ("the calls that only read", "queries"),
     ("opening a store", "opening"),
@@ -28,6 +28,7 @@ const ROOTS: [(&str, &str); 16] = [
     ("the command program", "command/specs/Stream.antt:output"),
     ("any pieces of the stream", "command/proofs/AnyPieces.antt:any_pieces"),
     ("a run of the program", "turns/specs/Turns.antt:Served"),
+    ("a run that an error ends", "turns/specs/Turns.antt:CutShort"),
     ("demand 3, of calls", "store/proofs/Main.antt:demand_3"),
     ("demand 3, of calls, bursts and accesses to the block", "demand/proofs/Main.antt:demand_3_of_steps"),
     ("the table of trials", "trials_proved/proofs/Table.antt:table"),

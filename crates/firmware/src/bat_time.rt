@@ -26,12 +26,10 @@ pub extern "C" fn nimbleshale_bat_time(
     total: &mut u64,
     pages: &mut u32,
 ) -> u8
-    ensures {
-        let handed : Handed = handed_of head.now start_table.now start_roots.now end_table.now end_roots.now time_table.now time_roots.now in
+    ensures { let handed : Handed = handed_of head.now start_table.now start_roots.now end_table.now end_roots.now time_table.now time_roots.now in
         let before : List ℕ = total.old ∷ (pages.old ∷ []) in
         let after : List ℕ = total.new ∷ (pages.new ∷ []) in
-        Tells (perform (store_in handed) (bat_time k1 k2 t1 t2)).answer result before after
-    }
+        Tells (perform (store_in handed) (bat_time k1 k2 t1 t2)).answer result before after }
 {
     let answer = queries::bat_time(
         head_of(head),

@@ -55,10 +55,8 @@ fn write_query(
 )
     requires head_len { length head.now ≡ head_numbers }
     requires code_value { is_query code ≡ true }
-    ensures {
-        let handed : Handed = handed_of head.now start_table.now start_roots.now end_table.now end_roots.now time_table.now time_roots.now in
-        LeavesWrite handed block.old command_at code handed block.new
-    }
+    ensures { let handed : Handed = handed_of head.now start_table.now start_roots.now end_table.now end_roots.now time_table.now time_roots.now in
+        LeavesWrite handed block.old command_at code handed block.new }
 {
     put_command(block, code);
     let bytes = &block[..];
@@ -92,11 +90,9 @@ pub extern "C" fn nimbleshale_block_write(
     time_table: &mut [u64],
     time_roots: &mut [u64],
 )
-    ensures {
-        let before : Handed = handed_of head.old start_table.old start_roots.old end_table.old end_roots.old time_table.old time_roots.old in
+    ensures { let before : Handed = handed_of head.old start_table.old start_roots.old end_table.old end_roots.old time_table.old time_roots.old in
         let after : Handed = handed_of head.new start_table.new start_roots.new end_table.new end_roots.new time_table.new time_roots.new in
-        LeavesWrite before block.old offset value after block.new
-    }
+        LeavesWrite before block.old offset value after block.new }
 {
     // Most writes are of operands, which need no head.
     if offset != 0 {

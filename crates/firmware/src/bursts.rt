@@ -22,13 +22,11 @@ pub extern "C" fn nimbleshale_burst(
     events: &[u8],
     results: &mut [u64],
 ) -> u8
-    ensures {
-        let handed : Handed = handed_of head.old start_table.old start_roots.old end_table.old end_roots.old time_table.old time_roots.old in
+    ensures { let handed : Handed = handed_of head.old start_table.old start_roots.old end_table.old end_roots.old time_table.old time_roots.old in
         let before : Lending = record { handed = handed; results = results.old } in
         let left : Handed = handed_of head.new start_table.new start_roots.new end_table.new end_roots.new time_table.new time_roots.new in
         let after : Lending = record { handed = left; results = results.new } in
-        LeavesBurst (enter_burst (store_in handed) events.now (length results.old)) result before after
-    }
+        LeavesBurst (enter_burst (store_in handed) events.now (length results.old)) result before after }
 {
     let reply = enter_burst(
         head_of(head),

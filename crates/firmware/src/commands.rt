@@ -34,12 +34,10 @@ pub extern "C" fn nimbleshale_commands(
     taken: &mut usize,
     written: &mut usize,
 ) -> u8
-    ensures {
-        let before : Handed = handed_of head.old start_table.old start_roots.old end_table.old end_roots.old time_table.old time_roots.old in
+    ensures { let before : Handed = handed_of head.old start_table.old start_roots.old end_table.old end_roots.old time_table.old time_roots.old in
         let after : Handed = handed_of head.new start_table.new start_roots.new end_table.new end_roots.new time_table.new time_roots.new in
         let said : Packet = record { over = result; taken = taken.new; written = written.new; out = out.new } in
-        LeavesOf (run_piece (length out.old) (not (eqb ended 0)) (store_in before) input.now) said out.old after
-    }
+        LeavesOf (run_piece (length out.old) (not (eqb ended 0)) (store_in before) input.now) said out.old after }
 {
     let fed = run_piece(
         head_of(head),

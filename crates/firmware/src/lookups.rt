@@ -26,12 +26,10 @@ pub extern "C" fn nimbleshale_lookup_starts(
     sum: &mut u64,
     pages: &mut u32,
 ) -> u8
-    ensures {
-        let handed : Handed = handed_of head.now start_table.now start_roots.now end_table.now end_roots.now time_table.now time_roots.now in
+    ensures { let handed : Handed = handed_of head.now start_table.now start_roots.now end_table.now end_roots.now time_table.now time_roots.now in
         let before : List ℕ = count.old ∷ (sum.old ∷ (pages.old ∷ [])) in
         let after : List ℕ = count.new ∷ (sum.new ∷ (pages.new ∷ [])) in
-        Tells (perform (store_in handed) (lookup_in Starts t k)).answer result before after
-    }
+        Tells (perform (store_in handed) (lookup_in Starts t k)).answer result before after }
 {
     let answer = tree_lookups::lookup_starts(
         head_of(head),
@@ -63,12 +61,10 @@ pub extern "C" fn nimbleshale_lookup_ends(
     sum: &mut u64,
     pages: &mut u32,
 ) -> u8
-    ensures {
-        let handed : Handed = handed_of head.now start_table.now start_roots.now end_table.now end_roots.now time_table.now time_roots.now in
+    ensures { let handed : Handed = handed_of head.now start_table.now start_roots.now end_table.now end_roots.now time_table.now time_roots.now in
         let before : List ℕ = count.old ∷ (sum.old ∷ (pages.old ∷ [])) in
         let after : List ℕ = count.new ∷ (sum.new ∷ (pages.new ∷ [])) in
-        Tells (perform (store_in handed) (lookup_in Ends t k)).answer result before after
-    }
+        Tells (perform (store_in handed) (lookup_in Ends t k)).answer result before after }
 {
     let answer = tree_lookups::lookup_ends(
         head_of(head),
@@ -101,12 +97,10 @@ pub extern "C" fn nimbleshale_lookup_time(
     constant: &mut u64,
     pages: &mut u32,
 ) -> u8
-    ensures {
-        let handed : Handed = handed_of head.now start_table.now start_roots.now end_table.now end_roots.now time_table.now time_roots.now in
+    ensures { let handed : Handed = handed_of head.now start_table.now start_roots.now end_table.now end_roots.now time_table.now time_roots.now in
         let before : List ℕ = factor.old ∷ (constant.old ∷ (pages.old ∷ [])) in
         let after : List ℕ = factor.new ∷ (constant.new ∷ (pages.new ∷ [])) in
-        Tells (perform (store_in handed) (lookup_in Time t k)).answer result before after
-    }
+        Tells (perform (store_in handed) (lookup_in Time t k)).answer result before after }
 {
     let answer = tree_lookups::lookup_time(
         head_of(head),

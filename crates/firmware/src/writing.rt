@@ -26,15 +26,11 @@ pub extern "C" fn nimbleshale_start(
     weight: u32,
     number: &mut u32,
 ) -> u8
-    ensures leaves {
-        let before : Handed = handed_of head.old start_table.old start_roots.old end_table.now end_roots.now time_table.old time_roots.old in
+    ensures leaves { let before : Handed = handed_of head.old start_table.old start_roots.old end_table.now end_roots.now time_table.old time_roots.old in
         let after : Handed = handed_of head.new start_table.new start_roots.new end_table.now end_roots.now time_table.new time_roots.new in
-        Leaves (perform (store_in before) (start tick key weight)) result before after
-    }
-    ensures number_after {
-        let before : Handed = handed_of head.old start_table.old start_roots.old end_table.now end_roots.now time_table.old time_roots.old in
-        number.new ≡ number_said number.old (values_of (perform (store_in before) (start tick key weight)).answer)
-    }
+        Leaves (perform (store_in before) (start tick key weight)) result before after }
+    ensures number_after { let before : Handed = handed_of head.old start_table.old start_roots.old end_table.now end_roots.now time_table.old time_roots.old in
+        number.new ≡ number_said number.old (values_of (perform (store_in before) (start tick key weight)).answer) }
 {
     let reply = updates::start(
         head_of(head),
@@ -68,11 +64,9 @@ pub extern "C" fn nimbleshale_end(
     tick: u32,
     number: u32,
 ) -> u8
-    ensures {
-        let before : Handed = handed_of head.old start_table.now start_roots.now end_table.old end_roots.old time_table.old time_roots.old in
+    ensures { let before : Handed = handed_of head.old start_table.now start_roots.now end_table.old end_roots.old time_table.old time_roots.old in
         let after : Handed = handed_of head.new start_table.now start_roots.now end_table.new end_roots.new time_table.new time_roots.new in
-        Leaves (perform (store_in before) (end tick number)) result before after
-    }
+        Leaves (perform (store_in before) (end tick number)) result before after }
 {
     let reply = updates::end(
         head_of(head),
@@ -102,11 +96,9 @@ pub extern "C" fn nimbleshale_open(
     time_table: &mut [u64],
     time_roots: &mut [u64],
 ) -> u8
-    ensures {
-        let before : Handed = handed_of head.old start_table.old start_roots.old end_table.old end_roots.old time_table.old time_roots.old in
+    ensures { let before : Handed = handed_of head.old start_table.old start_roots.old end_table.old end_roots.old time_table.old time_roots.old in
         let after : Handed = handed_of head.new start_table.new start_roots.new end_table.new end_roots.new time_table.new time_roots.new in
-        Leaves (perform (store_in before) opening) result before after
-    }
+        Leaves (perform (store_in before) opening) result before after }
 {
     let reply = opening::open(
         head_of(head),

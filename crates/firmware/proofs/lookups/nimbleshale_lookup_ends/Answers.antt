@@ -1,0 +1,6 @@
+use Rattle.firmware.proofs.ExportedLaws.{told}
+use borrow.Author.Rules.{rules}
+use Rattle.firmware.proofs.lookups.nimbleshale_lookup_ends.Goals as goal
+
+pub returns : goal.returns
+returns c = search (told, rules)

@@ -1,0 +1,17 @@
+use mathlib.Core.Path.{◌≡◌}
+use lib.ListN.{length}
+use Rattle.c_heads.specs.Heads.{head_numbers}
+use Rattle.store.specs.Calls.{opening}
+use Rattle.firmware.specs.Exported.{handed_of}
+use Rattle.firmware.proofs.ExportedLaws.{replied_in, leaves}
+use Rattle.firmware.proofs.KeptPlaces.{after_opening}
+use borrow.Author.Rules.{rules}
+use Rattle.firmware.proofs.writing.nimbleshale_open.Goals as goal
+
+pub returns : goal.returns
+returns c =
+    let a = c.args in
+    let before = handed_of a.head.now a.start_table.now a.start_roots.now a.end_table.now a.end_roots.now a.time_table.now a.time_roots.now in
+    let long : length a.head.now ≡ head_numbers = search rules in
+    let is = replied_in opening before c.head_of.ensures c.open-reply.ensures in
+    leaves opening before is long c.refusal_of.ensures (after_opening before) c.put_head.ensures
