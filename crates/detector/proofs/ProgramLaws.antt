@@ -13,7 +13,10 @@ use Rattle.replies.specs.Replies.{RepliedAs}
 use Rattle.command.specs.Stream.{program_tree, program_lent, program_store, output}
 use Rattle.command.specs.Pieces.{Feed, program_feed, written_all, input_of}
 use Rattle.command.proofs.AnyPieces.{any_pieces}
-use Rattle.turns.specs.Turns.{Served}
+use Rattle.turns.specs.Turns.{Served, ServedOn}
+use Rattle.detector.specs.Program.{Says}
+use Rattle.std.specs.declared.option.Option.{Option}
+use Rattle.std.specs.Io.KnownBytes.{Appends}
 
 -- The program's tables before the first byte
 pub program_opened : {head : Head} {start_table start_roots end_table end_roots time_table time_roots : List ℕ} → head ≡ opened_head
@@ -35,3 +38,13 @@ from_opened {s} e {reply} {lent} replied P h =
 -- A run that is over has written, piece by piece, the output of its whole input
 pub run_writes : {left : Store} {over : Bool} (h : Served program_feed left over) → over ≡ true → written_all program_feed h.pieces ≡ output (input_of h.pieces)
 run_writes h e = any_pieces h.pieces h.ends (sym h.over_is ∙ e)
+
+-- so that this is what a writer holds more, and the input what was taken from a reader
+pub says : {left : Store} {over : Bool} {unread unread_after held held_after : Option (List ℕ)}
+    → ServedOn program_feed left over unread unread_after held held_after → over ≡ true → Says unread unread_after held held_after
+says {left} {over} {unread} {unread_after} {held} {held_after} h e =
+    record {
+      taken = input_of h.served.pieces;
+      read = h.read;
+      written = subst (λ (l : List ℕ). Appends held held_after l) (run_writes h.served e) h.written;
+    }

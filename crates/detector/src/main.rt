@@ -1,11 +1,12 @@
 // The command program: commands from standard input, what they say to standard output, over a store of its own.
 #![tactic(auto)]
 
-ghost use Rattle.std.specs.Prelude.{◌≡◌, IfOk, OnErr};
+ghost use Rattle.std.specs.Prelude.{◌≡◌, true, IfOk, OnErr};
 ghost use Rattle.store.specs.Trees.{Lent, lent_of, Store, store_of};
 ghost use Rattle.command.specs.Stream.{program_tree};
 ghost use Rattle.command.specs.Pieces.{program_feed};
 ghost use Rattle.turns.specs.Turns.{Served, CutShort};
+ghost use Rattle.detector.specs.Program.{Says};
 
 use std::io;
 use std::io::{Read, Write};
@@ -39,6 +40,7 @@ fn run_program<R: Read, W: Write>(
         (λ left.
         let after : Store = store_of left.head start_table.new start_roots.new end_table.new end_roots.new time_table.new time_roots.new in
         Served program_feed after left.over) }
+    ensures says_output { IfOk result (λ left. left.over ≡ true → Says (R.remaining input.old) (R.remaining input.new) (W.contents output.old) (W.contents output.new)) }
     ensures cut_short { let lent : Lent = lent_of start_table.new start_roots.new end_table.new end_roots.new time_table.new time_roots.new in
         OnErr result (CutShort program_feed lent) }
 {

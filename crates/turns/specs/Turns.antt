@@ -1,8 +1,10 @@
 -- A turn of the command program: bytes are read behind those that wait, and as much as may be is run.
 use Rattle.std.specs.Prelude.{ℕ, ◌-◌, ◌^◌, ◌≡◌, Bool, true, false, ◌⊎◌, List, length, take, eqb}
+use Rattle.std.specs.declared.option.Option.{Option}
+use Rattle.std.specs.Io.KnownBytes.{Appends, Consumes}
 use Rattle.words.specs.Lists.{All}
 use Rattle.store.specs.Trees.{Lent, Store}
-use Rattle.command.specs.Pieces.{Piece, Feed, feed_after, feed_all, EndsOnce}
+use Rattle.command.specs.Pieces.{Piece, Feed, fed_with, feed_after, feed_all, written_all, input_of, EndsOnce}
 
 -- What a read brings: bytes, or none where the input has ended
 abbrev pub piece_read : (room : ℕ) → List ℕ → Piece
@@ -26,6 +28,13 @@ pub record Turned (room : ℕ) (before after : Feed) : Type 0 where
   pub feeds : after ≡ feed_after before (piece_read room came)
   pub goes_on_lem : after.over ≡ false → (piece_read room came).ended ≡ false
 
+-- One turn on a reader and a writer. Where it is known what the one has left and what the other holds, the bytes that come are taken from the front
+-- of the first, and what is said to them stands behind the second
+pub record TurnedOn (room : ℕ) (before after : Feed) (unread unread_after held held_after : Option (List ℕ)) : Type 0 where
+  pub turned : Turned room before after
+  pub read : Consumes unread unread_after turned.came
+  pub written : Appends held held_after (fed_with before (piece_read room turned.came)).output
+
 -- A turn that an error of reading or writing ends: the tables hold what they held, or what the bytes that came make of it
 abbrev pub IsCutTurn : (room : ℕ) (before : Feed) (left : Lent) → Type 0
 IsCutTurn room before left = (left ≡ before.store.lent) ⊎ ((came : List ℕ) × (left ≡ (feed_after before (piece_read room came)).store.lent))
@@ -42,6 +51,12 @@ pub record Served (before : Feed) (left : Store) (over : Bool) : Type 0 where
   pub store : left ≡ (feed_all before pieces).store
   pub over_is : over ≡ (feed_all before pieces).over
   pub finished : (over ≡ true) ⊎ (length pieces ≡ most_turns)
+
+-- A whole run on a reader and a writer: its input is what was taken from the one, and what its pieces say stands behind what the other held
+pub record ServedOn (before : Feed) (left : Store) (over : Bool) (unread unread_after held held_after : Option (List ℕ)) : Type 0 where
+  pub served : Served before left over
+  pub read : Consumes unread unread_after (input_of served.pieces)
+  pub written : Appends held held_after (written_all before served.pieces)
 
 -- A run that an error of reading or writing ends: the tables hold what the pieces that were run left there
 pub record CutShort (before : Feed) (left : Lent) : Type 0 where

@@ -2,7 +2,7 @@
 ghost use Rattle.std.specs.Prelude.{false, [], IfOk, OnErr};
 ghost use Rattle.store.specs.Trees.{Lent, lent_of, Store, store_of};
 ghost use Rattle.command.specs.Pieces.{Feed};
-ghost use Rattle.turns.specs.Turns.{Served, CutShort};
+ghost use Rattle.turns.specs.Turns.{Served, ServedOn, CutShort};
 
 use crate::turn::{Left, turn};
 use std::io;
@@ -34,6 +34,12 @@ pub fn serve<R: Read, W: Write>(
         (λ left.
         let after : Store = store_of left.head start_table.new start_roots.new end_table.new end_roots.new time_table.new time_roots.new in
         Served before after left.over) }
+    ensures moves { let s : Store = store_of opened start_table.old start_roots.old end_table.old end_roots.old time_table.old time_roots.old in
+        let before : Feed = record { store = s; waiting = []; over = false } in
+        IfOk result
+        (λ left.
+        let after : Store = store_of left.head start_table.new start_roots.new end_table.new end_roots.new time_table.new time_roots.new in
+        ServedOn before after left.over (R.remaining input.old) (R.remaining input.new) (W.contents output.old) (W.contents output.new)) }
     ensures cut_short { let s : Store = store_of opened start_table.old start_roots.old end_table.old end_roots.old time_table.old time_roots.old in
         let before : Feed = record { store = s; waiting = []; over = false } in
         let lent : Lent = lent_of start_table.new start_roots.new end_table.new end_roots.new time_table.new time_roots.new in

@@ -1,10 +1,11 @@
 // One turn of the program: read, run, write.
-ghost use Rattle.std.specs.Prelude.{◌≡◌, ◌+◌, ◌*◌, ◌≤◌, ◌<◌, false, length, take, IfOk, OnErr};
+ghost use Rattle.std.specs.Prelude.{◌≡◌, ◌+◌, ◌*◌, ◌≤◌, ◌<◌, false, length, take, IfOk, OnOk, OnErr};
+ghost use Rattle.std.specs.Io.KnownBytes.{Appends};
 ghost use Rattle.store.specs.Trees.{Lent, lent_of, Store, store_of};
 ghost use Rattle.command.specs.Stream.{longest_answer};
 ghost use Rattle.command.specs.Pieces.{run_piece};
 ghost use Rattle.pieces.specs.Fed.{FedAs};
-ghost use Rattle.turns.specs.Turns.{feed_of, most_waiting, Turned, IsCutTurn};
+ghost use Rattle.turns.specs.Turns.{feed_of, most_waiting, Turned, TurnedOn, IsCutTurn};
 
 use pieces::{Fed, run_piece};
 use std::io;
@@ -58,6 +59,7 @@ fn run_front(
 // Writes so many bytes from the front of the answers.
 fn write_front<W: Write>(output: &mut W, out: &[u8], written: usize) -> io::Result<()>
     requires { written ≤ length out.now }
+    ensures { OnOk result (Appends (W.contents output.old) (W.contents output.new) (take written out.now)) }
 {
     output.write_all(&out[..written])
 }
@@ -87,6 +89,11 @@ pub fn turn<R: Read, W: Write>(
         (λ left.
         let after : Store = store_of left.head start_table.new start_roots.new end_table.new end_roots.new time_table.new time_roots.new in
         Turned (length out.old) (feed_of s buffer.old waiting false) (feed_of after buffer.new left.waiting left.over)) }
+    ensures moves { let s : Store = store_of head start_table.old start_roots.old end_table.old end_roots.old time_table.old time_roots.old in
+        IfOk result
+        (λ left.
+        let after : Store = store_of left.head start_table.new start_roots.new end_table.new end_roots.new time_table.new time_roots.new in
+        TurnedOn (length out.old) (feed_of s buffer.old waiting false) (feed_of after buffer.new left.waiting left.over) (R.remaining input.old) (R.remaining input.new) (W.contents output.old) (W.contents output.new)) }
     ensures waiting_le_most_waiting_2 { IfOk result (λ left. left.over ≡ false → left.waiting ≤ most_waiting) }
     ensures cut_short { let s : Store = store_of head start_table.old start_roots.old end_table.old end_roots.old time_table.old time_roots.old in
         let lent : Lent = lent_of start_table.new start_roots.new end_table.new end_roots.new time_table.new time_roots.new in

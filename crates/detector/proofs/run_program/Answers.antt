@@ -1,8 +1,9 @@
 use Rattle.std.proofs.Common.{IfOk, OnErr}
+use Rattle.std.proofs.lemmas.Result.{IfOk-weaker}
 use Rattle.store.specs.Trees.{lent_of, store_of}
 use Rattle.command.specs.Pieces.{Feed}
-use Rattle.turns.specs.Turns.{Served, CutShort}
-use Rattle.detector.proofs.ProgramLaws.{program_opened, from_opened}
+use Rattle.turns.specs.Turns.{Served, ServedOn, CutShort}
+use Rattle.detector.proofs.ProgramLaws.{program_opened, from_opened, says}
 use Rattle.detector.proofs.run_program.Goals as goal
 
 pub returns-clause-served : goal.returns-clause-served
@@ -15,6 +16,24 @@ returns-clause-served g c =
     (λ (f : Feed).
     IfOk c.serve.result (λ left. Served f (store_of left.head n.start_table n.start_roots n.end_table n.end_roots n.time_table n.time_roots) left.over))
     c.serve.ensures.served
+
+pub returns-clause-says_output : goal.returns-clause-says_output
+returns-clause-says_output g c =
+    let p = c.requires in
+    let a = c.args in
+    let n = c.serve.new in
+    let r = c.serve.result in
+    IfOk-weaker r _ _
+    (λ left. λ h. λ e. says h e)
+    (from_opened
+    (program_opened c.opened_head.ensures p.start_table_value p.start_roots_value p.end_table_value p.end_roots_value p.time_table_value p.time_roots_value)
+    c.open-reply.ensures
+    (λ (f : Feed).
+    IfOk r
+    (λ left.
+    ServedOn f (store_of left.head n.start_table n.start_roots n.end_table n.end_roots n.time_table n.time_roots) left.over
+    (g.R.Read.remaining a.input.now) (g.R.Read.remaining n.input) (g.W.Write.contents a.output.now) (g.W.Write.contents n.output)))
+    c.serve.ensures.moves)
 
 pub returns-clause-cut_short : goal.returns-clause-cut_short
 returns-clause-cut_short g c =

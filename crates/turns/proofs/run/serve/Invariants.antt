@@ -14,7 +14,8 @@ invariant-loop-left g l = record {
   going : Going
       (record { store = store_of l.fn.opened l.fn.start_table l.fn.start_roots l.fn.end_table l.fn.end_roots l.fn.time_table l.fn.time_roots; waiting = []; over = false })
       (feed_of (store_of l.now.head l.start_table l.start_roots l.end_table l.end_roots l.time_table l.time_roots) l.buffer l.now.waiting false)
-      (most_turns - l.left);
+      (most_turns - l.left)
+      (g.R.Read.remaining l.fn.input) (g.R.Read.remaining l.input) (g.W.Write.contents l.fn.output) (g.W.Write.contents l.output);
 }
 
 abbrev pub decreases-loop-left : goal.decreases-loop-left

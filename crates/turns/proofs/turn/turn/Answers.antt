@@ -2,7 +2,7 @@ use Rattle.std.proofs.Common.{◌+◌, ◌*◌, ◌≤◌, length, refl, arith}
 use Rattle.std.proofs.lemmas.Result.{err_from_is_err_and}
 use Rattle.store.specs.Trees.{Store, store_of}
 use Rattle.command.specs.Stream.{longest_answer}
-use Rattle.turns.proofs.TurnLaws.{turned, waits_short, cut_turn}
+use Rattle.turns.proofs.TurnLaws.{turned, turned_on, waits_short, cut_turn}
 use Rattle.turns.proofs.turn.turn.Goals as goal
 
 pub returns-in_err-write_front-clause-cut_short : goal.returns-in_err-write_front-clause-cut_short
@@ -20,6 +20,15 @@ returns-clause-fact g c =
     let read = c.in_ok-came.ensures in
     let roomy : 2 * length c.read_behind.new.buffer + longest_answer ≤ length a.out.now = omega (arith, read.same_length, c.requires.longest_answer_in_bounds) in
     turned s (length a.out.now) a.buffer.now a.waiting c.read_behind.new.buffer c.in_ok-came.came read.buffer_unchanged read.result_in_bounds c.run_front-fed.ensures.fact c.keep_rest.ensures refl roomy
+
+pub returns-clause-moves : goal.returns-clause-moves
+returns-clause-moves g c =
+    let a = c.args in
+    let s : Store = store_of a.head a.start_table.now a.start_roots.now a.end_table.now a.end_roots.now a.time_table.now a.time_roots.now in
+    let read = c.in_ok-came.ensures in
+    let roomy : 2 * length c.read_behind.new.buffer + longest_answer ≤ length a.out.now = omega (arith, read.same_length, c.requires.longest_answer_in_bounds) in
+    turned_on s (length a.out.now) a.buffer.now a.waiting c.read_behind.new.buffer c.in_ok-came.came read.buffer_unchanged read.result_in_bounds c.run_front-fed.ensures.fact c.keep_rest.ensures refl roomy
+    read.read_once.0 c.in_ok-write_front.ensures
 
 pub returns-clause-waiting_le_most_waiting_2 : goal.returns-clause-waiting_le_most_waiting_2
 returns-clause-waiting_le_most_waiting_2 g c =

@@ -1,0 +1,2 @@
+-- The command program as a whole.
+pub mod Program
