@@ -17,7 +17,7 @@ use Rattle.tree.specs.Row.{row_start, rows_from, row_limit, live, value_start}
 use Rattle.tree.specs.RowEdits.{row_in}
 use Rattle.tree.specs.KeyOrder.{Placed, keep_if, live_placed}
 use Rattle.rows.specs.RowPlaces.{placed_at}
-use Rattle.ranges.specs.KeyRanges.{range_of, range_low, place_in_lem}
+use Rattle.ranges.specs.KeyRanges.{range_of, range_low, place_in}
 use Rattle.live.specs.LiveRows.{ended_by, live_rows, Listed}
 use Rattle.live.specs.LiveHeld.{add_below}
 use Rattle.rows.proofs.SeatedRows.{live_from, live_more}
@@ -69,7 +69,7 @@ module _ (page : List ℕ) (t : ℕ) (f : Placed → ℕ) (all : List ℕ) where
       sym (append-nil (take count l)) ∙ (rw none at e)
 
 pub listed : (t : ℕ) (page : List ℕ) (n : ℕ) (ranges places : List ℕ) (count : ℕ) → count ≤ length ranges → count ≤ row_limit →
-    take count ranges ≡ map range_of (live_rows t page n) → take count places ≡ map place_in_lem (live_rows t page n) → Listed t page n ranges places count
+    take count ranges ≡ map range_of (live_rows t page n) → take count places ≡ map place_in (live_rows t page n) → Listed t page n ranges places count
 listed t page n ranges places count h b r p =
     record {
       counted = sym (length-take-le count ranges h) ∙ ap (λ (l : List ℕ). length l) r ∙ length-map (live_rows t page n) range_of;

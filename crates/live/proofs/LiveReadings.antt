@@ -31,7 +31,7 @@ use Rattle.tree.proofs.Tiling.{rows_tile_tiles, tiles_rows_tile}
 use Rattle.tree.proofs.OrderTotals.{placed_value, total_stored, order_total}
 use Rattle.live.specs.Survey.{is_around, starts_from, survey_of}
 use Rattle.words.specs.Sums.{count}
-use Rattle.ranges.specs.KeyRanges.{range_of, range_low, range_high, place_in_lem, holds_key}
+use Rattle.ranges.specs.KeyRanges.{range_of, range_low, range_high, place_in, holds_key}
 use Rattle.live.specs.LiveRows.{live_rows, Listed, AllIn}
 use Rattle.tiles.specs.TileTest.{tiles}
 use Rattle.ranges.specs.declared.search.Place.TheVariants.{At, Missing}
@@ -101,10 +101,10 @@ module _ (page : List ℕ) (t n : ℕ) (few : n ≤ row_limit) where
   few_live = omega (arith, live_few page t 0 n)
 
   -- The places lie in the page
-  pub all_in : row_start n ≤ length page → AllIn page (map place_in_lem (live_rows t page n))
+  pub all_in : row_start n ≤ length page → AllIn page (map place_in (live_rows t page n))
   all_in h = mapped (live_rows t page n) seated
     where
-      mapped : (xs : List Placed) → All (Seated page n) xs → AllIn page (map place_in_lem xs)
+      mapped : (xs : List Placed) → All (Seated page n) xs → AllIn page (map place_in xs)
       mapped [] s = tt
       mapped (x ∷ xs) s = (omega (arith, s.0.within), mapped xs s.1)
 
@@ -158,7 +158,7 @@ module _ (page : List ℕ) (t n : ℕ) (few : n ≤ row_limit) where
 
   -- A search for bounds is one in key order
   found_says : (from below above : ℕ) (test : Placed → Bool) → ((x : Placed) → Short x → row_fits from below above x ≡ test x) →
-      place_at (map place_in_lem (live_rows t page n)) (least from below above 0 (map range_of (live_rows t page n)))
+      place_at (map place_in (live_rows t page n)) (least from below above 0 (map range_of (live_rows t page n)))
       ≡ place_found (first test (key_order t (rows_from page header_words n)))
   found_says from below above test same =
       place_is_first from below above (live_rows t page n) rows_short (omega (arith, few_live))
@@ -166,14 +166,14 @@ module _ (page : List ℕ) (t n : ℕ) (few : n ≤ row_limit) where
       (all_map Short (λ (x : Placed). row_fits from below above x ≡ test x) same (key_order t (rows_from page header_words n)) order_short))
 
   pub around_says : (k : ℕ) →
-      place_at (map place_in_lem (live_rows t page n)) (least 0 k (k + 1) 0 (map range_of (live_rows t page n)))
+      place_at (map place_in (live_rows t page n)) (least 0 k (k + 1) 0 (map range_of (live_rows t page n)))
       ≡ place_found (first (is_around k) (key_order t (rows_from page header_words n)))
   around_says k =
       found_says 0 k (k + 1) (is_around k)
       (λ x s. rw (le-leb 0 (placed_low x) (omega arith), next_at_most k (placed_high x)))
 
   pub from_says : (k : ℕ) →
-      place_at (map place_in_lem (live_rows t page n)) (least k 65536 0 0 (map range_of (live_rows t page n)))
+      place_at (map place_in (live_rows t page n)) (least k 65536 0 0 (map range_of (live_rows t page n)))
       ≡ place_found (first (starts_from k) (key_order t (rows_from page header_words n)))
   from_says k =
       found_says k 65536 0 (starts_from k)
@@ -184,7 +184,7 @@ module _ (page : List ℕ) (t n : ℕ) (few : n ≤ row_limit) where
       and-true false = refl
 
   holds_says : (k : ℕ) →
-      place_at (map place_in_lem (live_rows t page n)) (least 0 (k + 1) (k + 1) 0 (map range_of (live_rows t page n)))
+      place_at (map place_in (live_rows t page n)) (least 0 (k + 1) (k + 1) 0 (map range_of (live_rows t page n)))
       ≡ place_found (holding_row t k (rows_from page header_words n))
   holds_says k =
       found_says 0 (k + 1) (k + 1) (λ (x : Placed). holds k x.row)
@@ -192,7 +192,7 @@ module _ (page : List ℕ) (t n : ℕ) (few : n ≤ row_limit) where
 
   -- The values of the rows with a lower low key
   below_total : (low : ℕ) (total : Value) (xs : List Placed) → Stored total → All (Seated page n) xs →
-      add_below page low total (map range_of xs) (map place_in_lem xs) ≡ plus total (total_where placed_value (λ (x : Placed). ltb x.row.low low) xs)
+      add_below page low total (map range_of xs) (map place_in xs) ≡ plus total (total_where placed_value (λ (x : Placed). ltb x.row.low low) xs)
   unfolding add_below total_where
   below_total low total [] st se = sym (plus_zero total st)
   below_total low total (x ∷ xs) st se =
@@ -202,7 +202,7 @@ module _ (page : List ℕ) (t n : ℕ) (few : n ≤ row_limit) where
       ∙ plus_assoc total _ _)
 
   total_says : (low : ℕ) →
-      add_below page low value.zero (map range_of (live_rows t page n)) (map place_in_lem (live_rows t page n))
+      add_below page low value.zero (map range_of (live_rows t page n)) (map place_in (live_rows t page n))
       ≡ total_where row_value (λ (r : Row). live t r && ltb r.low low) (rows_from page header_words n)
   total_says low =
       below_total low value.zero (live_rows t page n) (omega arith) seated
@@ -211,24 +211,24 @@ module _ (page : List ℕ) (t n : ℕ) (few : n ≤ row_limit) where
       ∙ order_total t (λ (r : Row). ltb r.low low) (rows_from page header_words n)
 
   pub held_says : (k : ℕ) →
-      held_among page (map range_of (live_rows t page n)) (map place_in_lem (live_rows t page n)) k
+      held_among page (map range_of (live_rows t page n)) (map place_in (live_rows t page n)) k
       ≡ held_as t (rows_from page header_words n) (holding_row t k (rows_from page header_words n))
   held_says k =
-      ap (held_at_place page (map range_of (live_rows t page n)) (map place_in_lem (live_rows t page n))) (holds_says k)
+      ap (held_at_place page (map range_of (live_rows t page n)) (map place_in (live_rows t page n))) (holds_says k)
       ∙ go (holding_row t k (rows_from page header_words n)) refl
     where
       go : (s : Search Placed) → holding_row t k (rows_from page header_words n) ≡ s →
-          held_at_place page (map range_of (live_rows t page n)) (map place_in_lem (live_rows t page n)) (place_found s)
+          held_at_place page (map range_of (live_rows t page n)) (map place_in (live_rows t page n)) (place_found s)
           ≡ held_as t (rows_from page header_words n) s
       go none e = refl
       go (one x) e =
           let s = first_has (Seated page n) _ _ (order_seated page n t 0 n (omega arith)) e in
-          ap (λ (r : Row). Found r (plus r.value (add_below page r.low value.zero (map range_of (live_rows t page n)) (map place_in_lem (live_rows t page n))))) (sym s.same)
+          ap (λ (r : Row). Found r (plus r.value (add_below page r.low value.zero (map range_of (live_rows t page n)) (map place_in (live_rows t page n))))) (sym s.same)
           ∙ ap (λ (v : Value). Found x.row (plus x.row.value v)) (total_says x.row.low)
 
 -- The survey from the lists is the page's
 pub survey_says : (t k : ℕ) (page : List ℕ) → word page 1 ≤ row_limit →
-    survey_among (word page 1) k (map range_of (live_rows t page (word page 1))) (map place_in_lem (live_rows t page (word page 1))) ≡ survey_of t k page
+    survey_among (word page 1) k (map range_of (live_rows t page (word page 1))) (map place_in (live_rows t page (word page 1))) ≡ survey_of t k page
 survey_says t k page few =
     let live_is : length (map range_of (live_rows t page (word page 1))) ≡ length (key_order t (rows_of page)) =
     length-map (live_rows t page (word page 1)) range_of ∙ sym (sort_length placed_low (live_rows t page (word page 1))) in
@@ -240,9 +240,9 @@ survey_says t k page few =
     }
 
 -- The place that a search finds is one of those listed, so its row lies in the page
-pub place_in : (page ranges places : List ℕ) (from below above : ℕ) → length ranges ≤ row_limit → length places ≡ length ranges →
+pub place_in_lem : (page ranges places : List ℕ) (from below above : ℕ) → length ranges ≤ row_limit → length places ≡ length ranges →
     AllIn page places → {p : ℕ} → At p ≡ place_at places (least from below above 0 ranges) → row_start p + row_words ≤ length page
-place_in page ranges places from below above few same h {p} e = go (leb no_range (least from below above 0 ranges)) refl e
+place_in_lem page ranges places from below above few same h {p} e = go (leb no_range (least from below above 0 ranges)) refl e
   where
     go : (b : Bool) → leb no_range (least from below above 0 ranges) ≡ b →
         At p ≡ cond b Missing (At (get_or places (least from below above 0 ranges % 256) 0)) → row_start p + row_words ≤ length page
@@ -286,7 +286,7 @@ module _ (t : ℕ) (page : List ℕ) (rows : ℕ) (ranges places : List ℕ) (n 
   ranges_length = l.counted ∙ sym (ap (λ (x : List ℕ). length x) l.ranges_are ∙ length-map (live_rows t page rows) range_of)
 
   pub places_length : n ≡ length (take n places)
-  places_length = l.counted ∙ sym (ap (λ (x : List ℕ). length x) l.places_are ∙ length-map (live_rows t page rows) place_in_lem)
+  places_length = l.counted ∙ sym (ap (λ (x : List ℕ). length x) l.places_are ∙ length-map (live_rows t page rows) place_in)
 
   pub ranges_few : length (take n ranges) ≤ row_limit
   ranges_few = omega (arith, ranges_length, l.bounded)

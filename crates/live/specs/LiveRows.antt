@@ -3,7 +3,7 @@ use Rattle.std.specs.Prelude.{◌≡◌, ℕ, ◌+◌, ◌*◌, ◌≤◌, List,
 use Rattle.words.specs.Lists.{All}
 use Rattle.tree.specs.Row.{row_start, row_words, rows_from, row_limit, header_words}
 use Rattle.tree.specs.KeyOrder.{Placed, live_placed}
-use Rattle.ranges.specs.KeyRanges.{range_of, place_in_lem}
+use Rattle.ranges.specs.KeyRanges.{range_of, place_in}
 
 -- The highest row word 1, "birth + 2^32 × end", with an end that is not after t
 abbrev pub ended_by : ℕ → ℕ
@@ -18,7 +18,7 @@ pub record Listed (t : ℕ) (page : List ℕ) (n : ℕ) (ranges places : List �
   pub counted : count ≡ length (live_rows t page n)
   pub bounded : count ≤ row_limit
   pub ranges_are : take count ranges ≡ map range_of (live_rows t page n)
-  pub places_are : take count places ≡ map place_in_lem (live_rows t page n)
+  pub places_are : take count places ≡ map place_in (live_rows t page n)
 
 -- The rows at the places lie in the page
 abbrev pub AllIn : List ℕ → List ℕ → Type 0

@@ -11,7 +11,7 @@ use borrow.Author.Tests.{leb-true, leb-false, ltb-false, le-leb, lt-leb}
 use Rattle.tree.specs.KeyOrder.{Placed, placed_low, placed_high, insert_by, sort_by}
 use Rattle.tree.specs.TrueValue.{Search, none, one, first}
 use Rattle.ranges.specs.declared.search.Place.TheVariants.{At}
-use Rattle.ranges.specs.KeyRanges.{range_of, range_low, range_high, place_in_lem, lesser}
+use Rattle.ranges.specs.KeyRanges.{range_of, range_low, range_high, place_in, lesser}
 use Rattle.ranges.specs.Nearest.{no_range, fits, candidate, least, place_at, place_found}
 use Rattle.tree.proofs.Lists.{All}
 use Rattle.tree.proofs.Sorted.{Sorted, sort_by_sorted}
@@ -120,7 +120,7 @@ module _ (from below above : ℕ) where
   record At-item (at : ℕ) (xs : List Placed) (y : Placed) (n : ℕ) : Type 0 where
     index : ℕ
     inside : index < length xs
-    place_is : get_or (map place_in_lem xs) index 0 ≡ y.place
+    place_is : get_or (map place_in xs) index 0 ≡ y.place
     number_is : n ≡ 256 * placed_low y + (at + index)
     low_short : placed_low y < 65536
 
@@ -168,11 +168,11 @@ module _ (from below above : ℕ) where
       go true (one y) n m f = nearest y n f (leb (placed_low x) (placed_low y)) refl
 
   pub place_is_first : (xs : List Placed) → All Short xs → length xs ≤ 256 →
-      place_at (map place_in_lem xs) (least from below above 0 (map range_of xs)) ≡ place_found (first row_fits (sort_by placed_low xs))
+      place_at (map place_in xs) (least from below above 0 (map range_of xs)) ≡ place_found (first row_fits (sort_by placed_low xs))
   place_is_first xs s h =
       go (first row_fits (sort_by placed_low xs)) (least from below above 0 (map range_of xs)) (least_finds 0 xs s (omega arith))
     where
-      go : (r : Search Placed) (n : ℕ) → Finds 0 xs r n → place_at (map place_in_lem xs) n ≡ place_found r
+      go : (r : Search Placed) (n : ℕ) → Finds 0 xs r n → place_at (map place_in xs) n ≡ place_found r
       go none n f = rw (le-leb no_range n (omega arith))
       go (one y) n f =
           let i : n % 256 ≡ f.index = omega (arith, f.number_is, f.inside) in

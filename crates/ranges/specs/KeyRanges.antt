@@ -16,8 +16,8 @@ range_high e = e / 65536
 abbrev pub holds_key : ℕ → ℕ → Bool
 holds_key q e = leb (range_low e) q && ltb q (range_high e)
 
-abbrev pub place_in_lem : Placed → ℕ
-place_in_lem x = x.place
+abbrev pub place_in : Placed → ℕ
+place_in x = x.place
 
 abbrev pub lesser : ℕ → ℕ → ℕ
 lesser a b = cond (ltb a b) a b

@@ -80,7 +80,7 @@ module _ (s : Store) (room : ℕ) (before : List ℕ) (waiting : ℕ) (read : Li
           record {
             came = bytes;
             feeds = λ i. record { store = stored_so i; waiting = waits i; over = over_so i };
-            goes_on_lem = λ e. ap (λ (n : ℕ). eqb n 0) came_length ∙ (room_enough room (eqb came 0) s front_bytes enough (sym is.over ∙ e)).0;
+            goes_on = λ e. ap (λ (n : ℕ). eqb n 0) came_length ∙ (room_enough room (eqb came 0) s front_bytes enough (sym is.over ∙ e)).0;
           }
 
       pub turned : Turned room (feed_of s before waiting false) (feed_of (record { head = r.head; lent = lent }) after left r.over)
@@ -190,7 +190,7 @@ module _ {before now after : Feed} {turns room : ℕ} {unread unread_now unread_
       record {
         pieces = with_next;
         reads = all_append IsRead g.pieces (next ∷ []) g.reads (refl, tt);
-        open_yet = all_append (λ (p : Piece). p.ended ≡ false) g.pieces (next ∷ []) g.open_yet (t.turned.goes_on_lem off, tt);
+        open_yet = all_append (λ (p : Piece). p.ended ≡ false) g.pieces (next ∷ []) g.open_yet (t.turned.goes_on off, tt);
         feeds = same ∙ fed_so_far;
         count = omega (arith, length-append g.pieces (next ∷ []), g.count, e);
         read = read_so_far;

@@ -26,7 +26,7 @@ most_waiting = 12
 pub record Turned (room : ℕ) (before after : Feed) : Type 0 where
   pub came : List ℕ
   pub feeds : after ≡ feed_after before (piece_read room came)
-  pub goes_on_lem : after.over ≡ false → (piece_read room came).ended ≡ false
+  pub goes_on : after.over ≡ false → (piece_read room came).ended ≡ false
 
 -- One turn on a reader and a writer. Where it is known what the one has left and what the other holds, the bytes that come are taken from the front
 -- of the first, and what is said to them stands behind the second

@@ -2,14 +2,14 @@ use native.Mathlib.Omega.{arith}
 use Prim.Native.Nat.{◌+◌}
 use mathlib.Core.Path.{ap, sym, ◌∙◌}
 use Rattle.live.specs.LiveHeld.{held_at_place}
-use Rattle.live.proofs.LiveReadings.{place_in}
+use Rattle.live.proofs.LiveReadings.{place_in_lem}
 use borrow.Author.Rules.{rules}
 use Rattle.live.proofs.held.held_row.Goals as goal
 
 pub row_at-row-requires : goal.row_at-row-requires
 row_at-row-requires c =
     let a = c.args in
-    place_in a.page.now a.ranges.now a.places.now 0 (a.k + 1) (a.k + 1) (search rules) (search rules) (search rules)
+    place_in_lem a.page.now a.ranges.now a.places.now 0 (a.k + 1) (a.k + 1) (search rules) (search rules) (search rules)
     (sym c.in-At.is ∙ c.find_holder-found.ensures)
 
 pub total_below-below-requires : goal.total_below-below-requires

@@ -7,7 +7,7 @@ use mathlib.Core.List.{map}
 use lib.ListN.{length, length-set}
 use Rattle.tree.specs.Row.{row_limit, row_at, live}
 use Rattle.tree.specs.RowEdits.{row_in}
-use Rattle.ranges.specs.KeyRanges.{range_of, place_in_lem}
+use Rattle.ranges.specs.KeyRanges.{range_of, place_in}
 use Rattle.live.specs.LiveRows.{live_rows}
 use Rattle.live.proofs.LiveLaws.{Listing, listing_starts, listing_on, listing_done, listed}
 use borrow.Author.Rules.{rules}
@@ -21,7 +21,7 @@ loop-place-init c =
       search rules,
       search rules,
       listing_starts a.page.now a.t range_of _ a.rows a.ranges.now refl,
-      listing_starts a.page.now a.t place_in_lem _ a.rows a.places.now refl,
+      listing_starts a.page.now a.t place_in _ a.rows a.places.now refl,
     )
 
 pub overflow_add-count : goal.overflow_add-count
@@ -46,7 +46,7 @@ loop-place-preserved c =
           (listing_on a.page.now a.t range_of (map range_of (live_rows a.t a.page.now a.rows)) a.rows l.count l.place l.ranges
           (omega arith) (omega arith) l.invariant.4),
       rw counted
-          (listing_on a.page.now a.t place_in_lem (map place_in_lem (live_rows a.t a.page.now a.rows)) a.rows l.count l.place l.places
+          (listing_on a.page.now a.t place_in (map place_in (live_rows a.t a.page.now a.rows)) a.rows l.count l.place l.places
           (omega arith) (omega arith) l.invariant.5),
     )
 
@@ -56,4 +56,4 @@ returns c =
     let l = c.loop-place in
     listed a.t a.page.now a.rows l.ranges l.places l.count (omega arith) (omega arith)
     (listing_done a.page.now a.t range_of (map range_of (live_rows a.t a.page.now a.rows)) a.rows l.count l.place l.ranges (omega arith) l.invariant.4)
-    (listing_done a.page.now a.t place_in_lem (map place_in_lem (live_rows a.t a.page.now a.rows)) a.rows l.count l.place l.places (omega arith) l.invariant.5)
+    (listing_done a.page.now a.t place_in (map place_in (live_rows a.t a.page.now a.rows)) a.rows l.count l.place l.places (omega arith) l.invariant.5)
