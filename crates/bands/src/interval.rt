@@ -1,4 +1,4 @@
-// What a tree has in a band of keys before each of the two ticks of an interval, as bat-time asks for it: one tree, so that its root list is walked once.
+// What a tree has in a band of keys before each of the two ticks of an interval: one tree, so that its root list is walked once.
 ghost use Rattle.std.specs.Prelude.{◌≡◌, ◌-◌, ◌*◌, ◌≤◌, ◌<◌, length};
 ghost use Rattle.words.specs.Words.{key_limit};
 ghost use Rattle.tree.specs.Row.{page_words};

@@ -1,4 +1,4 @@
-// The lookup of one tree for two keys at once, as a question makes it, and for two keys at two ticks, as bat-time does.
+// The lookup of one tree for two keys at once, as a question makes it, and for two keys at two ticks, as an interval has them.
 #![tactic(auto)]
 
 mod ticks;

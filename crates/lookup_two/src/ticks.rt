@@ -1,4 +1,4 @@
-// The lookups of two keys at two ticks of one tree, as bat-time makes them. A page that comes from memory and not from a cache takes long, its first word longest.
+// The lookups of two keys at two ticks of one tree, as an interval has them. A page that comes from memory and not from a cache takes long, its first word longest.
 // So the first words of pages that do not wait for one another are read before the rest of any of them, and the waits go by together: first those of
 // both roots, then those of the pages that the four paths lead to next.
 ghost use Rattle.std.specs.Prelude.{◌≡◌, ◌*◌, ◌≤◌, length};
