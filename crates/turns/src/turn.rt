@@ -36,7 +36,7 @@ fn run_front(
     out: &mut [u8],
 ) -> Fed
     requires { count ≤ length buffer.now }
-    ensures fact { let s : Store = store_of head start_table.old start_roots.old end_table.old end_roots.old time_table.old time_roots.old in
+    ensures fed { let s : Store = store_of head start_table.old start_roots.old end_table.old end_roots.old time_table.old time_roots.old in
         let left : Lent = lent_of start_table.new start_roots.new end_table.new end_roots.new time_table.new time_roots.new in
         FedAs (run_piece (length out.old) ended s (take count buffer.now)) result out.old out.new left }
     ensures taken_le_count { result.taken ≤ count }
@@ -84,7 +84,7 @@ pub fn turn<R: Read, W: Write>(
     requires waiting_le_most_waiting { waiting ≤ most_waiting }
     requires most_waiting_in_bounds { most_waiting < length buffer.old }
     requires longest_answer_in_bounds { 2 * length buffer.old + longest_answer ≤ length out.old }
-    ensures fact { let s : Store = store_of head start_table.old start_roots.old end_table.old end_roots.old time_table.old time_roots.old in
+    ensures turned { let s : Store = store_of head start_table.old start_roots.old end_table.old end_roots.old time_table.old time_roots.old in
         IfOk result
         (λ left.
         let after : Store = store_of left.head start_table.new start_roots.new end_table.new end_roots.new time_table.new time_roots.new in

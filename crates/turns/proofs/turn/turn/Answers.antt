@@ -11,15 +11,15 @@ returns-in_err-write_front-clause-cut_short g c =
     let s : Store = store_of a.head a.start_table.now a.start_roots.now a.end_table.now a.end_roots.now a.time_table.now a.time_roots.now in
     let read = c.in_ok-came.ensures in
     let p = err_from_is_err_and c.from_residual-in_err-write_front.result c.from_residual-in_err-write_front.ensures.1 in
-    rw p.1 (cut_turn s (length a.out.now) a.buffer.now a.waiting c.read_behind.new.buffer c.in_ok-came.came read.buffer_unchanged read.result_in_bounds c.run_front-fed.ensures.fact)
+    rw p.1 (cut_turn s (length a.out.now) a.buffer.now a.waiting c.read_behind.new.buffer c.in_ok-came.came read.buffer_unchanged read.result_in_bounds c.run_front-fed.ensures.fed)
 
-pub returns-clause-fact : goal.returns-clause-fact
-returns-clause-fact g c =
+pub returns-clause-turned : goal.returns-clause-turned
+returns-clause-turned g c =
     let a = c.args in
     let s : Store = store_of a.head a.start_table.now a.start_roots.now a.end_table.now a.end_roots.now a.time_table.now a.time_roots.now in
     let read = c.in_ok-came.ensures in
     let roomy : 2 * length c.read_behind.new.buffer + longest_answer ≤ length a.out.now = omega (arith, read.same_length, c.requires.longest_answer_in_bounds) in
-    turned s (length a.out.now) a.buffer.now a.waiting c.read_behind.new.buffer c.in_ok-came.came read.buffer_unchanged read.result_in_bounds c.run_front-fed.ensures.fact c.keep_rest.ensures refl roomy
+    turned s (length a.out.now) a.buffer.now a.waiting c.read_behind.new.buffer c.in_ok-came.came read.buffer_unchanged read.result_in_bounds c.run_front-fed.ensures.fed c.keep_rest.ensures refl roomy
 
 pub returns-clause-moves : goal.returns-clause-moves
 returns-clause-moves g c =
@@ -27,7 +27,7 @@ returns-clause-moves g c =
     let s : Store = store_of a.head a.start_table.now a.start_roots.now a.end_table.now a.end_roots.now a.time_table.now a.time_roots.now in
     let read = c.in_ok-came.ensures in
     let roomy : 2 * length c.read_behind.new.buffer + longest_answer ≤ length a.out.now = omega (arith, read.same_length, c.requires.longest_answer_in_bounds) in
-    turned_on s (length a.out.now) a.buffer.now a.waiting c.read_behind.new.buffer c.in_ok-came.came read.buffer_unchanged read.result_in_bounds c.run_front-fed.ensures.fact c.keep_rest.ensures refl roomy
+    turned_on s (length a.out.now) a.buffer.now a.waiting c.read_behind.new.buffer c.in_ok-came.came read.buffer_unchanged read.result_in_bounds c.run_front-fed.ensures.fed c.keep_rest.ensures refl roomy
     read.read_once.0 c.in_ok-write_front.ensures
 
 pub returns-clause-waiting_le_most_waiting_2 : goal.returns-clause-waiting_le_most_waiting_2
@@ -36,4 +36,4 @@ returns-clause-waiting_le_most_waiting_2 g c =
     let s : Store = store_of a.head a.start_table.now a.start_roots.now a.end_table.now a.end_roots.now a.time_table.now a.time_roots.now in
     let read = c.in_ok-came.ensures in
     let roomy : 2 * length c.read_behind.new.buffer + longest_answer ≤ length a.out.now = omega (arith, read.same_length, c.requires.longest_answer_in_bounds) in
-    waits_short s (length a.out.now) a.buffer.now a.waiting c.read_behind.new.buffer c.in_ok-came.came read.buffer_unchanged read.result_in_bounds c.run_front-fed.ensures.fact c.keep_rest.ensures refl roomy
+    waits_short s (length a.out.now) a.buffer.now a.waiting c.read_behind.new.buffer c.in_ok-came.came read.buffer_unchanged read.result_in_bounds c.run_front-fed.ensures.fed c.keep_rest.ensures refl roomy
