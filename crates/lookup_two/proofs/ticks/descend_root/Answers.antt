@@ -54,20 +54,3 @@ returns c =
       lower_value = c.add_page.ensures ∙ shared_below tree a.t a.keys.lower a.root.level a.root.held.lower c.in-Shared.row fork.0 fork.1 c.descend_from_page-below.ensures.lower_value;
       upper_value = c.add_page-2.ensures ∙ shared_below tree a.t a.keys.upper a.root.level a.root.held.upper c.in-Shared.row fork.0 fork.2 c.descend_from_page-below.ensures.upper_value;
     }
-
--- ?? goal overflow-sub-descend-together is not there any more
--- sub-descend-together : tie.Need-overflow-sub-descend-together
--- sub-descend-together c =
---     let a = c.before.before.before.before.before.before.args in
---     let row = c.before.fork.given.0.0 in
---     let fork = fork_shared a.root.level a.root.held.lower a.root.held.upper c.before.fork.given.1 c.before.before.before.fork-of.ensures in
---     omega (arith, fork.0)
-
--- ?? goal descend-together-requires is not there any more
--- descend-together-requires : tie.Need-descend-together-requires
--- descend-together-requires c κs =
---     let a = c.before.before.before.before.before.before.args in
---     let row = c.before.fork.given.0.0 in
---     let fork = fork_shared a.root.level a.root.held.lower a.root.held.upper c.before.fork.given.1 c.before.before.before.fork-of.ensures in
---     let pre = c.before.before.before.before.before.before.requires.1 in
---     (search rules, (omega (arith, pre.0), leads_wide row fork.1 pre.1.0))

@@ -15,5 +15,3 @@ returns c =
     let l = c.loop-number in
     let e : l.number ≡ c.args.started = omega arith in
     rw (← e) record { value = l.invariant.1.is; all = l.invariant.1.light }
-
--- ?? fields: value, all
