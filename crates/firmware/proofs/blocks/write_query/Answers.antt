@@ -10,8 +10,7 @@ open_count-requires c = c.requires.head_len
 
 pub returns : goal.returns
 returns c =
-    let start = c in
-    let a = start.args in
+    let a = c.args in
     let before = handed_of a.head.now a.start_table.now a.start_roots.now a.end_table.now a.end_roots.now a.time_table.now a.time_roots.now in
     let said = query_answers before c.put_command.new.block a.code c.head_of.ensures c.answer_query-answer.ensures c.answer_bytes-shown.ensures in
-    query_leaves before a.block.now command_at a.code refl start.requires.code_value start.requires.head_len c.put_command.ensures.block_after said c.open_count.ensures c.show_answer.ensures
+    query_leaves before a.block.now command_at a.code refl c.requires.code_value c.requires.head_len c.put_command.ensures.block_after said c.open_count.ensures c.show_answer.ensures

@@ -16,17 +16,14 @@ returns-then-head-gt-PASS_LIMIT c = simp (lt-leb _ _ c.if-head-gt-PASS_LIMIT.tru
 
 pub returns-then-use_fits-3 : goal.returns-then-use_fits-3
 returns-then-use_fits-3 c =
-    let time = c in
-    let ends = time in
-    let starts = ends in
     c.passes_fit.ensures
     ∙ sym
     (passes_decide _
-    (le-leb _ _ starts.if-head-gt-OPEN_LIMIT.false)
-    (le-leb _ _ starts.if-head-gt-PASS_LIMIT.false)
-    (sym starts.use_fits.ensures ∙ ends.if-use_fits.true)
-    (sym ends.use_fits-then-use_fits.ensures ∙ time.if-use_fits-2.true)
-    (sym time.use_fits-then-use_fits-2.ensures ∙ c.if-use_fits-3.true))
+    (le-leb _ _ c.if-head-gt-OPEN_LIMIT.false)
+    (le-leb _ _ c.if-head-gt-PASS_LIMIT.false)
+    (sym c.use_fits.ensures ∙ c.if-use_fits.true)
+    (sym c.use_fits-then-use_fits.ensures ∙ c.if-use_fits-2.true)
+    (sym c.use_fits-then-use_fits-2.ensures ∙ c.if-use_fits-3.true))
 
 pub returns-else-use_fits-3 : goal.returns-else-use_fits-3
 returns-else-use_fits-3 c = tree_unfit _ Time (sym c.use_fits-then-use_fits-2.ensures ∙ c.if-use_fits-3.false)

@@ -13,8 +13,6 @@ returns-then-is_query c =
 
 pub returns : goal.returns
 returns c =
-    let done = c in
-    let left = done in
-    let a = left.args in
+    let a = c.args in
     let s : Store = store_of a.head a.start_table.now a.start_roots.now a.end_table.now a.end_roots.now a.time_table.now a.time_roots.now in
-    of_kind s a.operands.now (kind_event a.code (sym left.is_query.ensures ∙ left.if-is_query.false)) done.run_event.ensures
+    of_kind s a.operands.now (kind_event a.code (sym c.is_query.ensures ∙ c.if-is_query.false)) c.run_event.ensures

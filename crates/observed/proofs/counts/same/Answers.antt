@@ -13,9 +13,4 @@ returns-then-left-right-3 c = λ e. absurd (true≢false (sym e))
 
 pub returns : goal.returns
 returns c = λ e.
-    let third = c in
-    let second = third in
-    let first = second in
-    let right = first in
-    let left = right in
-    same_answers _ _ left.answer_numbers-left.ensures right.answer_numbers-right.ensures first.if-left-right.false second.if-left-right-2.false third.if-left-right-3.false (eqb-true _ _ e)
+    same_answers _ _ c.answer_numbers-left.ensures c.answer_numbers-right.ensures c.if-left-right.false c.if-left-right-2.false c.if-left-right-3.false (eqb-true _ _ e)

@@ -15,20 +15,17 @@ loop-place-init c = let h = c.args.head in
     (search rules, omega (arith, few, full), ap (λ (n : ℕ). find_pass c.args.number 0 (take n h.passes)) few ∙ ap (find_pass c.args.number 0) (take_listed h.passes h.count full))
 
 pub returns-then-pass-number : goal.returns-then-pass-number
-returns-then-pass-number c = let n = c in
-    let a = n.args in
+returns-then-pass-number c = let a = c.args in
     let l = c.loop-place in
-    sym (find_here a.head.passes n.listed-count.result l.invariant.1 a.number l.place no_pass (omega arith) c.if-pass-number.true) ∙ l.invariant.2
+    sym (find_here a.head.passes c.listed-count.result l.invariant.1 a.number l.place no_pass (omega arith) c.if-pass-number.true) ∙ l.invariant.2
 
 pub loop-place-preserved : goal.loop-place-preserved
-loop-place-preserved c = let n = c in
-    let a = n.args in
+loop-place-preserved c = let a = c.args in
     let l = c.loop-place in
-    let on = find_next a.head.passes n.listed-count.result l.invariant.1 a.number l.place no_pass (omega arith) c.if-pass-number.false in
+    let on = find_next a.head.passes c.listed-count.result l.invariant.1 a.number l.place no_pass (omega arith) c.if-pass-number.false in
     (search rules, search rules, sym on ∙ l.invariant.2)
 
 pub returns : goal.returns
-returns c = let n = c in
-    let a = n.args in
+returns c = let a = c.args in
     let l = c.loop-place in
-    sym (find_none a.head.passes n.listed-count.result l.invariant.1 a.number l.place (omega arith)) ∙ l.invariant.2
+    sym (find_none a.head.passes c.listed-count.result l.invariant.1 a.number l.place (omega arith)) ∙ l.invariant.2

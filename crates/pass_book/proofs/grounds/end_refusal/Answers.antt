@@ -18,22 +18,12 @@ returns-then-tick-book c = search (rules, tests)
 pub returns-then-book-number : goal.returns-then-book-number
 unfolding book_refusal first_met
 returns-then-book-number c =
-    let second = c in
-    let first = second in
-    end_unknown _ _ _ _ first.if-tick-eq-OPEN.false second.if-tick-book.false c.if-book-number.true
+    end_unknown _ _ _ _ c.if-tick-eq-OPEN.false c.if-tick-book.false c.if-book-number.true
 
 pub returns-then-pass_at : goal.returns-then-pass_at
 returns-then-pass_at c =
-    let read = c in
-    let known = read in
-    let second = known in
-    let first = second in
-    end_ended _ _ _ _ first.if-tick-eq-OPEN.false second.if-tick-book.false _ known.if-book-number.false (ap (λ (p : ListedPass). p.end) read.pass_at.ensures) c.if-pass_at.true
+    end_ended _ _ _ _ c.if-tick-eq-OPEN.false c.if-tick-book.false _ c.if-book-number.false (ap (λ (p : ListedPass). p.end) c.pass_at.ensures) c.if-pass_at.true
 
 pub returns : goal.returns
 returns c =
-    let read = c in
-    let known = read in
-    let second = known in
-    let first = second in
-    end_accepted _ _ _ _ first.if-tick-eq-OPEN.false second.if-tick-book.false _ known.if-book-number.false (ap (λ (p : ListedPass). p.end) read.pass_at.ensures) c.if-pass_at.false
+    end_accepted _ _ _ _ c.if-tick-eq-OPEN.false c.if-tick-book.false _ c.if-book-number.false (ap (λ (p : ListedPass). p.end) c.pass_at.ensures) c.if-pass_at.false

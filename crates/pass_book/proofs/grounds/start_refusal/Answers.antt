@@ -27,29 +27,12 @@ returns-then-tick-book c = search (rules, tests)
 
 pub returns-then-open-ge-OPEN_LIMIT : goal.returns-then-open-ge-OPEN_LIMIT
 returns-then-open-ge-OPEN_LIMIT c =
-    let fifth = c in
-    let fourth = fifth in
-    let third = fourth in
-    let second = third in
-    let first = second in
-    start_all_open _ _ _ _ _ _ first.if-key-ge-KEY_LIMIT.false second.if-weight-eq0.false third.if-weight-gt-HEAVIEST.false fourth.if-tick-eq-OPEN.false fifth.if-tick-book.false c.open_count-open.ensures c.if-open-ge-OPEN_LIMIT.true
+    start_all_open _ _ _ _ _ _ c.if-key-ge-KEY_LIMIT.false c.if-weight-eq0.false c.if-weight-gt-HEAVIEST.false c.if-tick-eq-OPEN.false c.if-tick-book.false c.open_count-open.ensures c.if-open-ge-OPEN_LIMIT.true
 
 pub returns-then-book-ge-PASS_LIMIT : goal.returns-then-book-ge-PASS_LIMIT
 returns-then-book-ge-PASS_LIMIT c =
-    let sixth = c in
-    let fifth = sixth in
-    let fourth = fifth in
-    let third = fourth in
-    let second = third in
-    let first = second in
-    start_all_started _ _ _ _ _ _ first.if-key-ge-KEY_LIMIT.false second.if-weight-eq0.false third.if-weight-gt-HEAVIEST.false fourth.if-tick-eq-OPEN.false fifth.if-tick-book.false sixth.open_count-open.ensures sixth.if-open-ge-OPEN_LIMIT.false c.if-book-ge-PASS_LIMIT.true
+    start_all_started _ _ _ _ _ _ c.if-key-ge-KEY_LIMIT.false c.if-weight-eq0.false c.if-weight-gt-HEAVIEST.false c.if-tick-eq-OPEN.false c.if-tick-book.false c.open_count-open.ensures c.if-open-ge-OPEN_LIMIT.false c.if-book-ge-PASS_LIMIT.true
 
 pub returns : goal.returns
 returns c =
-    let sixth = c in
-    let fifth = sixth in
-    let fourth = fifth in
-    let third = fourth in
-    let second = third in
-    let first = second in
-    start_accepted _ _ _ _ _ _ first.if-key-ge-KEY_LIMIT.false second.if-weight-eq0.false third.if-weight-gt-HEAVIEST.false fourth.if-tick-eq-OPEN.false fifth.if-tick-book.false sixth.open_count-open.ensures sixth.if-open-ge-OPEN_LIMIT.false c.if-book-ge-PASS_LIMIT.false
+    start_accepted _ _ _ _ _ _ c.if-key-ge-KEY_LIMIT.false c.if-weight-eq0.false c.if-weight-gt-HEAVIEST.false c.if-tick-eq-OPEN.false c.if-tick-book.false c.open_count-open.ensures c.if-open-ge-OPEN_LIMIT.false c.if-book-ge-PASS_LIMIT.false

@@ -10,9 +10,8 @@ returns-then-refused-ne0 c =
 
 pub returns-then-lack-ne0 : goal.returns-then-lack-ne0
 returns-then-lack-ne0 c =
-    let free = c in
-    let a = free.args in
-    stays_as a.passes.now a.book _ _ (turn_lacks _ _ _ _ free.refusal-refused.ensures free.if-refused-ne0.false _ c.lacking-lack.ensures c.if-lack-ne0.true)
+    let a = c.args in
+    stays_as a.passes.now a.book _ _ (turn_lacks _ _ _ _ c.refusal-refused.ensures c.if-refused-ne0.false _ c.lacking-lack.ensures c.if-lack-ne0.true)
 
 pub does-requires : goal.does-requires
 does-requires c =
@@ -23,6 +22,4 @@ does-requires c =
 
 pub returns : goal.returns
 returns c =
-    let let_go = c in
-    let free = let_go in
-    rw (turn_does _ _ _ _ free.refusal-refused.ensures free.if-refused-ne0.false _ let_go.lacking-lack.ensures let_go.if-lack-ne0.false) c.does.ensures
+    rw (turn_does _ _ _ _ c.refusal-refused.ensures c.if-refused-ne0.false _ c.lacking-lack.ensures c.if-lack-ne0.false) c.does.ensures

@@ -30,14 +30,12 @@ returns-in-Open c = rw c.in-Open.is (record { answer = refl; book = refl })
 
 pub returns-in-Start : goal.returns-in-Start
 returns-in-Start c =
-    let done = c in
-    let a = done.args in
-    rw done.in-Start.is (record { answer = ap (λ (n : ℕ). says (n ∷ [])) (sym (passes_length a.passes.now a.book.started)); book = done.with_start.ensures })
+    let a = c.args in
+    rw c.in-Start.is (record { answer = ap (λ (n : ℕ). says (n ∷ [])) (sym (passes_length a.passes.now a.book.started)); book = c.with_start.ensures })
 
 pub returns-in-End : goal.returns-in-End
 returns-in-End c =
-    let done = c in
-    rw done.in-End.is (record { answer = refl; book = done.with_end.ensures })
+    rw c.in-End.is (record { answer = refl; book = c.with_end.ensures })
 
 pub returns-in-Ask : goal.returns-in-Ask
 returns-in-Ask c =

@@ -6,8 +6,7 @@ use Rattle.plan.proofs.planning.meet_words.Goals as goal
 
 pub row_at-row-requires : goal.row_at-row-requires
 row_at-row-requires c =
-    let s = c in
-    in_words s.args.t s.args.words.now c.in-At.is s.requires.in_words_2
+    in_words c.args.t c.args.words.now c.in-At.is c.requires.in_words_2
 
 pub returns-in-Missing : goal.returns-in-Missing
 returns-in-Missing c =

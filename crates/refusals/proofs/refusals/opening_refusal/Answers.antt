@@ -15,7 +15,5 @@ returns-then-too_small-3 c = λ head. one_small _ Time (sym c.too_small-3.ensure
 
 pub returns : goal.returns
 returns c = λ head.
-    let ends = c in
-    let starts = ends in
-    none_small _ (sym starts.too_small.ensures ∙ starts.if-too_small.false) (sym ends.too_small-2.ensures ∙ ends.if-too_small-2.false)
+    none_small _ (sym c.too_small.ensures ∙ c.if-too_small.false) (sym c.too_small-2.ensures ∙ c.if-too_small-2.false)
     (sym c.too_small-3.ensures ∙ c.if-too_small-3.false)

@@ -14,24 +14,21 @@ use Rattle.tree_lookups.proofs.lookups.lookup_time.Goals as goal
 
 pub returns-then-refusal-ne0 : goal.returns-then-refusal-ne0
 returns-then-refusal-ne0 c =
-    let h = c in
-    let a = h.args in
+    let a = c.args in
     let s : Store = store_of a.head a.start_table.now a.start_roots.now a.end_table.now a.end_roots.now a.time_table.now a.time_roots.now in
-    head_refuses s (lookup_in Time a.t a.k) refl h.lookup_input-input.ensures h.head_refusal-refusal.ensures c.if-refusal-ne0.true
+    head_refuses s (lookup_in Time a.t a.k) refl c.lookup_input-input.ensures c.head_refusal-refusal.ensures c.if-refusal-ne0.true
 
 pub overflow_cast-k : goal.overflow_cast-k
 overflow_cast-k c =
-    let h = c in
-    let a = h.args in
+    let a = c.args in
     let s : Store = store_of a.head a.start_table.now a.start_roots.now a.end_table.now a.end_roots.now a.time_table.now a.time_roots.now in
-    omega (arith, (lookup_bounds Time a.t a.k (omega (arith, h.ranges.t.fits)) (arguments_pass s (lookup_in Time a.t a.k) refl h.lookup_input-input.ensures h.head_refusal-refusal.ensures c.if-refusal-ne0.false)).key)
+    omega (arith, (lookup_bounds Time a.t a.k (omega (arith, c.ranges.t.fits)) (arguments_pass s (lookup_in Time a.t a.k) refl c.lookup_input-input.ensures c.head_refusal-refusal.ensures c.if-refusal-ne0.false)).key)
 
 pub lookup-requires : goal.lookup-requires
 lookup-requires c =
-    let h = c in
-    let a = h.args in
+    let a = c.args in
     let s : Store = store_of a.head a.start_table.now a.start_roots.now a.end_table.now a.end_roots.now a.time_table.now a.time_roots.now in
-    let fit = (head_passes s (lookup_in Time a.t a.k) refl h.lookup_input-input.ensures h.head_refusal-refusal.ensures c.if-refusal-ne0.false).trees Time in
+    let fit = (head_passes s (lookup_in Time a.t a.k) refl c.lookup_input-input.ensures c.head_refusal-refusal.ensures c.if-refusal-ne0.false).trees Time in
     record {
       page_words_in_bounds = use_words fit;
       roots_in_bounds = fit.roots_listed;
@@ -39,9 +36,8 @@ lookup-requires c =
 
 pub returns : goal.returns
 returns c =
-    let h = c in
-    let a = h.args in
+    let a = c.args in
     let s : Store = store_of a.head a.start_table.now a.start_roots.now a.end_table.now a.end_roots.now a.time_table.now a.time_roots.now in
     c.answer_of.ensures
     ∙ ap answer_of c.lookup.ensures
-    ∙ lookup_answered s Time a.t a.k h.lookup_input-input.ensures h.head_refusal-refusal.ensures c.if-refusal-ne0.false
+    ∙ lookup_answered s Time a.t a.k c.lookup_input-input.ensures c.head_refusal-refusal.ensures c.if-refusal-ne0.false

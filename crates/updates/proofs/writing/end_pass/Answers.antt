@@ -30,11 +30,9 @@ ended_head-requires c =
 
 pub returns : goal.returns
 returns c = λ start_table start_roots.
-    let time = c in
-    let ends = time in
-    let a = ends.args in
-    let entered = rw ends.one_pass-value.ensures at ends.enter-ends_after.ensures in
-    let timed = rw time.time_at_end-line.ensures at time.enter-time_after.ensures in
+    let a = c.args in
+    let entered = rw c.one_pass-value.ensures at c.enter-ends_after.ensures in
+    let timed = rw c.time_at_end-line.ensures at c.enter-time_after.ensures in
     record {
       answer = refl;
       head =

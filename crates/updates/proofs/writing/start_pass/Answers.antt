@@ -31,11 +31,9 @@ started_head-requires c =
 pub returns : goal.returns
 unfolding served
 returns c = λ end_table end_roots.
-    let time = c in
-    let starts = time in
-    let a = starts.args in
-    let entered = rw starts.one_pass-value.ensures at starts.enter-starts_after.ensures in
-    let timed = rw time.time_at_start-line.ensures at time.enter-time_after.ensures in
+    let a = c.args in
+    let entered = rw c.one_pass-value.ensures at c.enter-starts_after.ensures in
+    let timed = rw c.time_at_start-line.ensures at c.enter-time_after.ensures in
     record {
       answer = refl;
       head =
