@@ -17,6 +17,9 @@ const BUILT_IN: [&str; 2] = ["Type", "Unit"];
 /// Variables that a contract does not bind.
 const GIVEN: [&str; 2] = ["result", "self"];
 
+/// What code has of std without a `use`.
+const PRELUDE: [&str; 8] = ["Option", "Some", "None", "Result", "Ok", "Err", "From", "Default"];
+
 /// Stands for the `::` of the code while lines are cut into words.
 const INSIDE: char = '\u{1f}';
 
@@ -299,6 +302,10 @@ impl Reader {
         for word in there {
             let meanings = source.meanings(&word);
             let own = item.names.iter().any(|name| name.rsplit('.').next() == Some(&word));
+            if meanings.is_empty() && !own && file.ends_with(".rt") && PRELUDE.contains(&word.as_str()) {
+                self.libraries.entry("std::prelude".to_string()).or_default().insert(word);
+                continue;
+            }
             if meanings.is_empty() && !own && !may_be_variable(&word, &near) {
                 return Err(format!("{file}: nothing is known of {}", word.replace(INSIDE, "::")));
             }

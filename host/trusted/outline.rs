@@ -72,7 +72,9 @@ fn rattle_line(code: &str) -> Line {
         "use" => Line::Use,
         // What a module publishes as a whole is not known by name.
         "mod" if code == item => Line::Use,
-        "impl" => Line::Begins(Kind::Around, first_name(rest.split_once(" for ").map_or(rest, |(_, of)| of))),
+        // A fact that an `impl` gives of its trait
+        _ if code.starts_with("ghost ") && rest.starts_with("= ") => Line::Begins(Kind::Other, first_name(item)),
+        _ if word == "impl" || word.starts_with("impl<") => Line::Begins(Kind::Around, first_name(rest.split_once(" for ").map_or(rest, |(_, of)| of))),
         "enum" => Line::Begins(Kind::Enum, first_name(rest)),
         "fn" => Line::Begins(Kind::Function, first_name(rest)),
         "struct" | "const" => Line::Begins(Kind::Other, first_name(rest)),

@@ -6,10 +6,13 @@ use mathlib.Core.Bool.{Bool, true, false, cond, ◌||◌}
 use mathlib.Core.List.{List, [], ◌∷◌, ◌++◌}
 use lib.Dec.{eqb}
 use borrow.Author.Tests.{ne_eqb}
+use Rattle.std.specs.Prelude.{Result}
 use Rattle.words.specs.declared.value.Value.{Value}
 use Rattle.words.specs.Value.{zero, plus, minus, add_words, subtract_words, line_at}
 use Rattle.tree.specs.declared.types.Lookup.{Lookup}
-use Rattle.tree.specs.declared.types.Lookup.TheVariants.{Spoiled, Found}
+use Rattle.tree.specs.declared.types.SpoiledPage.{SpoiledPage}
+use Rattle.tree.specs.Spoiled.{spoiled}
+use Rattle.tree.specs.Lookup.{found}
 use Rattle.store.specs.declared.types.TreeName.{TreeName}
 use Rattle.store.specs.Trees.{Store, tree_in}
 use Rattle.store.specs.Refusals.{first_met}
@@ -31,19 +34,19 @@ module _ (s : Store) (later earlier : TreeName) (k1 k2 t1 t2 : ℕ) (ask : Asked
   early = eqb t1 0
 
   -- What the four lookups find, those before t1 nothing where none is made
-  abbrev before_t1 : Bool → ℕ → Lookup
+  abbrev before_t1 : Bool → ℕ → Result Lookup SpoiledPage
   before_t1 none k = cond none nothing (found_in s (points_before earlier t1 k))
 
-  abbrev a : Lookup
+  abbrev a : Result Lookup SpoiledPage
   a = found_in s (points_before later t2 k2)
 
-  abbrev b : Lookup
+  abbrev b : Result Lookup SpoiledPage
   b = before_t1 early k2
 
-  abbrev c : Lookup
+  abbrev c : Result Lookup SpoiledPage
   c = found_in s (points_before later t2 k1)
 
-  abbrev d : Lookup
+  abbrev d : Result Lookup SpoiledPage
   d = before_t1 early k1
 
   some_tick : eqb t2 0 ≡ false
@@ -108,10 +111,10 @@ module _ (s : Store) (later earlier : TreeName) (k1 k2 t1 t2 : ℕ) (ask : Asked
   earlier_is : band_before (tree_in s earlier) t1 k1 k2 ≡ earlier_band first a b c d
   earlier_is = band_of_two early first (found_in s (points_before earlier t1 k2)) (found_in s (points_before earlier t1 k1))
 
-  abbrev later_band_lem : Lookup
+  abbrev later_band_lem : Result Lookup SpoiledPage
   later_band_lem = in_band (tree_in s later) (t2 - 1) k1 k2
 
-  abbrev earlier_band_lem : Lookup
+  abbrev earlier_band_lem : Result Lookup SpoiledPage
   earlier_band_lem = band_before (tree_in s earlier) t1 k1 k2
 
   abbrev refusal : ℕ
@@ -119,9 +122,9 @@ module _ (s : Store) (later earlier : TreeName) (k1 k2 t1 t2 : ℕ) (ask : Asked
 
   -- The two bands beside the refusal of the lookups: a spoiled page was met, or both were found, with their pages, and their values and lines, the one less the other
   pub data Bands : Type 0 where
-    later_spoiled : 26 ≡ refusal → later_band_lem ≡ Spoiled → Bands
-    earlier_spoiled : (v : Value) (m : ℕ) → 26 ≡ refusal → later_band_lem ≡ Found v m → earlier_band_lem ≡ Spoiled → Bands
-    both_found : (v w : Value) (m n : ℕ) → 0 ≡ refusal → later_band_lem ≡ Found v m → earlier_band_lem ≡ Found w n → m + n ≡ pages_in s lookups
+    later_spoiled : 26 ≡ refusal → later_band_lem ≡ spoiled → Bands
+    earlier_spoiled : (v : Value) (m : ℕ) → 26 ≡ refusal → later_band_lem ≡ found v m → earlier_band_lem ≡ spoiled → Bands
+    both_found : (v w : Value) (m n : ℕ) → 0 ≡ refusal → later_band_lem ≡ found v m → earlier_band_lem ≡ found w n → m + n ≡ pages_in s lookups
         → minus v w
         ≡ plus (minus (minus (value_before s later t2 k2) (value_before s earlier t1 k2)) (value_before s later t2 k1)) (value_before s earlier t1 k1)
         → ((t u : ℕ)
@@ -139,8 +142,8 @@ module _ (s : Store) (later earlier : TreeName) (k1 k2 t1 t2 : ℕ) (ask : Asked
 
       go : laws.BandCase first a b c d → Bands
       go (laws.later_spoiled met later_is) = later_spoiled (refused met) later_is
-      go (laws.earlier_spoiled v m met later_is spoiled) = earlier_spoiled v m (refused met) later_is (earlier_is ∙ spoiled)
-      go (laws.both_found m n met later_is found pages) =
-          both_found (later_value first a b c d) (earlier_value first a b c d) m n (refused met) later_is (earlier_is ∙ found) (pages ∙ sym pages_are)
+      go (laws.earlier_spoiled v m met later_is other) = earlier_spoiled v m (refused met) later_is (earlier_is ∙ other)
+      go (laws.both_found m n met later_is other pages) =
+          both_found (later_value first a b c d) (earlier_value first a b c d) m n (refused met) later_is (earlier_is ∙ other) (pages ∙ sym pages_are)
           (rw (value_later, value_earlier, below_later_lem, below_earlier_lem) (band_values first a b c d))
           (λ t u. rw (value_later, value_earlier, below_later_lem, below_earlier_lem) (band_lines first a b c d t u))

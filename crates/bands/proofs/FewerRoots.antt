@@ -2,14 +2,13 @@
 use Prim.Native.Nat.{ℕ, zero, suc, ◌-◌, ◌≤◌, ◌<◌}
 use native.Mathlib.Omega.{arith}
 use mathlib.Core.Path.{◌≡◌, refl, ap, ap₂, ◌∙◌}
-use mathlib.Core.Bool.{Bool, true, false, cond}
+use mathlib.Core.Bool.{cond}
 use lib.ListN.{take}
 use lib.Dec.{eqb}
-use Rattle.tree.specs.declared.types.Row.{Row}
-use Rattle.tree.specs.declared.types.Root.{Root}
-use Rattle.tree.specs.declared.types.Root.TheVariants.{At, Missing}
+use Rattle.std.specs.Prelude.{Option, Some, None, Result}
 use Rattle.tree.specs.declared.types.Lookup.{Lookup}
-use Rattle.tree.specs.declared.types.Lookup.TheVariants.{Spoiled}
+use Rattle.tree.specs.declared.types.SpoiledPage.{SpoiledPage}
+use Rattle.tree.specs.Spoiled.{spoiled}
 use Rattle.tree.specs.Use.{in_use}
 use Rattle.tree.specs.Tree.{Tree, root_for, root_at, root_in_use}
 use Rattle.tree.specs.Lookup.{lookup_page, lookup_from, lookup_root, lookup}
@@ -26,10 +25,10 @@ module _ (tree : Tree) (n : ℕ) where
   from_same t k zero low high page = refl
   from_same t k (suc l) low high page = ap (lookup_page tree t k (suc l) low high page) (λ i row. from_same t k l row.low row.high row.child i)
 
-  root_same : (t k : ℕ) (root : Root) → lookup_root (with_roots tree n) t k root ≡ lookup_root tree t k root
+  root_same : (t k : ℕ) (root : Option ℕ) → lookup_root (with_roots tree n) t k root ≡ lookup_root tree t k root
   unfolding in_use
-  root_same t k Missing = refl
-  root_same t k (At page) = ap (λ (found : Lookup). cond (root_in_use tree page) found Spoiled) (from_same t k _ 0 _ page)
+  root_same t k None = refl
+  root_same t k (Some page) = ap (λ (x : Result Lookup SpoiledPage). cond (root_in_use tree page) x spoiled) (from_same t k _ 0 _ page)
 
   module _ (t : ℕ) (same : root_for t (take n tree.roots) ≡ root_at tree t) where
     lookup_same : (k : ℕ) → lookup (with_roots tree n) t k ≡ lookup tree t k
@@ -38,7 +37,7 @@ module _ (tree : Tree) (n : ℕ) where
 
     pub band_same : (k1 k2 : ℕ) → in_band (with_roots tree n) t k1 k2 ≡ in_band tree t k1 k2
     band_same k1 k2 =
-        ap₂ (λ (high low : Lookup). cond (eqb k1 0) high (without high low)) (lookup_same (k2 - 1)) (lookup_same (k1 - 1))
+        ap₂ (λ (high low : Result Lookup SpoiledPage). cond (eqb k1 0) high (without high low)) (lookup_same (k2 - 1)) (lookup_same (k1 - 1))
 
   pub before_same : (t : ℕ) → root_for (t - 1) (take n tree.roots) ≡ root_at tree (t - 1) → (k1 k2 : ℕ)
       → band_before (with_roots tree n) t k1 k2 ≡ band_before tree t k1 k2

@@ -3,6 +3,8 @@
 
 mod band;
 mod interval;
+mod keys;
 
 pub use band::{lookup_band, lookup_band_before, without};
 pub use interval::{TwoBands, lookup_bands};
+pub use keys::Band;

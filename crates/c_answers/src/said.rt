@@ -11,15 +11,7 @@ pub fn refusal_of(answer: Answer) -> u8
 {
     match answer {
         Answer::Refused(number) => number,
-        Answer::Opened => 0,
-        Answer::Started(_) => 0,
-        Answer::Ended => 0,
-        Answer::Totals {
-            count: _,
-            sum: _,
-            pages: _,
-        } => 0,
-        Answer::BatTime { total: _, pages: _ } => 0,
+        _ => 0,
     }
 }
 
@@ -28,15 +20,7 @@ pub fn number_of(answer: Answer, old: u32) -> u32
     ensures { result ≡ number_said old (values_of answer) }
 {
     match answer {
-        Answer::Refused(_) => old,
-        Answer::Opened => old,
         Answer::Started(number) => number,
-        Answer::Ended => old,
-        Answer::Totals {
-            count: _,
-            sum: _,
-            pages: _,
-        } => old,
-        Answer::BatTime { total: _, pages: _ } => old,
+        _ => old,
     }
 }

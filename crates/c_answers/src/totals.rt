@@ -2,6 +2,7 @@
 ghost use Rattle.std.specs.Prelude.{ℕ, List, [], ◌∷◌};
 ghost use Rattle.c_answers.specs.Said.{Tells};
 
+use crate::said::refusal_of;
 use store::Answer;
 
 // Writes an answer's count, sum and pages, and returns its refusal, 0 for none.
@@ -10,23 +11,17 @@ pub fn tell(answer: Answer, count: &mut u64, sum: &mut u64, pages: &mut u32) -> 
         let after : List ℕ = count.new ∷ (sum.new ∷ (pages.new ∷ [])) in
         Tells answer result before after }
 {
-    match answer {
-        Answer::Refused(number) => number,
-        Answer::Opened => 0,
-        Answer::Started(_) => 0,
-        Answer::Ended => 0,
-        Answer::Totals {
-            count: said_count,
-            sum: said_sum,
-            pages: said_pages,
-        } => {
-            *count = said_count;
-            *sum = said_sum;
-            *pages = said_pages;
-            0
-        }
-        Answer::BatTime { total: _, pages: _ } => 0,
+    if let Answer::Totals {
+        count: said_count,
+        sum: said_sum,
+        pages: said_pages,
+    } = answer
+    {
+        *count = said_count;
+        *sum = said_sum;
+        *pages = said_pages;
     }
+    refusal_of(answer)
 }
 
 // Writes the total and the pages of an answer about bat-time, and returns its refusal, 0 for none.
@@ -35,23 +30,13 @@ pub fn tell_time(answer: Answer, total: &mut u64, pages: &mut u32) -> u8
         let after : List ℕ = total.new ∷ (pages.new ∷ []) in
         Tells answer result before after }
 {
-    match answer {
-        Answer::Refused(number) => number,
-        Answer::Opened => 0,
-        Answer::Started(_) => 0,
-        Answer::Ended => 0,
-        Answer::Totals {
-            count: _,
-            sum: _,
-            pages: _,
-        } => 0,
-        Answer::BatTime {
-            total: said_total,
-            pages: said_pages,
-        } => {
-            *total = said_total;
-            *pages = said_pages;
-            0
-        }
+    if let Answer::BatTime {
+        total: said_total,
+        pages: said_pages,
+    } = answer
+    {
+        *total = said_total;
+        *pages = said_pages;
     }
+    refusal_of(answer)
 }

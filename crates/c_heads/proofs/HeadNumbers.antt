@@ -65,18 +65,18 @@ four_set l at a b c d h =
     ∙ ap₂ (λ (i j : ℕ). set (set (set (set l at a) (suc at) b) i c) j d) two three
     ∙ overwrite_sets l at (a ∷ (b ∷ (c ∷ (d ∷ [])))) h
 
-module _ (out : List ℕ) (passes : List OpenPass) (long : length passes ≡ open_limit) (room : length out ≡ head_numbers) where
+pub write_none : (out : List ℕ) (passes : List OpenPass) → out ≡ overwrite out field_numbers (numbers_of_passes (take 0 passes))
+unfolding numbers_of_passes
+write_none out passes = sym (overwrite_none out field_numbers)
+
+module _ (out : List ℕ) (passes : List OpenPass) (few : length passes ≤ open_limit) (room : length out ≡ head_numbers) where
   abbrev up_to : ℕ → List ℕ
   up_to place = numbers_of_passes (take place passes)
 
-  up_to_length : (place : ℕ) → place ≤ open_limit → length (up_to place) ≡ numbers_of_pass * place
+  up_to_length : (place : ℕ) → place ≤ length passes → length (up_to place) ≡ numbers_of_pass * place
   up_to_length place h = omega (arith, numbers_length (take place passes), length-take-le place passes (omega arith))
 
-  pub write_none : out ≡ overwrite out field_numbers (numbers_of_passes (take 0 passes))
-  unfolding numbers_of_passes
-  write_none = sym (overwrite_none out field_numbers)
-
-  pub write_more : (d : OpenPass) (place : ℕ) → place < open_limit
+  pub write_more : (d : OpenPass) (place : ℕ) → place < length passes
       → overwrite (overwrite out field_numbers (up_to place)) (field_numbers + numbers_of_pass * place) (numbers_of_one (get_or passes place d))
       ≡ overwrite out field_numbers (up_to (place + 1))
   unfolding numbers_of_passes

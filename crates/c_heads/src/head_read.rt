@@ -1,6 +1,6 @@
 // A head made of lent numbers.
 ghost use Rattle.std.specs.Prelude.{◌≡◌, ◌+◌, ◌≤◌, length};
-ghost use Rattle.c_heads.specs.Heads.{numbers_of_pass, head_numbers, use_at, pass_at, head_of};
+ghost use Rattle.c_heads.specs.Heads.{numbers_of_pass, use_at, pass_at, head_of};
 
 use store::{Head, OpenPass};
 use tree::TreeUse;
@@ -30,36 +30,26 @@ fn read_pass(numbers: &[u32], at: usize) -> OpenPass
 }
 
 // The head that the numbers make. The passes are stored into it one by one: made first and then handed on, all 64 would be copied.
-pub fn head_of(numbers: &[u32]) -> Head
-    requires { length numbers.now ≡ head_numbers }
+pub fn head_of(numbers: &[u32; Head::NUMBERS]) -> Head
     ensures { result ≡ head_of numbers.now }
 {
-    let none = OpenPass {
-        number: 0,
-        key: 0,
-        weight: 0,
-        start: 0,
-    };
     let mut head = Head {
         last: numbers[0],
         started: numbers[1],
         count: numbers[2],
-        passes: [none; Head::PLACES],
+        passes: [OpenPass::default(); Head::PLACES],
         starts: read_use(numbers, 3),
         ends: read_use(numbers, 5),
         time: read_use(numbers, 7),
     };
-    let mut place: usize = 0;
-    while place < Head::PLACES {
-        head.passes[place] = read_pass(numbers, Head::FIELDS + OpenPass::NUMBERS * place);
-        place += 1;
+    for (place, pass) in head.passes.iter_mut().enumerate() {
+        *pass = read_pass(numbers, Head::FIELDS + OpenPass::NUMBERS * place);
     }
     head
 }
 
 // How many passes are open, for a caller that needs no more of the head.
-pub fn open_count(numbers: &[u32]) -> u32
-    requires { length numbers.now ≡ head_numbers }
+pub fn open_count(numbers: &[u32; Head::NUMBERS]) -> u32
     ensures { result ≡ (head_of numbers.now).count }
 {
     numbers[2]

@@ -1,12 +1,11 @@
 -- The number that a few bytes spell, and the bytes of a number written one after the other.
-use Prim.Native.Nat.{ℕ, zero, suc, ◌+◌, ◌*◌, ◌/◌, ◌%◌, ◌≤◌, ◌<◌}
+use Prim.Native.Nat.{ℕ, zero, suc, ◌+◌, ◌*◌, ◌-◌, ◌/◌, ◌%◌, ◌≤◌, ◌<◌}
 use native.Mathlib.Omega.{arith}
 use mathlib.Core.Path.{◌≡◌, refl, ap, sym, ◌∙◌}
-use mathlib.Core.List.{List, [], ◌∷◌}
+use mathlib.Core.List.{List, [], ◌∷◌, ◌++◌, append_assoc, append-nil}
+use native.Mathlib.Numerals.{add-one}
 use lib.ListN.{length, get_or, set, take, drop}
-use lib.Seq.{take-suc, drop-cons, take_all, length-take-le}
-use Rattle.words.specs.Overwrite.{overwrite}
-use Rattle.words.proofs.OverwriteLaws.{overwrite_none, overwrite_one, overwrite_more, overwrite_length}
+use lib.Seq.{take-suc-set, drop-cons, take_all}
 use Rattle.codec.specs.Bytes.{number_of, bytes_of, operand}
 
 -- The first bytes from a place on
@@ -44,27 +43,17 @@ unfolding bytes_of
 bytes_length zero x = refl
 bytes_length (suc n) x = ap suc (bytes_length n (x / 256))
 
--- The bytes that are left, after the first ones: those of what is left of the number
-pub left_head : (bytes : List ℕ) (m rest i : ℕ) → drop i bytes ≡ bytes_of (suc m) rest → i < length bytes
-    → (get_or bytes i 0 ≡ rest % 256) × (drop (i + 1) bytes ≡ bytes_of m (rest / 256))
+-- One more byte of a number written: the bytes so far, and those of what is left of the number, stay the same
+pub byte_written : (bytes : List ℕ) (i n rest : ℕ) → i < length bytes → i < n
+    → take (i + 1) (set bytes i (rest % 256)) ++ bytes_of (n - (i + 1)) (rest / 256) ≡ take i bytes ++ bytes_of (n - i) rest
 unfolding bytes_of
-left_head bytes m rest i e h =
-    let both : get_or bytes i 0 ∷ drop (suc i) bytes ≡ rest % 256 ∷ bytes_of m (rest / 256) = sym (drop-cons bytes i 0 h) ∙ e in
-    let next : i + 1 ≡ suc i = omega arith in
-    (ap (λ (l : List ℕ). get_or l 0 0) both, ap (λ (j : ℕ). drop j bytes) next ∙ ap (drop 1) both)
+byte_written bytes i n rest h m =
+    let more : n - i ≡ suc (n - suc i) = omega arith in
+    rw (add-one, take-suc-set bytes i (rest % 256) h, more) (append_assoc (take i bytes) (rest % 256 ∷ []) (bytes_of (n - suc i) (rest / 256)))
 
-pub put_more : (out bytes : List ℕ) (from at : ℕ) → from + length bytes ≤ length out → at < length bytes
-    → set (overwrite out from (take at bytes)) (from + at) (get_or bytes at 0) ≡ overwrite out from (take (at + 1) bytes)
-put_more out bytes from at room h =
-    let long : length (take at bytes) ≡ at = length-take-le at bytes (omega arith) in
-    let fits : from + length (take at bytes) ≤ length out = omega arith in
-    let next : at + 1 ≡ suc at = omega arith in
-    overwrite_one (overwrite out from (take at bytes)) (from + at) (get_or bytes at 0) (omega (arith, overwrite_length out from (take at bytes) fits))
-    ∙ overwrite_more out from (take at bytes) fits (from + at) (get_or bytes at 0 ∷ []) (omega arith)
-    ∙ ap (overwrite out from) (sym (ap (λ (j : ℕ). take j bytes) next ∙ take-suc bytes at 0 h))
-
-pub put_none : (out : List ℕ) (from : ℕ) (bytes : List ℕ) → out ≡ overwrite out from (take 0 bytes)
-put_none out from bytes = sym (overwrite_none out from)
-
-pub put_all : (out : List ℕ) (from at : ℕ) (bytes : List ℕ) → length bytes ≤ at → overwrite out from (take at bytes) ≡ overwrite out from bytes
-put_all out from at bytes h = ap (overwrite out from) (take_all at bytes h)
+-- All of them written
+pub all_written : (bytes : List ℕ) (i n rest : ℕ) → length bytes ≡ n → n ≤ i → take i bytes ++ bytes_of (n - i) rest ≡ bytes
+unfolding bytes_of
+all_written bytes i n rest l h =
+    let none : n - i ≡ 0 = omega arith in
+    rw (take_all i bytes (omega arith), none) (append-nil bytes)

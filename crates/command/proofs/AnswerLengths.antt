@@ -53,7 +53,7 @@ bat_time_length total pages =
       bytes_length 8 total,
     )
 
-written_fits : (a : Answer) → length (written a) ≤ longest_answer
+pub written_fits : (a : Answer) → length (written a) ≤ longest_answer
 written_fits (Refused n) = omega (arith, code_length n)
 written_fits Opened = omega (arith, code_length 0)
 written_fits (Started n) = omega (arith, started_length n)

@@ -1,7 +1,7 @@
 -- Which command a byte stands for, by the tests that the code makes of it, and what the command answers, by how many bytes follow.
 use Prim.Native.Nat.{ℕ, ◌≤◌, ◌<◌}
 use native.Mathlib.Omega.{arith}
-use mathlib.Core.Path.{◌≡◌, ap, ◌∙◌}
+use mathlib.Core.Path.{◌≡◌, ap}
 use mathlib.Core.Bool.{Bool, true, false, cond, ◌||◌}
 use mathlib.Core.List.{List}
 use lib.ListN.{length}
@@ -17,28 +17,13 @@ abbrev events : Bool → Bool → Kind
 events x y = cond x (command 8 start_command) (cond y (command 8 end_command) unknown)
 
 module _ (code : ℕ) where
-  pub event_start : code ≡ 1 → event_kind code ≡ command 8 start_command
-  event_start e = ap (λ (x : Bool). events x (eqb code 2)) (eq-eqb code 1 e)
-
-  not_start : (code ≡ 1 → ⊥) → event_kind code ≡ cond (eqb code 2) (command 8 end_command) unknown
-  not_start n = ap (λ (x : Bool). events x (eqb code 2)) (ne_eqb code 1 n)
-
-  pub event_end : (code ≡ 1 → ⊥) → code ≡ 2 → event_kind code ≡ command 8 end_command
-  event_end n e = not_start n ∙ ap (λ (y : Bool). cond y (command 8 end_command) unknown) (eq-eqb code 2 e)
-
-  pub event_unknown : (code ≡ 1 → ⊥) → (code ≡ 2 → ⊥) → event_kind code ≡ unknown
-  event_unknown n m = not_start n ∙ ap (λ (y : Bool). cond y (command 8 end_command) unknown) (ne_eqb code 2 m)
-
   pub kind_query : is_query code ≡ true → kind_of code ≡ query_kind code
   kind_query e = ap (λ (x : Bool). cond x (query_kind code) (event_kind code)) e
 
   pub kind_event : is_query code ≡ false → kind_of code ≡ event_kind code
   kind_event e = ap (λ (x : Bool). cond x (query_kind code) (event_kind code)) e
 
-  -- Whether a byte is that of a query, test by test
-  pub is_question : code ≡ 3 → is_query code ≡ true
-  is_question e = ap (λ (x : Bool). x || eqb code 4) (eq-eqb code 3 e)
-
+  -- A byte that is not a question's
   pub no_question : (code ≡ 3 → ⊥) → is_query code ≡ eqb code 4
   no_question n = ap (λ (x : Bool). x || eqb code 4) (ne_eqb code 3 n)
 

@@ -3,7 +3,8 @@ use mathlib.Core.Path.{◌≡◌, ap, sym, subst, ◌∙◌}
 use mathlib.Core.Bool.{Bool, true, false}
 use mathlib.Core.List.{List, []}
 use Prim.Native.Nat.{ℕ}
-use Rattle.store.specs.Trees.{Lent, Store, store_of}
+use Rattle.store.specs.Trees.{LentTree, Lent, Store}
+use Rattle.store.specs.Lending.{store_with}
 use Rattle.store.specs.declared.types.Head.{Head}
 use Rattle.store.specs.Head.{opened_head}
 use Rattle.store.specs.Calls.{opening}
@@ -19,12 +20,10 @@ use Rattle.std.specs.declared.option.Option.{Option}
 use Rattle.std.specs.Io.KnownBytes.{Appends}
 
 -- The program's tables before the first byte
-pub program_opened : {head : Head} {start_table start_roots end_table end_roots time_table time_roots : List ℕ} → head ≡ opened_head
-    → start_table ≡ program_tree.table → start_roots ≡ program_tree.roots → end_table ≡ program_tree.table
-    → end_roots ≡ program_tree.roots → time_table ≡ program_tree.table → time_roots ≡ program_tree.roots
-    → store_of head start_table start_roots end_table end_roots time_table time_roots ≡ record { head = opened_head; lent = program_lent }
+pub program_opened : {head : Head} {starts ends time : LentTree} → head ≡ opened_head → starts ≡ program_tree → ends ≡ program_tree → time ≡ program_tree
+    → store_with head starts ends time ≡ record { head = opened_head; lent = program_lent }
 unfolding program_lent
-program_opened h a b c d e f = λ i. store_of (h i) (a i) (b i) (c i) (d i) (e i) (f i)
+program_opened h a b c = λ i. store_with (h i) (a i) (b i) (c i)
 
 -- What holds of a run on the opened store holds of the program's
 pub from_opened : {s : Store} → s ≡ record { head = opened_head; lent = program_lent } → {reply : Reply} {lent : Lent} → RepliedAs (perform s opening) reply lent

@@ -7,7 +7,10 @@ use mathlib.Core.List.{List, []}
 use lib.Dec.{eqb}
 use lib.ListN.{length}
 use borrow.Author.Tests.{leb-true, ne_eqb}
+use Rattle.std.specs.Prelude.{Option, Some, None, Ok, Err}
 use Rattle.words.specs.Words.{root_birth, key_limit}
+use Rattle.tree.specs.declared.types.SpoiledPage.{SpoiledPage}
+use Rattle.tree.specs.Spoiled.{spoiled}
 use Rattle.tree.specs.declared.types.Row.{Row}
 use Rattle.tree.specs.Row.{rows_of, page_words}
 use Rattle.tree.specs.KeyOrder.{Placed}
@@ -15,11 +18,8 @@ use Rattle.tree.specs.TrueValue.{Search, none, one}
 use Rattle.tree.specs.Fresh.{fresh_page, two_rows}
 use Rattle.page.specs.PageValue.{no_rows, two_row_root, encode_page}
 use Rattle.tree.specs.declared.types.TreeUse.{TreeUse}
-use Rattle.tree.specs.declared.types.Root.{Root}
-use Rattle.tree.specs.declared.types.Root.TheVariants.{At, Missing}
 use Rattle.tree.specs.declared.types.RootChange.{RootChange}
 use Rattle.tree.specs.declared.types.RootChange.TheVariants.{Kept, Added}
-use Rattle.tree.specs.declared.types.Plan.TheVariants.{Spoiled, Ready}
 use Rattle.tree.specs.Tree.{Tree, page_at, put_page, level_of, root_at, root_in_use, top_level, last_root, met_at}
 use Rattle.tree.specs.RowSteps.{Point, row_around}
 use Rattle.tree.specs.declared.types.Child.{Child}
@@ -29,14 +29,15 @@ use Rattle.tree.specs.Use.{in_use, taken_page, use_after}
 use Rattle.tree.specs.Taking.{InUse, rootless}
 use Rattle.tree.specs.Overflow.{Written, finish_page}
 use Rattle.tree.specs.Enter.{Entered, enter_above, enter_below, enter_from, with_root, entered_as, enter_root}
-use Rattle.tree.specs.Plan.{sound_below, descent_sound, top_must_split, plan_root, plan, entered_root, enter}
+use Rattle.tree.specs.Plan.{ready, sound_below, descent_sound, top_must_split, plan_root, plan, entered_root, enter}
 use Rattle.tree.specs.Limits.{most_made}
 use Rattle.split.specs.declared.done.Done.{Done}
 use Rattle.enter.specs.EnterWords.{CanEnter, DoneAs}
+use Rattle.tree.proofs.Answered.{not_spoiled, same_answer, same_ready}
 use Rattle.tree.proofs.MostMade.{made_at_most}
 use Rattle.tree.proofs.UseLaws.{has_used, fewer, taken_inside}
-use Rattle.roots.specs.declared.top.Top.TheVariants as top
-use Rattle.roots.specs.TopPage.{top_of}
+use Rattle.roots.specs.declared.top.Top.{Top}
+use Rattle.roots.specs.TopPage.{top_at, top_of}
 use Rattle.roots.proofs.TopLaws.{top_opens}
 use Rattle.enter.proofs.EnterFacts.{enter_facts}
 use Rattle.enter.specs.EnterRoot.{root_tree, CanPut, RootPut, Planned, EnteredAs}
@@ -82,24 +83,25 @@ descent_roots table a b used p (suc l) low high page =
     go none ih = refl
     go (one x) ih = ih x.row
 
--- What a plan that is Ready says
+-- What a plan that is ready says
 pub record RootPlan (tree : Tree) (p : Point) (made : ℕ) (change : RootChange) (page : ℕ) : Type 0 where
-  pub root_is : root_at tree p.tick ≡ At page
+  pub root_is : root_at tree p.tick ≡ Some page
   pub is_in_use : InUse tree.used page
   pub low_level : level_of tree.table page ≤ top_level
   pub sound : descent_sound tree p (level_of tree.table page) 0 key_limit page ≡ true
   pub made_is : (enter_root tree p page).made ≡ made
   pub change_is : (enter_root tree p page).root ≡ change
 
-pub plan_facts : (tree : Tree) (p : Point) {made : ℕ} {change : RootChange} → plan tree p ≡ Ready made change → (page : ℕ) × RootPlan tree p made change page
+pub plan_facts : (tree : Tree) (p : Point) {made : ℕ} {change : RootChange} → plan tree p ≡ ready made change → (page : ℕ) × RootPlan tree p made change page
 unfolding plan
 plan_facts tree p {made} {change} e = go (root_at tree p.tick) refl e
   where
-    ready : (page : ℕ) → root_at tree p.tick ≡ At page → (b : Bool) →
+    at : (page : ℕ) → root_at tree p.tick ≡ Some page → (b : Bool) →
         (root_in_use tree page && (descent_sound tree p (level_of tree.table page) 0 key_limit page && not (top_must_split tree p page))) ≡ b →
-        cond b (Ready (enter_root tree p page).made (enter_root tree p page).root) Spoiled ≡ Ready made change → (page : ℕ) × RootPlan tree p made change page
-    ready page r false b f = let z : ◌≡◌ {A = ℕ} 0 1 = cc in absurd (omega arith)
-    ready page r true b f =
+        cond b (ready (enter_root tree p page).made (enter_root tree p page).root) spoiled ≡ ready made change → (page : ℕ) × RootPlan tree p made change page
+    at page r false b f = not_spoiled f
+    at page r true b f =
+        let parts = same_ready f in
         let x = (and-eq-true_iff (root_in_use tree page) _).0 b in
         let y = (and-eq-true_iff (in_use tree.used page) _).0 x.0 in
         let z = (and-eq-true_iff (descent_sound tree p (level_of tree.table page) 0 key_limit page) _).0 x.1 in (
@@ -109,14 +111,14 @@ plan_facts tree p {made} {change} e = go (root_at tree p.tick) refl e
             is_in_use = y.0;
             low_level = leb-true _ _ y.1;
             sound = z.0;
-            made_is = cc;
-            change_is = cc;
+            made_is = parts.0;
+            change_is = parts.1;
           },
         )
 
-    go : (r : Root) → root_at tree p.tick ≡ r → plan_root tree p r ≡ Ready made change → (page : ℕ) × RootPlan tree p made change page
-    go Missing r f = let z : ◌≡◌ {A = ℕ} 0 1 = cc in absurd (omega arith)
-    go (At page) r f = ready page r _ refl f
+    go : (r : Option ℕ) → root_at tree p.tick ≡ r → plan_root tree p r ≡ ready made change → (page : ℕ) × RootPlan tree p made change page
+    go None r f = not_spoiled f
+    go (Some page) r f = at page r _ refl f
 
 -- A root entry that is put in changes the root list and the use alike, whatever the table
 module _ (tree : Tree) (t page made : ℕ) (table : List ℕ) where
@@ -195,22 +197,6 @@ module _ (tree : Tree) (p : Point) (pl : Planned tree p) where
         takes = pl.takes;
         low_level = facts.low_level;
       }
-
-  -- the root that the code finds, and its level
-  root_same : (q : ℕ) → root_at tree p.tick ≡ At q → root_page ≡ q
-  root_same q e = let f : At root_page ≡ At q = sym facts.root_is ∙ e in cc
-
-  pub level_same : (q l : ℕ) → root_at tree p.tick ≡ At q → level_of tree.table q ≡ l → level ≡ l
-  unfolding level
-  level_same q l e is = ap (level_of tree.table) (root_same q e) ∙ is
-
-  pub can_enter_at : (q l : ℕ) → root_at tree p.tick ≡ At q → level_of tree.table q ≡ l → CanEnter (rootless tree.table tree.used) p l q
-  can_enter_at q l e is = rw (← level_same q l e is, ← root_same q e) can_enter
-
-  pub done_at : (q l : ℕ) → root_at tree p.tick ≡ At q → level_of tree.table q ≡ l → (done : Done) (now : List ℕ) →
-      DoneAs (enter_from (rootless tree.table tree.used) p l q) now done →
-      DoneAs (enter_from (rootless tree.table tree.used) p level root_page) now done
-  done_at q l e is done now so = rw (← level_same q l e is, ← root_same q e) at so
 
   pub low_level : level ≤ top_level
   unfolding level
@@ -324,11 +310,28 @@ module _ (tree : Tree) (p : Point) (pl : Planned tree p) where
           use_is = put.use_is ∙ ap (λ (n : ℕ). (root n).used) done_made ∙ sym parts.2 ∙ ap (λ (x : Tree). x.used) (sym w);
         }
 
--- A planned entry has a root, and starts at its page
-pub no_missing : (tree : Tree) (p : Point) → Planned tree p → (root : Root) → root ≡ root_at tree p.tick → top_of tree root ≡ top.Missing → ⊥
-no_missing tree p pl root found e =
-    let f = plan_facts tree p pl.plan_is in
-    let opens = top_opens tree f.0 f.1.is_in_use (level_of tree.table f.0) refl f.1.low_level in
-    let there = ap (top_of tree) (found ∙ f.1.root_is) ∙ opens in
-    let z : ◌≡◌ {A = ℕ} 0 1 = cc in
-    omega arith
+-- Where the code finds the root of a planned entry, and where the descent starts
+module _ {tree : Tree} {p : Point} (planned : Planned tree p) {root : Option ℕ} (found : root ≡ root_at tree p.tick) where
+  root_opens : top_of (rootless tree.table tree.used) root ≡ top_at (root_page tree p planned) (level tree p planned)
+  unfolding level
+  root_opens =
+      let facts = facts tree p planned in
+      ap (top_of (rootless tree.table tree.used)) (found ∙ facts.root_is)
+      ∙ top_opens (rootless tree.table tree.used) (root_page tree p planned) facts.is_in_use (level_of tree.table (root_page tree p planned)) refl facts.low_level
+
+  pub not_rootless : {G : Type 0} {e : SpoiledPage} → Err e ≡ top_of (rootless tree.table tree.used) root → G
+  not_rootless is = not_spoiled (is ∙ root_opens)
+
+  module _ {top : Top} (is : Ok top ≡ top_of (rootless tree.table tree.used) root) where
+    same_top : top ≡ record { page = root_page tree p planned; level = level tree p planned }
+    same_top = same_answer (is ∙ root_opens)
+
+    pub level_is : top.level ≡ level tree p planned
+    level_is = ap (λ (t : Top). t.level) same_top
+
+    pub can_enter_top : CanEnter (rootless tree.table tree.used) p top.level top.page
+    can_enter_top = rw same_top (can_enter tree p planned)
+
+    pub done_from_top : {done : Done} {now : List ℕ} → DoneAs (enter_from (rootless tree.table tree.used) p top.level top.page) now done →
+        DoneAs (enter_from (rootless tree.table tree.used) p (level tree p planned) (root_page tree p planned)) now done
+    done_from_top so = rw same_top at so

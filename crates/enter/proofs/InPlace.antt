@@ -23,8 +23,8 @@ use Rattle.tree.specs.declared.types.TreeUse.{TreeUse}
 use Rattle.tree.specs.declared.types.Became.{Became}
 use Rattle.tree.specs.declared.types.Became.TheVariants.{Stays, Copied, Halved}
 use Rattle.tree.proofs.PageCodec.{put_length}
-use Rattle.ranges.specs.declared.search.Place.{Place}
-use Rattle.ranges.specs.declared.search.Place.TheVariants.{At, Missing}
+use Rattle.std.specs.declared.option.Option.{Option}
+use Rattle.std.specs.declared.option.Option.TheVariants.{Some, None}
 use Rattle.row_steps.specs.declared.steps.Change.{Change}
 use Rattle.row_steps.specs.declared.steps.Change.TheVariants.{Leaf, Lowest, Above}
 use Rattle.row_steps.specs.PageEdits.{replace_words, gain_words, link_words, change_words, Within, ChangeWithin}
@@ -76,16 +76,16 @@ module _ (extra : List ℕ) where
       link_front old (Halved c d) = more_front old (linked_to c old) (new_row t d.low d.high d.page zero)
 
   module _ (t : ℕ) (v : Value) (page : List ℕ) where
-    gain_front : (gain : Place) → Within (word page 1) gain → row_start (word page 1 + 1) ≤ length page → gain_words t v (page ++ extra) gain ≡ gain_words t v page gain ++ extra
-    gain_front Missing inside room = refl
-    gain_front (At place) inside room =
+    gain_front : (gain : Option ℕ) → Within (word page 1) gain → row_start (word page 1 + 1) ≤ length page → gain_words t v (page ++ extra) gain ≡ gain_words t v page gain ++ extra
+    gain_front None inside room = refl
+    gain_front (Some place) inside room =
         ap (λ (r : Row). replace_words t (page ++ extra) place r (gained v r)) (here_front t page place inside room)
         ∙ replace_front t page place inside (row_in page place) (gained v (row_in page place)) room
 
     change_front : (change : Change) → ChangeWithin (word page 1) change → row_start (word page 1 + most_appended) ≤ length page →
         change_words t v (page ++ extra) change ≡ change_words t v page change ++ extra
-    change_front (Leaf Missing gain k) inside room = gain_front gain inside.1 (omega arith)
-    change_front (Leaf (At place) gain k) inside room =
+    change_front (Leaf None gain k) inside room = gain_front gain inside.1 (omega arith)
+    change_front (Leaf (Some place) gain k) inside room =
         let row : Row = row_in page place in
         ap (λ (r : Row). append_row (replace_words t (page ++ extra) place r (cut_at k r)) (new_row t k r.high 0 v)) (here_front t page place inside.0 (omega arith))
         ∙ more_front t page place inside.0 (omega arith) row (cut_at k row) (new_row t k row.high 0 v)

@@ -3,13 +3,12 @@ use Rattle.std.specs.Prelude.{ℕ, ◌≤◌, ◌<◌, ◌≡◌, List, [], leng
 use Rattle.tree.specs.declared.types.TreeUse.{TreeUse}
 use Rattle.tree.specs.declared.types.RootChange.{RootChange}
 use Rattle.tree.specs.declared.types.RootChange.TheVariants.{Added}
-use Rattle.tree.specs.declared.types.Plan.TheVariants.{Ready}
 use Rattle.tree.specs.Use.{page_limit}
 use Rattle.tree.specs.Taking.{HasPages, Takes}
 use Rattle.tree.specs.Tree.{Tree, last_root}
 use Rattle.tree.specs.RowSteps.{Point}
 use Rattle.tree.specs.Enter.{with_root}
-use Rattle.tree.specs.Plan.{plan, enter}
+use Rattle.tree.specs.Plan.{ready, plan, enter}
 use Rattle.tree.specs.Limits.{most_made}
 use Rattle.words.specs.Words.{root_birth}
 
@@ -34,7 +33,7 @@ pub record RootPut (roots : List ℕ) (used : TreeUse) (made page t : ℕ) (afte
 pub record Planned (tree : Tree) (p : Point) : Type 0 where
   pub made : ℕ
   pub change : RootChange
-  pub plan_is : plan tree p ≡ Ready made change
+  pub plan_is : plan tree p ≡ ready made change
   pub room : HasPages tree.table tree.used made
   pub place : change ≡ Added → tree.used.roots < length tree.roots
   pub some : 1 ≤ tree.used.roots

@@ -1,7 +1,6 @@
 -- Entering a point as the code does it: each page is changed as if in a copy with room for more rows, then written back or split.
-use Rattle.std.specs.Prelude.{ℕ, ◌+◌, ◌-◌, ◌*◌, ◌≤◌, ◌<◌, ◌≡◌, List, ◌++◌, true, cond, length, take, leb}
+use Rattle.std.specs.Prelude.{ℕ, ◌+◌, ◌-◌, ◌*◌, ◌≤◌, ◌<◌, ◌≡◌, List, ◌++◌, true, cond, length, take, leb, Option}
 use Rattle.words.specs.declared.value.Value.{Value}
-use Rattle.ranges.specs.declared.search.Place.{Place}
 use Rattle.tree.specs.Row.{word, rows_of, row_limit, page_words, row_words}
 use Rattle.tree.specs.Limits.{most_rows, most_appended, most_made}
 use Rattle.live.specs.Survey.{survey_of}
@@ -77,8 +76,8 @@ leaf_edited t k v table page =
     let s = survey_of t k (page_at table page) in
     changed t v table page (Leaf s.inner s.gain k)
 
-abbrev pub gain_edited : (t : ℕ) → Value → (table : List ℕ) → (page : ℕ) → Place → List ℕ
+abbrev pub gain_edited : (t : ℕ) → Value → (table : List ℕ) → (page : ℕ) → Option ℕ → List ℕ
 gain_edited t v table page gain = changed t v table page (Lowest gain)
 
-abbrev pub link_edited : (t : ℕ) → Value → (table : List ℕ) → (page : ℕ) → Place → (place : ℕ) → Became → List ℕ
+abbrev pub link_edited : (t : ℕ) → Value → (table : List ℕ) → (page : ℕ) → Option ℕ → (place : ℕ) → Became → List ℕ
 link_edited t v table page gain place became = changed t v table page (Above place gain became)

@@ -1,6 +1,5 @@
 // Entering a point: the descent calls itself on the child page, and each page is edited on the way back up.
 ghost use Rattle.std.specs.Prelude.{◌≡◌, ◌+◌, ◌*◌, ◌≤◌, ◌<◌, length, take};
-ghost use Rattle.words.specs.Overwrite.{overwrite};
 ghost use Rattle.tree.specs.Row.{page_words, row_limit, word};
 ghost use Rattle.tree.specs.Tree.{page_at, put_page};
 ghost use Rattle.split.specs.SplitWords.{scratch_words};
@@ -10,7 +9,6 @@ ghost use Rattle.tree.specs.Enter.{enter_from};
 ghost use Rattle.tree.specs.Taking.{rootless};
 
 use page::Page;
-use ranges::Place;
 use row_steps::{Change, change_words};
 use rows::page_at;
 use split::{Done, split_page};
@@ -20,18 +18,6 @@ use words::Value;
 // A page of at most so many rows has room in its own words for those that one entry may append.
 const ROOMY_ROWS: usize = Page::ROWS - Page::MOST_APPENDED;
 
-// Copies words over the front of others.
-fn copy_words(to: &mut [u64], from: &[u64])
-    requires { length from.now ≤ length to.old }
-    ensures { to.new ≡ overwrite to.old 0 from.now }
-{
-    let mut at: usize = 0;
-    while at < from.len() {
-        to[at] = from[at];
-        at += 1;
-    }
-}
-
 // Writes the copy back into the page's own words.
 fn store_page(table: &mut [u64], page: u32, words: &[u64])
     requires words_len { length words.now ≡ scratch_words }
@@ -40,9 +26,8 @@ fn store_page(table: &mut [u64], page: u32, words: &[u64])
 {
     let from = page as usize * Page::WORDS;
     let to = from + Page::WORDS;
-    let first: usize = 0;
-    let last = Page::WORDS;
-    copy_words(&mut table[from..to], &words[first..last]);
+    let kept = &words[..Page::WORDS];
+    table[from..to].copy_from_slice(kept);
 }
 
 // The edited copy goes back into the page, or its live rows into new pages.
@@ -94,7 +79,7 @@ fn change_page(
         };
     }
     let mut scratch = [0u64; Page::SCRATCH_WORDS];
-    copy_words(&mut scratch, page_at(table, page));
+    scratch[..Page::WORDS].copy_from_slice(page_at(table, page));
     change_words(&mut scratch, change, value, t);
     settle_page(table, used, made, page, &scratch, t)
 }
@@ -106,11 +91,9 @@ fn enter_leaf(table: &mut [u64], used: TreeUse, page: u32, k: u16, value: Value,
     ensures { DoneAs (settled used t (made_so table.old 0) page (leaf_edited t k value table.old page)) table.new result }
 {
     let survey = live::survey_page(page_at(table, page), t, k);
-    let inner = survey.inner;
-    let gain = survey.gain;
     let leaf = Change::Leaf {
-        inner,
-        gain,
+        inner: survey.inner,
+        gain: survey.gain,
         key: k,
     };
     change_page(table, used, 0, page, leaf, value, t)
@@ -132,19 +115,17 @@ pub fn enter_from(
     if level == 0 {
         return enter_leaf(table, used, page, k, value, t);
     }
-    let survey = live::survey_page(page_at(table, page), t, k);
-    let inner = survey.inner;
-    let gain = survey.gain;
-    let Place::At(place) = inner else {
-        return change_page(table, used, 0, page, Change::Lowest(gain), value, t);
+    let words = page_at(table, page);
+    let survey = live::survey_page(words, t, k);
+    let Some(place) = survey.inner else {
+        return change_page(table, used, 0, page, Change::Lowest(survey.gain), value, t);
     };
-    let row = rows::row_at(page_at(table, page), place);
+    let row = rows::row_at(words, place);
     let below = enter_from(table, used, level - 1, row.child, k, value, t);
-    let became = below.became;
     let above = Change::Above {
         place,
-        gain,
-        became,
+        gain: survey.gain,
+        became: below.became,
     };
     change_page(table, used, below.made, page, above, value, t)
 }

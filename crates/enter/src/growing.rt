@@ -9,9 +9,9 @@ ghost use Rattle.enter.specs.EnterWords.{point_at};
 
 use crate::entering::enter_from;
 use page::Page;
-use roots::{Top, find_root, find_top};
+use roots::{find_root, find_top};
 use split::{put_page, taken_page};
-use tree::{Became, RootChange, TreeUse};
+use tree::{Became, RootChange, TreePages, TreeUse};
 use words::Value;
 
 // How many root entries are in use after such a change.
@@ -68,13 +68,11 @@ pub fn enter(
     ensures { EnteredAs (record { table = table.entry.now; roots = roots.old; used = used }) (point_at t k value) table.exit.now roots.new result }
 {
     let root = find_root(roots, used.roots as usize, t);
-    let top = find_top(table, used, root);
-    let Top::At { page, level } = top else {
+    let Ok(top) = find_top(TreePages { table, used }, root) else {
         return used;
     };
-    let done = enter_from(table, used, level, page, k, value, t);
-    let became = done.became;
-    match became {
+    let done = enter_from(table, used, top.level, top.page, k, value, t);
+    match done.became {
         Became::Stays => use_after(used, done.made, RootChange::Kept),
         Became::Copied(child) => put_root(roots, used, done.made, child.page, t),
         Became::Halved(lower, upper) => {
@@ -82,7 +80,7 @@ pub fn enter(
             put_page(
                 table,
                 number,
-                Page::two_row_root(level + 1, t, lower.high, lower.page, upper.page),
+                Page::two_row_root(top.level + 1, t, lower.high, lower.page, upper.page),
             );
             put_root(roots, used, done.made + 1, number, t)
         }

@@ -8,6 +8,7 @@ use Rattle.words.proofs.OverwriteLaws.{overwrite_none}
 use Rattle.store.specs.declared.types.Head.{Head}
 use Rattle.store.specs.Trees.{Lent, Store}
 use Rattle.store.specs.Head.{open_limit}
+use Rattle.store.specs.Refused.{told}
 use Rattle.demand.specs.Bursts.{Asked, events_of, result_words, burst_refusal, Entered, unless_refused_whole, enter_burst}
 use Rattle.burst.specs.declared.entering.BurstReply.{BurstReply}
 use Rattle.burst.specs.BurstReplies.{BurstAs}
@@ -38,22 +39,23 @@ module _ (before : Handed) (events results : List ℕ) {r : BurstReply} {results
   b = enter_burst (store_in before) events (length results)
 
   -- The head that the burst handed back was written. A burst that is refused hands back the head that it got
-  pub burst_leaves : {numbers : List ℕ} → numbers ≡ head_over before.numbers open_limit r.head
-      → LeavesBurst b r.refusal (record { handed = before; results = results })
+  pub burst_leaves : {numbers : List ℕ} {refusal : ℕ} → refusal ≡ told r.refused → numbers ≡ head_over before.numbers open_limit r.head
+      → LeavesBurst b refusal (record { handed = before; results = results })
       (record { handed = record { numbers = numbers; lent = lent }; results = results' })
   unfolding result_words
-  burst_leaves {numbers} put =
+  burst_leaves {numbers} {refusal} of_refused put =
+      let as_said = of_refused ∙ is.refusal in
       let places = passes_length before.numbers field_numbers open_limit in
       let new = tried_places (burst_refusal events (length results)) (store_in before) places (events_of events) in
       let left_is = written_back before long b.store (all_places (store_in before).head b.store.head places new) is.head is.lent_is put in
-      let none : (r.refusal ≡ 0 → ⊥) → (b.answers ≡ []) × (b.store ≡ store_in before) =
-      λ some. none_tried (burst_refusal events (length results)) (store_in before) (events_of events) (λ z. some (is.refusal ∙ z)) in
-      let list : (r.refusal ≡ 0 → ⊥) → results' ≡ results =
+      let none : (refusal ≡ 0 → ⊥) → (b.answers ≡ []) × (b.store ≡ store_in before) =
+      λ some. none_tried (burst_refusal events (length results)) (store_in before) (events_of events) (λ z. some (as_said ∙ z)) in
+      let list : (refusal ≡ 0 → ⊥) → results' ≡ results =
       λ some. is.words ∙ ap (λ (l : List _). overwrite results 0 (result_words l)) (none some).0 ∙ overwrite_none results 0 in
-      let kept : (r.refusal ≡ 0 → ⊥) → record { numbers = numbers; lent = lent } ≡ before =
+      let kept : (refusal ≡ 0 → ⊥) → record { numbers = numbers; lent = lent } ≡ before =
       λ some. left_is ∙ ap handed_back (none some).1 ∙ handed_again before long in
       record {
-        refusal = is.refusal;
+        refusal = as_said;
         words = is.words;
         left = left_is;
         kept = λ some. λ i. record { handed = kept some i; results = list some i };

@@ -5,7 +5,8 @@ use mathlib.Core.List.{List}
 use lib.ListN.{length, drop}
 use Rattle.store.specs.declared.types.Head.{Head}
 use Rattle.store.specs.declared.types.Answer.{Answer}
-use Rattle.store.specs.Trees.{Lent, Store}
+use Rattle.store.specs.Trees.{LentTree, Lent, Store}
+use Rattle.store.specs.Lending.{lent_to_trees}
 use Rattle.store.specs.Head.{open_limit}
 use Rattle.store.specs.Answers.{refusal_of, values_of, Answered}
 use Rattle.store.specs.Calls.{Call}
@@ -17,11 +18,18 @@ use Rattle.replies.specs.Replies.{RepliedAs}
 use Rattle.c_heads.specs.Heads.{head_numbers, head_of, head_over}
 use Rattle.c_answers.specs.Said.{number_said, Tells}
 use Rattle.c_heads.proofs.HeadNumbers.{numbers_back, others_kept}
-use Rattle.firmware.specs.Exported.{Handed, store_in, handed_back, Leaves}
+use Rattle.firmware.specs.Exported.{Handed, handed_of, store_in, handed_back, Leaves}
 
 -- What holds of the head that was read and the slices holds of the store that was handed over
 pub of_handed : (P : Store → Type 0) (h : Handed) {head : Head} → head ≡ head_of h.numbers → P (record { head = head; lent = h.lent }) → P (store_in h)
 of_handed P h e = subst (λ (x : Head). P (record { head = x; lent = h.lent })) e
+
+-- What holds of the words that a call leaves in the memory that it is handed holds of the slices that this memory is made of
+pub handed_on : (P : Handed → Type 0) {numbers : List ℕ} {starts ends time : LentTree} → P (record { numbers = numbers; lent = lent_to_trees starts ends time })
+    → {start_table start_roots end_table end_roots time_table time_roots : List ℕ} → start_table ≡ starts.table → start_roots ≡ starts.roots
+    → end_table ≡ ends.table → end_roots ≡ ends.roots → time_table ≡ time.table → time_roots ≡ time.roots
+    → P (handed_of numbers start_table start_roots end_table end_roots time_table time_roots)
+handed_on P is a b d e f g = rw (a, b, d, e, f, g) is
 
 -- A reading call
 pub told : (c : Call) (h : Handed) {head : Head} → head ≡ head_of h.numbers → {a : Answer} → a ≡ (perform (record { head = head; lent = h.lent }) c).answer

@@ -6,8 +6,8 @@ use mathlib.Core.List.{List, [], ◌∷◌}
 use lib.ListN.{length, length-replicate, length-set}
 use Rattle.store.specs.declared.types.OpenPass.{OpenPass}
 use Rattle.store.specs.declared.types.Head.{Head}
+use Rattle.std.specs.Prelude.{Option, Some, None}
 use Rattle.store.specs.declared.types.FoundPass.{FoundPass}
-use Rattle.store.specs.declared.types.FoundPass.TheVariants.{Missing, At}
 use Rattle.store.specs.Trees.{Store}
 use Rattle.store.specs.Head.{open_limit, no_pass, pass_of}
 use Rattle.store.specs.Calls.{Call, opening, start, end, question, bat_time, lookup_in}
@@ -34,16 +34,16 @@ store_back s long = ap (λ (h : Head). record { head = h; lent = s.lent }) (head
 -- Every call leaves a head with as many places
 module _ (s : Store) (long : length s.head.passes ≡ open_limit) where
   -- The passes that an end leaves, by where the pass was found
-  abbrev passes_after : ℕ → FoundPass → List OpenPass
+  abbrev passes_after : ℕ → Option FoundPass → List OpenPass
   passes_after tick found = passes_without (enter_all s (end_entries tick found)).head found
 
-  ended_places : (tick number : ℕ) → refusal s (end tick number) ≡ 0 → (found : FoundPass) → pass_of s.head number ≡ found
+  ended_places : (tick number : ℕ) → refusal s (end tick number) ≡ 0 → (found : Option FoundPass) → pass_of s.head number ≡ found
       → length (passes_after tick found) ≡ open_limit
-  ended_places tick number e Missing f = long
-  ended_places tick number e (At place p) f =
+  ended_places tick number e None f = long
+  ended_places tick number e (Some found) f =
       let none = none_of s (end tick number) refl e in
       let facts = found_facts s.head number none.1.passes f in
-      closed_length s.head.passes place s.head.count facts.inside (omega (arith, none.1.count, long)) ∙ long
+      closed_length s.head.passes found.place s.head.count facts.inside (omega (arith, none.1.count, long)) ∙ long
 
   served_places : (c : Call) → refusal s c ≡ 0 → length (served s c).store.head.passes ≡ open_limit
   unfolding served

@@ -5,8 +5,8 @@ use mathlib.Core.Path.{◌≡◌, refl, sym, subst, ◌∙◌}
 use lib.ListN.{length, drop, length-set, drop_of_length-le}
 use lib.Seq.{drop-set-lt}
 use Rattle.store.specs.declared.types.Head.{Head}
+use Rattle.std.specs.Prelude.{Option, Some, None}
 use Rattle.store.specs.declared.types.FoundPass.{FoundPass}
-use Rattle.store.specs.declared.types.FoundPass.TheVariants.{Missing, At}
 use Rattle.store.specs.Trees.{Lent, Store}
 use Rattle.store.specs.Head.{open_limit, pass_of}
 use Rattle.store.specs.Calls.{opening, start, end}
@@ -56,22 +56,22 @@ module _ (s : Store) (long : length s.head.passes ≡ open_limit) where
         refused_or_served (λ (a : Answered). KeepsFrom a.store.head.count s.head a.store.head) s (start tick key weight) (λ n. none_changed) started
 
   module _ (tick number : ℕ) where
-    abbrev pub head_after : FoundPass → Head
+    abbrev pub head_after : Option FoundPass → Head
     head_after found = ended_head (enter_all s (end_entries tick found)).head tick found
 
-    pub by_place : refusal s (end tick number) ≡ 0 → (found : FoundPass) → pass_of s.head number ≡ found
+    pub by_place : refusal s (end tick number) ≡ 0 → (found : Option FoundPass) → pass_of s.head number ≡ found
         → KeepsFrom ((head_after found).count + 1) s.head (head_after found)
-    by_place e Missing f = record { full = long; rest = refl }
-    by_place e (At place p) f =
+    by_place e None f = record { full = long; rest = refl }
+    by_place e (Some found) f =
         let none = none_of s (end tick number) refl e in
         let facts = found_facts s.head number none.1.passes f in
         let fits : s.head.count ≤ length s.head.passes = omega (arith, none.1.count, long) in
         let same : s.head.count ≡ s.head.count - 1 + 1 = omega (arith, facts.inside) in
         record {
-          full = closed_length s.head.passes place s.head.count facts.inside fits ∙ long;
+          full = closed_length s.head.passes found.place s.head.count facts.inside fits ∙ long;
           rest =
-              subst (λ (n : ℕ). drop n (head_after (At place p)).passes ≡ drop n s.head.passes) same
-              (closed_rest s.head.passes place s.head.count facts.inside fits);
+              subst (λ (n : ℕ). drop n (head_after (Some found)).passes ≡ drop n s.head.passes) same
+              (closed_rest s.head.passes found.place s.head.count facts.inside fits);
         }
 
     pub end_keeps : KeepsFrom ((perform s (end tick number)).store.head.count + 1) s.head (perform s (end tick number)).store.head

@@ -9,8 +9,8 @@ use lib.Seq.{drop-drop}
 use lib.Dec.{ltb}
 use borrow.Author.Tests.{ltb-false}
 use Rattle.store.specs.declared.types.Head.{Head}
+use Rattle.std.specs.Prelude.{Option, Some, None}
 use Rattle.store.specs.declared.types.FoundPass.{FoundPass}
-use Rattle.store.specs.declared.types.FoundPass.TheVariants.{Missing, At}
 use Rattle.store.specs.Trees.{Store}
 use Rattle.store.specs.Head.{pass_of}
 use Rattle.store.specs.Answers.{Answered, refused_with}
@@ -66,12 +66,12 @@ module _ (s : Store) (long : Places s) where
       refused_or_served (λ (a : Answered). Grows 1 s.head a.store.head) s (start tick key weight) (λ n. grows_none 1 s.head)
       (λ e. record { count = omega arith; rest = later (started s long tick key weight e) })
 
-  ended : (tick number : ℕ) → refusal s (end tick number) ≡ 0 → (found : FoundPass) → pass_of s.head number ≡ found
+  ended : (tick number : ℕ) → refusal s (end tick number) ≡ 0 → (found : Option FoundPass) → pass_of s.head number ≡ found
       → Grows 0 s.head (head_after s long tick number found)
-  ended tick number e Missing f = record { count = omega arith; rest = λ p h. refl }
-  ended tick number e (At place pass) f =
+  ended tick number e None f = record { count = omega arith; rest = λ p h. refl }
+  ended tick number e (Some found) f =
       let inside = (found_facts s.head number (none_of s (end tick number) refl e).1.passes f).inside in
-      record { count = omega arith; rest = λ p h. later (by_place s long tick number e (At place pass) f) p (omega (arith, inside, h)) }
+      record { count = omega arith; rest = λ p h. later (by_place s long tick number e (Some found) f) p (omega (arith, inside, h)) }
 
   end_grows : (tick number : ℕ) → Grows 0 s.head (perform s (end tick number)).store.head
   unfolding served

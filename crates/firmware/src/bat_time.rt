@@ -7,18 +7,18 @@ ghost use Rattle.firmware.specs.Exported.{Handed, handed_of, store_in};
 
 use c_answers::tell_time;
 use c_heads::head_of;
-use store::Head;
+use store::{Head, StoreView, TreeView};
 
 // Bat-time, of a question: the weight of each pass with such a key times the ticks in the window at which it lives, added up.
 #[unsafe(no_mangle)]
-pub extern "C" fn nimbleshale_bat_time(
+pub extern "C" fn nimbleshale_bat_time<'a>(
     head: &[u32; Head::NUMBERS],
-    start_table: &[u64],
-    start_roots: &[u64],
-    end_table: &[u64],
-    end_roots: &[u64],
-    time_table: &[u64],
-    time_roots: &[u64],
+    start_table: &'a [u64],
+    start_roots: &'a [u64],
+    end_table: &'a [u64],
+    end_roots: &'a [u64],
+    time_table: &'a [u64],
+    time_roots: &'a [u64],
     k1: u32,
     k2: u32,
     t1: u32,
@@ -31,18 +31,22 @@ pub extern "C" fn nimbleshale_bat_time(
         let after : List ℕ = total.new ∷ (pages.new ∷ []) in
         Tells (perform (store_in handed) (bat_time k1 k2 t1 t2)).answer result before after }
 {
-    let answer = queries::bat_time(
-        head_of(head),
-        start_table,
-        start_roots,
-        end_table,
-        end_roots,
-        time_table,
-        time_roots,
-        k1,
-        k2,
-        t1,
-        t2,
-    );
+    let own_head = head_of(head);
+    let store = StoreView {
+        head: &own_head,
+        starts: TreeView {
+            table: start_table,
+            roots: start_roots,
+        },
+        ends: TreeView {
+            table: end_table,
+            roots: end_roots,
+        },
+        time: TreeView {
+            table: time_table,
+            roots: time_roots,
+        },
+    };
+    let answer = queries::bat_time(&store, k1, k2, t1, t2);
     tell_time(answer, total, pages)
 }

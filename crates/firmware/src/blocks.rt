@@ -3,6 +3,7 @@ ghost use Rattle.std.specs.Prelude.{◌≡◌, true, cond, length};
 ghost use Rattle.command.specs.Stream.{is_query};
 ghost use Rattle.register_block.specs.Block.{command_at, reset_mask, clear_block, read_block, line_high};
 ghost use Rattle.c_heads.specs.Heads.{head_numbers};
+ghost use Rattle.store.specs.Lending.{words_in, lent_to_trees};
 ghost use Rattle.firmware.specs.Exported.{Handed, handed_of, store_in};
 ghost use Rattle.firmware.specs.BlockCalls.{LeavesWrite};
 
@@ -15,7 +16,7 @@ use registers::{
     BLOCK_BYTES, OPERANDS, RESET_MASK, STATUS, line_high, put_command, read, reset, show_answer,
     write_register,
 };
-use store::Head;
+use store::{Head, StoreView, TreeView};
 
 // "Reset clears the block": it is handed no store, so that it can change none.
 #[unsafe(no_mangle)]
@@ -45,32 +46,25 @@ pub extern "C" fn nimbleshale_block_line(block: &[u8; BLOCK_BYTES]) -> u8
 fn write_query(
     block: &mut [u8; BLOCK_BYTES],
     code: u8,
-    head: &[u32],
-    start_table: &[u64],
-    start_roots: &[u64],
-    end_table: &[u64],
-    end_roots: &[u64],
-    time_table: &[u64],
-    time_roots: &[u64],
+    head: &[u32; Head::NUMBERS],
+    starts: TreeView,
+    ends: TreeView,
+    time: TreeView,
 )
-    requires head_len { length head.now ≡ head_numbers }
-    requires code_value { is_query code ≡ true }
-    ensures { let handed : Handed = handed_of head.now start_table.now start_roots.now end_table.now end_roots.now time_table.now time_roots.now in
+    requires { is_query code ≡ true }
+    ensures { let handed : Handed = record { numbers = head.now; lent = lent_to_trees (words_in starts.entry) (words_in ends.entry) (words_in time.entry) } in
         LeavesWrite handed block.old command_at code handed block.new }
 {
     put_command(block, code);
     let bytes = &block[..];
-    let answer = answer_query(
-        head_of(head),
-        start_table,
-        start_roots,
-        end_table,
-        end_roots,
-        time_table,
-        time_roots,
-        code,
-        &bytes[OPERANDS..STATUS],
-    );
+    let own_head = head_of(head);
+    let store = StoreView {
+        head: &own_head,
+        starts,
+        ends,
+        time,
+    };
+    let answer = answer_query(&store, code, &bytes[OPERANDS..STATUS]);
     let shown = answer_bytes(answer);
     show_answer(block, &shown, open_count(head));
 }
@@ -78,17 +72,17 @@ fn write_query(
 // The radio side writes a byte at an offset. Byte 0 runs a command: head and slices are left as the stream's command leaves them. What every write looks at comes first
 // among the parameters, so that the processor has it at hand: a write that runs nothing, which a handler may make, needs no stack frame.
 #[unsafe(no_mangle)]
-pub extern "C" fn nimbleshale_block_write(
+pub extern "C" fn nimbleshale_block_write<'a>(
     block: &mut [u8; BLOCK_BYTES],
     offset: usize,
     value: u8,
     head: &mut [u32; Head::NUMBERS],
-    start_table: &mut [u64],
-    start_roots: &mut [u64],
-    end_table: &mut [u64],
-    end_roots: &mut [u64],
-    time_table: &mut [u64],
-    time_roots: &mut [u64],
+    start_table: &'a mut [u64],
+    start_roots: &'a mut [u64],
+    end_table: &'a mut [u64],
+    end_roots: &'a mut [u64],
+    time_table: &'a mut [u64],
+    time_roots: &'a mut [u64],
 )
     ensures { let before : Handed = handed_of head.old start_table.old start_roots.old end_table.old end_roots.old time_table.old time_roots.old in
         let after : Handed = handed_of head.new start_table.new start_roots.new end_table.new end_roots.new time_table.new time_roots.new in
@@ -104,12 +98,18 @@ pub extern "C" fn nimbleshale_block_write(
             block,
             value,
             head,
-            start_table,
-            start_roots,
-            end_table,
-            end_roots,
-            time_table,
-            time_roots,
+            TreeView {
+                table: start_table,
+                roots: start_roots,
+            },
+            TreeView {
+                table: end_table,
+                roots: end_roots,
+            },
+            TreeView {
+                table: time_table,
+                roots: time_roots,
+            },
         );
         return;
     }

@@ -1,24 +1,36 @@
 // A burst of starts and ends from the ear's buffer, for C.
 ghost use Rattle.std.specs.Prelude.{length};
 ghost use Rattle.demand.specs.Bursts.{enter_burst};
+ghost use Rattle.std.specs.Prelude.{◌≡◌};
+ghost use Rattle.store.specs.Refused.{told};
 ghost use Rattle.firmware.specs.Exported.{Handed, handed_of, store_in};
 ghost use Rattle.firmware.specs.BurstCalls.{Lending, LeavesBurst};
 
 use burst::enter_burst;
 use c_heads::{head_of, put_head};
-use store::Head;
+use store::{Head, Refusal, TreeMemory};
+
+// The number of a refusal, 0 for none.
+fn refusal_number(tested: Result<(), Refusal>) -> u8
+    ensures { result ≡ told tested }
+{
+    match tested {
+        Ok(()) => 0,
+        Err(refusal) => refusal.number(),
+    }
+}
 
 // Enters up to 256 events of 9 bytes, one by one in their order; two words of the result list say of each its refusal or 0 and its new pass number or 0.
 // Says 31, with nothing entered and nothing written, for a longer burst, one that ends inside an event or too short a list, and else 0.
 #[unsafe(no_mangle)]
-pub extern "C" fn nimbleshale_burst(
+pub extern "C" fn nimbleshale_burst<'a>(
     head: &mut [u32; Head::NUMBERS],
-    start_table: &mut [u64],
-    start_roots: &mut [u64],
-    end_table: &mut [u64],
-    end_roots: &mut [u64],
-    time_table: &mut [u64],
-    time_roots: &mut [u64],
+    start_table: &'a mut [u64],
+    start_roots: &'a mut [u64],
+    end_table: &'a mut [u64],
+    end_roots: &'a mut [u64],
+    time_table: &'a mut [u64],
+    time_roots: &'a mut [u64],
     events: &[u8],
     results: &mut [u64],
 ) -> u8
@@ -30,15 +42,21 @@ pub extern "C" fn nimbleshale_burst(
 {
     let reply = enter_burst(
         head_of(head),
-        start_table,
-        start_roots,
-        end_table,
-        end_roots,
-        time_table,
-        time_roots,
+        &mut TreeMemory {
+            table: start_table,
+            roots: start_roots,
+        },
+        &mut TreeMemory {
+            table: end_table,
+            roots: end_roots,
+        },
+        &mut TreeMemory {
+            table: time_table,
+            roots: time_roots,
+        },
         events,
         results,
     );
     put_head(reply.head, Head::PLACES, head);
-    reply.refusal
+    refusal_number(reply.refused)
 }

@@ -7,7 +7,7 @@ ghost use Rattle.firmware.specs.Packets.{changed_places, Packet, LeavesOf};
 use burst_words::EVENT_BYTES;
 use c_heads::{head_of, open_count, put_head};
 use pieces::run_piece;
-use store::Head;
+use store::{Head, TreeMemory};
 
 // How many places of open passes a packet may have changed, by the passes that were open and the bytes that it took. Packets are short, and the other places need not
 // be written.
@@ -20,14 +20,14 @@ fn changed_places(count: u32, taken: usize) -> usize
 // Runs as many commands of a packet as have come whole and have room for their answers. Where `ended` is not 0 no byte comes after these, so that a
 // command that lacks operands is cut short. Says 1 where the run is over, and else 0.
 #[unsafe(no_mangle)]
-pub extern "C" fn nimbleshale_commands(
+pub extern "C" fn nimbleshale_commands<'a>(
     head: &mut [u32; Head::NUMBERS],
-    start_table: &mut [u64],
-    start_roots: &mut [u64],
-    end_table: &mut [u64],
-    end_roots: &mut [u64],
-    time_table: &mut [u64],
-    time_roots: &mut [u64],
+    start_table: &'a mut [u64],
+    start_roots: &'a mut [u64],
+    end_table: &'a mut [u64],
+    end_roots: &'a mut [u64],
+    time_table: &'a mut [u64],
+    time_roots: &'a mut [u64],
     input: &[u8],
     ended: u8,
     out: &mut [u8],
@@ -41,12 +41,18 @@ pub extern "C" fn nimbleshale_commands(
 {
     let fed = run_piece(
         head_of(head),
-        start_table,
-        start_roots,
-        end_table,
-        end_roots,
-        time_table,
-        time_roots,
+        &mut TreeMemory {
+            table: start_table,
+            roots: start_roots,
+        },
+        &mut TreeMemory {
+            table: end_table,
+            roots: end_roots,
+        },
+        &mut TreeMemory {
+            table: time_table,
+            roots: time_roots,
+        },
         input,
         ended != 0,
         out,

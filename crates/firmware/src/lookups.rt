@@ -8,18 +8,19 @@ ghost use Rattle.firmware.specs.Exported.{Handed, handed_of, store_in};
 
 use c_answers::tell;
 use c_heads::head_of;
-use store::Head;
+use store::{Head, StoreView, TreeName, TreeView};
+use tree_lookups::lookup_in;
 
 // The lookup of the tree of starts at (t, k).
 #[unsafe(no_mangle)]
-pub extern "C" fn nimbleshale_lookup_starts(
+pub extern "C" fn nimbleshale_lookup_starts<'a>(
     head: &[u32; Head::NUMBERS],
-    start_table: &[u64],
-    start_roots: &[u64],
-    end_table: &[u64],
-    end_roots: &[u64],
-    time_table: &[u64],
-    time_roots: &[u64],
+    start_table: &'a [u64],
+    start_roots: &'a [u64],
+    end_table: &'a [u64],
+    end_roots: &'a [u64],
+    time_table: &'a [u64],
+    time_roots: &'a [u64],
     t: u32,
     k: u32,
     count: &mut u64,
@@ -31,30 +32,36 @@ pub extern "C" fn nimbleshale_lookup_starts(
         let after : List ℕ = count.new ∷ (sum.new ∷ (pages.new ∷ [])) in
         Tells (perform (store_in handed) (lookup_in Starts t k)).answer result before after }
 {
-    let answer = tree_lookups::lookup_starts(
-        head_of(head),
-        start_table,
-        start_roots,
-        end_table,
-        end_roots,
-        time_table,
-        time_roots,
-        t,
-        k,
-    );
+    let own_head = head_of(head);
+    let store = StoreView {
+        head: &own_head,
+        starts: TreeView {
+            table: start_table,
+            roots: start_roots,
+        },
+        ends: TreeView {
+            table: end_table,
+            roots: end_roots,
+        },
+        time: TreeView {
+            table: time_table,
+            roots: time_roots,
+        },
+    };
+    let answer = lookup_in(&store, TreeName::Starts, t, k);
     tell(answer, count, sum, pages)
 }
 
 // The lookup of the tree of ends at (t, k).
 #[unsafe(no_mangle)]
-pub extern "C" fn nimbleshale_lookup_ends(
+pub extern "C" fn nimbleshale_lookup_ends<'a>(
     head: &[u32; Head::NUMBERS],
-    start_table: &[u64],
-    start_roots: &[u64],
-    end_table: &[u64],
-    end_roots: &[u64],
-    time_table: &[u64],
-    time_roots: &[u64],
+    start_table: &'a [u64],
+    start_roots: &'a [u64],
+    end_table: &'a [u64],
+    end_roots: &'a [u64],
+    time_table: &'a [u64],
+    time_roots: &'a [u64],
     t: u32,
     k: u32,
     count: &mut u64,
@@ -66,31 +73,37 @@ pub extern "C" fn nimbleshale_lookup_ends(
         let after : List ℕ = count.new ∷ (sum.new ∷ (pages.new ∷ [])) in
         Tells (perform (store_in handed) (lookup_in Ends t k)).answer result before after }
 {
-    let answer = tree_lookups::lookup_ends(
-        head_of(head),
-        start_table,
-        start_roots,
-        end_table,
-        end_roots,
-        time_table,
-        time_roots,
-        t,
-        k,
-    );
+    let own_head = head_of(head);
+    let store = StoreView {
+        head: &own_head,
+        starts: TreeView {
+            table: start_table,
+            roots: start_roots,
+        },
+        ends: TreeView {
+            table: end_table,
+            roots: end_roots,
+        },
+        time: TreeView {
+            table: time_table,
+            roots: time_roots,
+        },
+    };
+    let answer = lookup_in(&store, TreeName::Ends, t, k);
     tell(answer, count, sum, pages)
 }
 
 // The lookup of the tree of time at (t, k): the factor and the constant of a line over ticks. Its value at t, modulo 2^64, is the bat-time of the keys up to k and the ticks
 // up to t.
 #[unsafe(no_mangle)]
-pub extern "C" fn nimbleshale_lookup_time(
+pub extern "C" fn nimbleshale_lookup_time<'a>(
     head: &[u32; Head::NUMBERS],
-    start_table: &[u64],
-    start_roots: &[u64],
-    end_table: &[u64],
-    end_roots: &[u64],
-    time_table: &[u64],
-    time_roots: &[u64],
+    start_table: &'a [u64],
+    start_roots: &'a [u64],
+    end_table: &'a [u64],
+    end_roots: &'a [u64],
+    time_table: &'a [u64],
+    time_roots: &'a [u64],
     t: u32,
     k: u32,
     factor: &mut u64,
@@ -102,16 +115,22 @@ pub extern "C" fn nimbleshale_lookup_time(
         let after : List ℕ = factor.new ∷ (constant.new ∷ (pages.new ∷ [])) in
         Tells (perform (store_in handed) (lookup_in Time t k)).answer result before after }
 {
-    let answer = tree_lookups::lookup_time(
-        head_of(head),
-        start_table,
-        start_roots,
-        end_table,
-        end_roots,
-        time_table,
-        time_roots,
-        t,
-        k,
-    );
+    let own_head = head_of(head);
+    let store = StoreView {
+        head: &own_head,
+        starts: TreeView {
+            table: start_table,
+            roots: start_roots,
+        },
+        ends: TreeView {
+            table: end_table,
+            roots: end_roots,
+        },
+        time: TreeView {
+            table: time_table,
+            roots: time_roots,
+        },
+    };
+    let answer = lookup_in(&store, TreeName::Time, t, k);
     tell(answer, factor, constant, pages)
 }

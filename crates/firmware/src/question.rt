@@ -7,18 +7,18 @@ ghost use Rattle.firmware.specs.Exported.{Handed, handed_of, store_in};
 
 use c_answers::tell;
 use c_heads::head_of;
-use store::Head;
+use store::{Head, StoreView, TreeView};
 
 // "A question": passes with a key from k1 up to but not k2 that live at a tick from t1 up to but not t2.
 #[unsafe(no_mangle)]
-pub extern "C" fn nimbleshale_question(
+pub extern "C" fn nimbleshale_question<'a>(
     head: &[u32; Head::NUMBERS],
-    start_table: &[u64],
-    start_roots: &[u64],
-    end_table: &[u64],
-    end_roots: &[u64],
-    time_table: &[u64],
-    time_roots: &[u64],
+    start_table: &'a [u64],
+    start_roots: &'a [u64],
+    end_table: &'a [u64],
+    end_roots: &'a [u64],
+    time_table: &'a [u64],
+    time_roots: &'a [u64],
     k1: u32,
     k2: u32,
     t1: u32,
@@ -32,18 +32,22 @@ pub extern "C" fn nimbleshale_question(
         let after : List ℕ = count.new ∷ (sum.new ∷ (pages.new ∷ [])) in
         Tells (perform (store_in handed) (question k1 k2 t1 t2)).answer result before after }
 {
-    let answer = queries::question(
-        head_of(head),
-        start_table,
-        start_roots,
-        end_table,
-        end_roots,
-        time_table,
-        time_roots,
-        k1,
-        k2,
-        t1,
-        t2,
-    );
+    let own_head = head_of(head);
+    let store = StoreView {
+        head: &own_head,
+        starts: TreeView {
+            table: start_table,
+            roots: start_roots,
+        },
+        ends: TreeView {
+            table: end_table,
+            roots: end_roots,
+        },
+        time: TreeView {
+            table: time_table,
+            roots: time_roots,
+        },
+    };
+    let answer = queries::question(&store, k1, k2, t1, t2);
     tell(answer, count, sum, pages)
 }

@@ -9,18 +9,18 @@ ghost use Rattle.firmware.specs.Exported.{Handed, handed_of, store_in, Leaves};
 
 use c_answers::{number_of, refusal_of};
 use c_heads::{head_of, put_head};
-use store::Head;
+use store::{Head, TreeMemory, TreeView};
 
 // A pass starts; its number goes into a lent number.
 #[unsafe(no_mangle)]
-pub extern "C" fn nimbleshale_start(
+pub extern "C" fn nimbleshale_start<'a>(
     head: &mut [u32; Head::NUMBERS],
-    start_table: &mut [u64],
-    start_roots: &mut [u64],
-    end_table: &[u64],
-    end_roots: &[u64],
-    time_table: &mut [u64],
-    time_roots: &mut [u64],
+    start_table: &'a mut [u64],
+    start_roots: &'a mut [u64],
+    end_table: &'a [u64],
+    end_roots: &'a [u64],
+    time_table: &'a mut [u64],
+    time_roots: &'a mut [u64],
     tick: u32,
     key: u32,
     weight: u32,
@@ -34,12 +34,18 @@ pub extern "C" fn nimbleshale_start(
 {
     let reply = updates::start(
         head_of(head),
-        start_table,
-        start_roots,
-        end_table,
-        end_roots,
-        time_table,
-        time_roots,
+        &mut TreeMemory {
+            table: start_table,
+            roots: start_roots,
+        },
+        TreeView {
+            table: end_table,
+            roots: end_roots,
+        },
+        &mut TreeMemory {
+            table: time_table,
+            roots: time_roots,
+        },
         tick,
         key,
         weight,
@@ -53,14 +59,14 @@ pub extern "C" fn nimbleshale_start(
 
 // The pass of a number ends.
 #[unsafe(no_mangle)]
-pub extern "C" fn nimbleshale_end(
+pub extern "C" fn nimbleshale_end<'a>(
     head: &mut [u32; Head::NUMBERS],
-    start_table: &[u64],
-    start_roots: &[u64],
-    end_table: &mut [u64],
-    end_roots: &mut [u64],
-    time_table: &mut [u64],
-    time_roots: &mut [u64],
+    start_table: &'a [u64],
+    start_roots: &'a [u64],
+    end_table: &'a mut [u64],
+    end_roots: &'a mut [u64],
+    time_table: &'a mut [u64],
+    time_roots: &'a mut [u64],
     tick: u32,
     number: u32,
 ) -> u8
@@ -70,12 +76,18 @@ pub extern "C" fn nimbleshale_end(
 {
     let reply = updates::end(
         head_of(head),
-        start_table,
-        start_roots,
-        end_table,
-        end_roots,
-        time_table,
-        time_roots,
+        TreeView {
+            table: start_table,
+            roots: start_roots,
+        },
+        &mut TreeMemory {
+            table: end_table,
+            roots: end_roots,
+        },
+        &mut TreeMemory {
+            table: time_table,
+            roots: time_roots,
+        },
         tick,
         number,
     );
@@ -87,14 +99,14 @@ pub extern "C" fn nimbleshale_end(
 
 // Opens a store in the memory that is lent.
 #[unsafe(no_mangle)]
-pub extern "C" fn nimbleshale_open(
+pub extern "C" fn nimbleshale_open<'a>(
     head: &mut [u32; Head::NUMBERS],
-    start_table: &mut [u64],
-    start_roots: &mut [u64],
-    end_table: &mut [u64],
-    end_roots: &mut [u64],
-    time_table: &mut [u64],
-    time_roots: &mut [u64],
+    start_table: &'a mut [u64],
+    start_roots: &'a mut [u64],
+    end_table: &'a mut [u64],
+    end_roots: &'a mut [u64],
+    time_table: &'a mut [u64],
+    time_roots: &'a mut [u64],
 ) -> u8
     ensures { let before : Handed = handed_of head.old start_table.old start_roots.old end_table.old end_roots.old time_table.old time_roots.old in
         let after : Handed = handed_of head.new start_table.new start_roots.new end_table.new end_roots.new time_table.new time_roots.new in
@@ -102,12 +114,18 @@ pub extern "C" fn nimbleshale_open(
 {
     let reply = opening::open(
         head_of(head),
-        start_table,
-        start_roots,
-        end_table,
-        end_roots,
-        time_table,
-        time_roots,
+        &mut TreeMemory {
+            table: start_table,
+            roots: start_roots,
+        },
+        &mut TreeMemory {
+            table: end_table,
+            roots: end_roots,
+        },
+        &mut TreeMemory {
+            table: time_table,
+            roots: time_roots,
+        },
     );
     put_head(reply.head, Head::PLACES, head);
     let answer = reply.answer;

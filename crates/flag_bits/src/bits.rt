@@ -1,5 +1,5 @@
 // Flags as the bits of a byte.
-ghost use Rattle.std.specs.Prelude.{◌≡◌, cond, not, ◌&&◌, ◌≤◌, ◌<◌};
+ghost use Rattle.std.specs.Prelude.{◌≡◌, ◌<◌};
 ghost use Rattle.register_block.specs.Block.{has_bit, flags_in, flag_byte, any_of_both, flags_cleared};
 
 use register_block::Flags;
@@ -10,14 +10,6 @@ fn has_bit(value: u8, byte: u8) -> bool
     ensures { result ≡ has_bit value byte }
 {
     byte / value % 2 == 1
-}
-
-// What a bit adds to a byte.
-fn bit(value: u8, set: bool) -> u8
-    ensures value { result ≡ cond set value 0 }
-    ensures upper_bound { result ≤ value }
-{
-    if set { value } else { 0 }
 }
 
 // The flags in a byte; its other bits mean nothing.
@@ -35,48 +27,23 @@ pub fn flags_in(byte: u8) -> Flags
 pub fn flag_byte(flags: Flags) -> u8
     ensures { result ≡ flag_byte flags }
 {
-    bit(1, flags.done) + bit(2, flags.refused) + bit(4, flags.full)
+    u8::from(flags.done) + 2 * u8::from(flags.refused) + 4 * u8::from(flags.full)
 }
 
-// A flag is left where no one is written to it.
-fn left(flag: bool, one: bool) -> bool
-    ensures { result ≡ flag && not one }
-{
-    if one {
-        return false;
-    }
-    flag
-}
-
-// "Writing ones to 14 clears those flags."
+// A flag is left where no one is written to it: "Writing ones to 14 clears those flags."
 pub fn cleared(flags: Flags, ones: Flags) -> Flags
     ensures { result ≡ flags_cleared flags ones }
 {
     Flags {
-        done: left(flags.done, ones.done),
-        refused: left(flags.refused, ones.refused),
-        full: left(flags.full, ones.full),
+        done: flags.done && !ones.done,
+        refused: flags.refused && !ones.refused,
+        full: flags.full && !ones.full,
     }
-}
-
-fn both(flag: bool, mask: bool) -> bool
-    ensures { result ≡ flag && mask }
-{
-    if flag {
-        return mask;
-    }
-    false
 }
 
 // Whether "a flag and its mask bit are both set".
 pub fn any_of_both(flags: Flags, mask: Flags) -> bool
     ensures { result ≡ any_of_both flags mask }
 {
-    if both(flags.done, mask.done) {
-        return true;
-    }
-    if both(flags.refused, mask.refused) {
-        return true;
-    }
-    both(flags.full, mask.full)
+    flags.done && mask.done || flags.refused && mask.refused || flags.full && mask.full
 }

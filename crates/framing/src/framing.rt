@@ -28,13 +28,7 @@ fn is_unfinished(code: u8, rest: &[u8]) -> bool
 pub fn must_wait(code: u8, rest: &[u8], ended: bool, room: usize) -> bool
     ensures { result ≡ must_wait room ended code rest.now }
 {
-    if room < LONGEST_ANSWER {
-        return true;
-    }
-    if ended {
-        return false;
-    }
-    is_unfinished(code, rest)
+    room < LONGEST_ANSWER || !ended && is_unfinished(code, rest)
 }
 
 // How many bytes a command has, as far as it has come: the command byte and its operands.
@@ -42,19 +36,12 @@ pub fn command_length(code: u8, rest: &[u8]) -> usize
     ensures value { result ≡ command_length code rest.now }
     ensures upper_bound { result ≤ 1 + length rest.now }
 {
-    let operands = operand_count(code);
-    if rest.len() < operands {
-        return 1 + rest.len();
-    }
-    1 + operands
+    1 + operand_count(code).min(rest.len())
 }
 
 // Whether the run goes on after a command: it is known, and all of it has come. "After 6 or 7 nothing more is read."
 pub fn goes_on(code: u8, rest: &[u8]) -> bool
     ensures { result ≡ goes_on rest.now (kind_of code) }
 {
-    if operand_count(code) == 0 {
-        return false;
-    }
-    !is_unfinished(code, rest)
+    operand_count(code) != 0 && !is_unfinished(code, rest)
 }

@@ -1,16 +1,15 @@
 -- One law for each way through the loop that tests the open passes: `fit_from .. least` is what is still to be tested.
 use Prim.Native.Nat.{ℕ, ◌≤◌, ◌<◌, ◌+◌}
 use native.Mathlib.Numerals.{add-one}
-use mathlib.Core.Path.{◌≡◌, refl, ap, ◌∙◌}
-use mathlib.Core.Bool.{Bool, true, false, ◌&&◌, and-false, and-eq-true_iff}
+use mathlib.Core.Path.{◌≡◌, refl, ◌∙◌}
+use mathlib.Core.Bool.{Bool, true, false, ◌&&◌, and-false}
 use mathlib.Core.List.{List, [], ◌∷◌}
 use lib.Dec.{leb, leb-zero}
-use lib.ListN.{length, get_or}
-use lib.Seq.{slice}
-use borrow.Author.Tests.{le-leb, lt-leb, ltb-true}
+use lib.ListN.{length, get_or, drop}
+use Rattle.std.proofs.lemmas.List.{at_drop_more, at_drop_all}
+use borrow.Author.Tests.{le-leb, lt-leb}
 use Rattle.store.specs.declared.types.OpenPass.{OpenPass}
 use Rattle.store.specs.Head.{pass_fits, passes_fit, rises_to, numbers_rise}
-use Rattle.open_passes.proofs.PassesFrom.{pass_here, no_pass_left}
 
 -- The first number is not below the least that it may be
 abbrev rises_from : ℕ → List OpenPass → Bool
@@ -32,10 +31,6 @@ module _ (started last : ℕ) where
   fit_all [] = refl
   fit_all (p ∷ ps) = rw (leb-zero p.number)
 
-  -- A pass that fits has a number below the number started
-  pub fits_below : (p : OpenPass) → pass_fits started last p ≡ true → p.number < started
-  fits_below p e = let facts = simp and-eq-true_iff at e in ltb-true p.number started facts.1.1.1.0
-
   module _ (least : ℕ) (p : OpenPass) (ps : List OpenPass) where
     cons_next : pass_fits started last p ≡ true → least ≤ p.number → fit_from started last least (p ∷ ps) ≡ fit_from started last (p.number + 1) ps
     unfolding fit_from passes_fit numbers_rise
@@ -49,19 +44,19 @@ module _ (started last : ℕ) where
     unfolding fit_from passes_fit
     cons_not e = rw e
 
-  -- The same, where the passes are those from a place up to the number of open passes
-  module _ (passes : List OpenPass) (count : ℕ) (room : count ≤ length passes) (least place : ℕ) where
-    module _ (d : OpenPass) (more : place < count) where
+  -- The same, where the passes are those from a place on
+  module _ (passes : List OpenPass) (least place : ℕ) where
+    module _ (d : OpenPass) (more : place < length passes) where
       pub fit_next : pass_fits started last (get_or passes place d) ≡ true → least ≤ (get_or passes place d).number
-          → fit_from started last least (slice place count passes) ≡ fit_from started last ((get_or passes place d).number + 1) (slice (place + 1) count passes)
-      fit_next e h = ap (fit_from started last least) (pass_here passes count room place d more) ∙ cons_next least _ _ e h
+          → fit_from started last least (drop place passes) ≡ fit_from started last ((get_or passes place d).number + 1) (drop (place + 1) passes)
+      fit_next e h = at_drop_more (fit_from started last least) passes place d more ∙ cons_next least _ _ e h
 
-      pub fit_low : (get_or passes place d).number < least → fit_from started last least (slice place count passes) ≡ false
-      fit_low h = ap (fit_from started last least) (pass_here passes count room place d more) ∙ cons_low least _ _ h
+      pub fit_low : (get_or passes place d).number < least → fit_from started last least (drop place passes) ≡ false
+      fit_low h = at_drop_more (fit_from started last least) passes place d more ∙ cons_low least _ _ h
 
-      pub fit_not : pass_fits started last (get_or passes place d) ≡ false → fit_from started last least (slice place count passes) ≡ false
-      fit_not e = ap (fit_from started last least) (pass_here passes count room place d more) ∙ cons_not least _ _ e
+      pub fit_not : pass_fits started last (get_or passes place d) ≡ false → fit_from started last least (drop place passes) ≡ false
+      fit_not e = at_drop_more (fit_from started last least) passes place d more ∙ cons_not least _ _ e
 
-    pub fit_none : place ≡ count → fit_from started last least (slice place count passes) ≡ true
+    pub fit_none : length passes ≤ place → fit_from started last least (drop place passes) ≡ true
     unfolding fit_from passes_fit numbers_rise
-    fit_none e = rw (no_pass_left passes count place e)
+    fit_none h = at_drop_all (fit_from started last least) passes place h

@@ -3,7 +3,9 @@ ghost use Rattle.std.specs.Prelude.{◌≤◌};
 
 use crate::history::history;
 use observed::Counts;
-use random_calls::{Keys, NUMBERS, Pace, Shape, draw};
+use pass_list::ListedPass;
+use random_calls::{Keys, PASSES, Pace, Shape, draw};
+use store::TreeMemory;
 
 // How many histories on small parts a group has.
 const SMALL: u32 = 20;
@@ -17,24 +19,6 @@ struct Part {
     turns: u32,
 }
 
-fn lesser(one: usize, other: usize) -> usize
-    ensures upper_bound { result ≤ one }
-    ensures upper_bound_2 { result ≤ other }
-{
-    if one < other {
-        return one;
-    }
-    other
-}
-
-fn least(one: usize, other: usize, third: usize) -> usize
-    ensures upper_bound { result ≤ one }
-    ensures upper_bound_2 { result ≤ other }
-    ensures upper_bound_3 { result ≤ third }
-{
-    lesser(lesser(one, other), third)
-}
-
 // The part of so many words and places at most. A small part has one to eight pages, not all of them whole, and one to six roots.
 fn part_of(random: &mut u64, small: bool, words: usize, places: usize) -> Part
     ensures words_le_words { result.words ≤ words }
@@ -43,8 +27,8 @@ fn part_of(random: &mut u64, small: bool, words: usize, places: usize) -> Part
 {
     if small {
         return Part {
-            words: lesser(tree::PAGE_WORDS + draw(random, 2000) as usize, words),
-            places: lesser(1 + draw(random, 6) as usize, places),
+            words: (tree::PAGE_WORDS + draw(random, 2000) as usize).min(words),
+            places: (1 + draw(random, 6) as usize).min(places),
             anew: 200,
             turns: 420,
         };
@@ -97,29 +81,41 @@ fn shape_of(number: u32) -> Shape {
 
 // A history on the first words of each table and the first places of each root list.
 fn history_on(
-    start_table: &mut [u64],
-    start_roots: &mut [u64],
-    end_table: &mut [u64],
-    end_roots: &mut [u64],
-    time_table: &mut [u64],
-    time_roots: &mut [u64],
-    passes: &mut [u32; NUMBERS],
+    starts: &mut TreeMemory,
+    ends: &mut TreeMemory,
+    time: &mut TreeMemory,
+    passes: &mut [ListedPass; PASSES],
     random: &mut u64,
     shape: Shape,
     small: bool,
 ) -> Counts {
-    let most = least(start_table.len(), end_table.len(), time_table.len());
-    let most_places = least(start_roots.len(), end_roots.len(), time_roots.len());
+    let most = starts
+        .table
+        .len()
+        .min(ends.table.len())
+        .min(time.table.len());
+    let most_places = starts
+        .roots
+        .len()
+        .min(ends.roots.len())
+        .min(time.roots.len());
     let part = part_of(random, small, most, most_places);
-    let words = part.words;
-    let places = part.places;
+    let (start_table, start_roots) = (&mut *starts.table, &mut *starts.roots);
+    let (end_table, end_roots) = (&mut *ends.table, &mut *ends.roots);
+    let (time_table, time_roots) = (&mut *time.table, &mut *time.roots);
     history(
-        &mut start_table[..words],
-        &mut start_roots[..places],
-        &mut end_table[..words],
-        &mut end_roots[..places],
-        &mut time_table[..words],
-        &mut time_roots[..places],
+        &mut TreeMemory {
+            table: &mut start_table[..part.words],
+            roots: &mut start_roots[..part.places],
+        },
+        &mut TreeMemory {
+            table: &mut end_table[..part.words],
+            roots: &mut end_roots[..part.places],
+        },
+        &mut TreeMemory {
+            table: &mut time_table[..part.words],
+            roots: &mut time_roots[..part.places],
+        },
         passes,
         random,
         shape,
@@ -130,33 +126,17 @@ fn history_on(
 
 // A group of histories, by its number.
 pub fn group_of(
-    start_table: &mut [u64],
-    start_roots: &mut [u64],
-    end_table: &mut [u64],
-    end_roots: &mut [u64],
-    time_table: &mut [u64],
-    time_roots: &mut [u64],
-    passes: &mut [u32; NUMBERS],
+    starts: &mut TreeMemory,
+    ends: &mut TreeMemory,
+    time: &mut TreeMemory,
+    passes: &mut [ListedPass; PASSES],
     number: u32,
 ) -> Counts {
     let shape = shape_of(number);
     let mut random = number as u64 + 1;
-    let mut counts = Counts::none();
-    let mut left = SMALL + 1;
-    while 0 < left {
-        left -= 1;
-        let more = history_on(
-            start_table,
-            start_roots,
-            end_table,
-            end_roots,
-            time_table,
-            time_roots,
-            passes,
-            &mut random,
-            shape,
-            0 < left,
-        );
+    let mut counts = Counts::default();
+    for run in 0..SMALL + 1 {
+        let more = history_on(starts, ends, time, passes, &mut random, shape, run < SMALL);
         counts = counts.plus(more);
     }
     counts

@@ -2,12 +2,12 @@
 ghost use Rattle.std.specs.Prelude.{◌≤◌, ◌<◌};
 
 use made_calls::made;
-use observed::{Counts, Lives, head_agrees, height, higher, same};
+use observed::{Counts, Lives, head_agrees, height};
 use outcomes::Outcome;
 use pass_book::{Call, book_turn};
-use pass_list::PassBook;
-use random_calls::{NUMBERS, PASSES, Shape, next_call};
-use store::{Answer, Head};
+use pass_list::{ListedPass, PassBook};
+use random_calls::{PASSES, Shape, next_call};
+use store::{Answer, Head, TreeMemory};
 
 // Where a history has come to: the head, the book, what was compared and reached, and the next call.
 #[derive(Clone, Copy)]
@@ -23,7 +23,7 @@ pub struct Run {
 fn with_room(book: PassBook) -> PassBook
     ensures { result.started < 2000 }
 {
-    if book.started < PASSES {
+    if (book.started as usize) < PASSES {
         return book;
     }
     PassBook {
@@ -35,16 +35,12 @@ fn with_room(book: PassBook) -> PassBook
 // The book's answer with the pages opened, which are the store's to say.
 fn with_pages(answer: Answer, opened: u32) -> Answer {
     match answer {
-        Answer::Totals {
-            count,
-            sum,
-            pages: _,
-        } => Answer::Totals {
+        Answer::Totals { count, sum, .. } => Answer::Totals {
             count,
             sum,
             pages: opened,
         },
-        Answer::BatTime { total, pages: _ } => Answer::BatTime {
+        Answer::BatTime { total, .. } => Answer::BatTime {
             total,
             pages: opened,
         },
@@ -54,33 +50,22 @@ fn with_pages(answer: Answer, opened: u32) -> Answer {
 
 // Whether an answer is one after which the lent words are as before: a refusal, totals or bat-time.
 fn leaves_words(answer: Answer) -> bool {
-    match answer {
-        Answer::Refused(_) => true,
-        Answer::Opened => false,
-        Answer::Started(_) => false,
-        Answer::Ended => false,
-        Answer::Totals {
-            count: _,
-            sum: _,
-            pages: _,
-        } => true,
-        Answer::BatTime { total: _, pages: _ } => true,
-    }
+    matches!(
+        answer,
+        Answer::Refused(_) | Answer::Totals { .. } | Answer::BatTime { .. }
+    )
 }
 
 // Whether the words were left as they were, where they should be.
 fn words_kept(answer: Answer, unchanged: bool) -> bool {
-    if leaves_words(answer) {
-        return unchanged;
-    }
-    true
+    !leaves_words(answer) || unchanged
 }
 
 // What was compared before, and now the answers, the head with the list, and the words with those before.
 fn judged(counts: Counts, outcome: Outcome, said: Answer, agrees: bool) -> Counts {
     let found = outcome.answer;
     let called = counts.called(found, outcome.hints.for_time);
-    let answered = called.judged(same(found, said));
+    let answered = called.judged(found == said);
     answered
         .judged(agrees)
         .judged(words_kept(said, outcome.unchanged))
@@ -90,7 +75,7 @@ fn judged(counts: Counts, outcome: Outcome, said: Answer, agrees: bool) -> Count
 fn put_to_book(
     run: Run,
     outcome: Outcome,
-    passes: &mut [u32; NUMBERS],
+    passes: &mut [ListedPass; PASSES],
     random: &mut u64,
     shape: Shape,
     anew: u32,
@@ -118,43 +103,26 @@ fn put_to_book(
 // One turn: the next call is made on the store and put to the book.
 fn turn(
     run: Run,
-    start_table: &mut [u64],
-    start_roots: &mut [u64],
-    end_table: &mut [u64],
-    end_roots: &mut [u64],
-    time_table: &mut [u64],
-    time_roots: &mut [u64],
-    passes: &mut [u32; NUMBERS],
+    starts: &mut TreeMemory,
+    ends: &mut TreeMemory,
+    time: &mut TreeMemory,
+    passes: &mut [ListedPass; PASSES],
     random: &mut u64,
     shape: Shape,
     anew: u32,
 ) -> Run
     requires { 1 ≤ anew }
 {
-    let head = run.head;
-    let call = run.call;
-    let outcome = made(
-        head,
-        start_table,
-        start_roots,
-        end_table,
-        end_roots,
-        time_table,
-        time_roots,
-        call,
-    );
+    let outcome = made(run.head, starts, ends, time, run.call);
     put_to_book(run, outcome, passes, random, shape, anew)
 }
 
 // So many turns. The first opens the store, over memory that may hold anything, and once in `anew` turns it is opened anew.
 pub fn history(
-    start_table: &mut [u64],
-    start_roots: &mut [u64],
-    end_table: &mut [u64],
-    end_roots: &mut [u64],
-    time_table: &mut [u64],
-    time_roots: &mut [u64],
-    passes: &mut [u32; NUMBERS],
+    starts: &mut TreeMemory,
+    ends: &mut TreeMemory,
+    time: &mut TreeMemory,
+    passes: &mut [ListedPass; PASSES],
     random: &mut u64,
     shape: Shape,
     anew: u32,
@@ -168,30 +136,15 @@ pub fn history(
             last: 0,
             started: 0,
         },
-        counts: Counts::none(),
-        lives: Lives::none(),
+        counts: Counts::default(),
+        lives: Lives::default(),
         call: Call::Open,
     };
-    let mut left = turns;
-    while 0 < left {
-        run = turn(
-            run,
-            start_table,
-            start_roots,
-            end_table,
-            end_roots,
-            time_table,
-            time_roots,
-            passes,
-            random,
-            shape,
-            anew,
-        );
-        left -= 1;
+    for _ in 0..turns {
+        run = turn(run, starts, ends, time, passes, random, shape, anew);
     }
-    let starts = height(start_table, start_roots, run.head.starts.roots);
-    let ends = height(end_table, end_roots, run.head.ends.roots);
-    let time = height(time_table, time_roots, run.head.time.roots);
-    run.counts
-        .ended(higher(higher(starts, ends), time), run.lives)
+    let highest = height(starts.view(), run.head.starts.roots)
+        .max(height(ends.view(), run.head.ends.roots))
+        .max(height(time.view(), run.head.time.roots));
+    run.counts.ended(highest, run.lives)
 }

@@ -1,13 +1,14 @@
 // One command: its operands taken from bytes, and a call of the store.
 ghost use Rattle.std.specs.Prelude.{◌≡◌};
-ghost use Rattle.store.specs.Trees.{Lent, lent_of, Store, store_of};
+ghost use Rattle.store.specs.Trees.{Lent, Store};
+ghost use Rattle.store.specs.Lending.{words_of, lent_to_trees, store_with, store_seen, SameSlices};
 ghost use Rattle.replies.specs.Replies.{RepliedAs};
 ghost use Rattle.command.specs.Stream.{is_query, query_kind, kind_of, answered};
 
 use codec::{number2, number4};
 use event_commands::run_event;
 use replies::Reply;
-use store::{Answer, Head};
+use store::{Answer, Head, Refusal, StoreView, TreeMemory};
 
 // The command bytes of the queries, which only read the store.
 pub const QUESTION: u8 = 3;
@@ -18,90 +19,51 @@ pub const BAT_TIME: u8 = 4;
 pub fn is_query(code: u8) -> bool
     ensures { result ≡ is_query code }
 {
-    if code == QUESTION {
-        return true;
-    }
-    code == BAT_TIME
+    code == QUESTION || code == BAT_TIME
 }
 
-// "k1 2, k2 2, t1 4, t2 4", of a question and of bat-time. The head stays, and every lent word: the answer is all that is handed back, so that no caller pays for a second
-// head.
-pub fn answer_query(
-    head: Head,
-    start_table: &[u64],
-    start_roots: &[u64],
-    end_table: &[u64],
-    end_roots: &[u64],
-    time_table: &[u64],
-    time_roots: &[u64],
-    code: u8,
-    operands: &[u8],
-) -> Answer
-    ensures { let s : Store = store_of head start_table.now start_roots.now end_table.now end_roots.now time_table.now time_roots.now in
-        result ≡ (answered s operands.now (query_kind code)).answer }
+// "k1 2, k2 2, t1 4, t2 4", of a question and of bat-time. The head stays, and every lent word: the answer is all that is handed back.
+pub fn answer_query(store: &StoreView, code: u8, operands: &[u8]) -> Answer
+    ensures { result ≡ (answered (store_seen store.now) operands.now (query_kind code)).answer }
 {
     if operands.len() < 12 {
-        return Answer::Refused(7);
+        return Answer::from(Refusal::OperandsMissing);
     }
-    let k1 = number2(operands, 0);
-    let k2 = number2(operands, 2);
-    let t1 = number4(operands, 4);
-    let t2 = number4(operands, 8);
     queries::query(
-        head,
-        start_table,
-        start_roots,
-        end_table,
-        end_roots,
-        time_table,
-        time_roots,
+        store,
         code == BAT_TIME,
-        k1,
-        k2,
-        t1,
-        t2,
+        number2(operands, 0),
+        number2(operands, 2),
+        number4(operands, 4),
+        number4(operands, 8),
     )
 }
 
 // Runs a command, from its command byte and the bytes that follow it.
 pub fn run_command(
     head: Head,
-    start_table: &mut [u64],
-    start_roots: &mut [u64],
-    end_table: &mut [u64],
-    end_roots: &mut [u64],
-    time_table: &mut [u64],
-    time_roots: &mut [u64],
+    starts: &mut TreeMemory,
+    ends: &mut TreeMemory,
+    time: &mut TreeMemory,
     code: u8,
     operands: &[u8],
 ) -> Reply
-    ensures { let s : Store = store_of head start_table.old start_roots.old end_table.old end_roots.old time_table.old time_roots.old in
-        let left : Lent = lent_of start_table.new start_roots.new end_table.new end_roots.new time_table.new time_roots.new in
+    ensures same_starts { SameSlices starts.old starts.new }
+    ensures same_ends { SameSlices ends.old ends.new }
+    ensures same_time { SameSlices time.old time.new }
+    ensures replied { let s : Store = store_with head (words_of starts.old) (words_of ends.old) (words_of time.old) in
+        let left : Lent = lent_to_trees (words_of starts.new) (words_of ends.new) (words_of time.new) in
         RepliedAs (answered s operands.now (kind_of code)) result left }
 {
     if is_query(code) {
-        let answer = answer_query(
-            head,
-            start_table,
-            start_roots,
-            end_table,
-            end_roots,
-            time_table,
-            time_roots,
-            code,
-            operands,
-        );
+        let store = StoreView {
+            head: &head,
+            starts: starts.view(),
+            ends: ends.view(),
+            time: time.view(),
+        };
+        let answer = answer_query(&store, code, operands);
         return Reply { answer, head };
     }
-    run_event(
-        head,
-        start_table,
-        start_roots,
-        end_table,
-        end_roots,
-        time_table,
-        time_roots,
-        code,
-        operands,
-    )
+    run_event(head, starts, ends, time, code, operands)
 }

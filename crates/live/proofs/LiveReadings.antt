@@ -2,26 +2,29 @@
 use Prim.Native.Nat.{ℕ, zero, suc, ◌+◌, ◌*◌, ◌%◌, ◌≤◌, ◌<◌}
 use native.Mathlib.Omega.{arith}
 use native.Mathlib.Decide.{dec_le}
-use mathlib.Core.Path.{◌≡◌, refl, sym, ap, ap₂, subst, ◌∙◌}
+use mathlib.Core.Path.{◌≡◌, refl, sym, ap, ap₂, ◌∙◌}
 use mathlib.Core.Bool.{Bool, true, false, cond, ◌&&◌, and-eq-true_iff}
 use mathlib.Core.List.{List, [], ◌∷◌, map}
 use lib.Dec.{leb, ltb}
 use lib.ListN.{length, get_or, take, length-map}
 use borrow.Author.Tests.{leb-false, le-leb, lt-leb, lt-ltb, le-ltb}
+use Rattle.std.specs.Prelude.{Result, Ok, Err}
 use Rattle.words.specs.declared.value.Value.{Value}
 use Rattle.words.specs.Value as value
 use Rattle.words.specs.Value.{plus, value_at}
 use Rattle.words.proofs.ValueLaws.{Stored, plus_stored, plus_zero, zero_plus, plus_assoc}
 use Rattle.tree.specs.declared.types.Row.{Row}
-use Rattle.tree.specs.declared.types.Held.TheVariants.{Found}
-use Rattle.tree.specs.declared.types.TreeUse.{TreeUse}
+use Rattle.tree.specs.declared.types.SpoiledPage.{SpoiledPage}
+use Rattle.tree.specs.declared.types.Held.{Held}
+use Rattle.tree.specs.declared.pages.TreePages.{TreePages}
+use Rattle.tree.specs.declared.pages.ExpectedPage.{ExpectedPage}
 use Rattle.tree.specs.Row.{word, page_words, row_at, row_start, row_words, rows_from, rows_of, header_words, holds, row_limit, live, value_start}
 use Rattle.tree.specs.KeyOrder.{Placed, placed_low, placed_high, keep_if, live_placed, key_order}
 use Rattle.tree.specs.PageTest.{header_fits, rows_tile, sound_at}
 use Rattle.tree.specs.TrueValue.{Search, none, one, first, total_where, row_value, holding_row, held_as}
 use Rattle.tree.specs.Tree.{page_at, met_at}
 use Rattle.tree.specs.Use.{in_use}
-use Rattle.tree.specs.Taking.{InUse, rootless}
+use Rattle.tree.specs.Taking.{tree_of_pages, InUse}
 use Rattle.tree.proofs.TableLaws.{page_length}
 use Rattle.tree.proofs.Lists as lists
 use Rattle.tree.proofs.Lists.{All, all_map, all_at}
@@ -34,10 +37,8 @@ use Rattle.words.specs.Sums.{count}
 use Rattle.ranges.specs.KeyRanges.{range_of, range_low, range_high, place_in, holds_key}
 use Rattle.live.specs.LiveRows.{live_rows, Listed, AllIn}
 use Rattle.tiles.specs.TileTest.{tiles}
-use Rattle.ranges.specs.declared.search.Place.TheVariants.{At, Missing}
+use Rattle.std.specs.declared.option.Option.TheVariants.{Some, None}
 use Rattle.ranges.specs.Nearest.{no_range, least, place_at, place_found}
-use Rattle.live.specs.declared.test.Tested.{Tested}
-use Rattle.live.specs.declared.test.Tested.TheVariants.{Spoiled, Sound}
 use Rattle.live.specs.Tested.{TestedAs, ListsFit, held_tested, opened}
 use Rattle.live.specs.LiveHeld.{add_below, held_at_place, held_among, survey_among}
 use Rattle.rows.proofs.SeatedRows.{Seated, low_fits, high_fits, live_more, live_seated, live_from, order_seated}
@@ -217,14 +218,17 @@ module _ (page : List ℕ) (t n : ℕ) (few : n ≤ row_limit) where
       ap (held_at_place page (map range_of (live_rows t page n)) (map place_in (live_rows t page n))) (holds_says k)
       ∙ go (holding_row t k (rows_from page header_words n)) refl
     where
+      holder : Row → Value → Result Held SpoiledPage
+      holder r v = Ok (record { row = r; value = v })
+
       go : (s : Search Placed) → holding_row t k (rows_from page header_words n) ≡ s →
           held_at_place page (map range_of (live_rows t page n)) (map place_in (live_rows t page n)) (place_found s)
           ≡ held_as t (rows_from page header_words n) s
       go none e = refl
       go (one x) e =
           let s = first_has (Seated page n) _ _ (order_seated page n t 0 n (omega arith)) e in
-          ap (λ (r : Row). Found r (plus r.value (add_below page r.low value.zero (map range_of (live_rows t page n)) (map place_in (live_rows t page n))))) (sym s.same)
-          ∙ ap (λ (v : Value). Found x.row (plus x.row.value v)) (total_says x.row.low)
+          ap (λ (r : Row). holder r (plus r.value (add_below page r.low value.zero (map range_of (live_rows t page n)) (map place_in (live_rows t page n))))) (sym s.same)
+          ∙ ap (λ (v : Value). holder x.row (plus x.row.value v)) (total_says x.row.low)
 
 -- The survey from the lists is the page's
 pub survey_says : (t k : ℕ) (page : List ℕ) → word page 1 ≤ row_limit →
@@ -241,11 +245,11 @@ survey_says t k page few =
 
 -- The place that a search finds is one of those listed, so its row lies in the page
 pub place_in_lem : (page ranges places : List ℕ) (from below above : ℕ) → length ranges ≤ row_limit → length places ≡ length ranges →
-    AllIn page places → {p : ℕ} → At p ≡ place_at places (least from below above 0 ranges) → row_start p + row_words ≤ length page
+    AllIn page places → {p : ℕ} → Some p ≡ place_at places (least from below above 0 ranges) → row_start p + row_words ≤ length page
 place_in_lem page ranges places from below above few same h {p} e = go (leb no_range (least from below above 0 ranges)) refl e
   where
     go : (b : Bool) → leb no_range (least from below above 0 ranges) ≡ b →
-        At p ≡ cond b Missing (At (get_or places (least from below above 0 ranges % 256) 0)) → row_start p + row_words ≤ length page
+        Some p ≡ cond b None (Some (get_or places (least from below above 0 ranges % 256) 0)) → row_start p + row_words ≤ length page
     go true f r = let z : ◌≡◌ {A = ℕ} 0 1 = cc in absurd (omega arith)
     go false f r =
         let inside = least_inside from below above 0 ranges (omega arith) (leb-false no_range (least from below above 0 ranges) f) in
@@ -254,9 +258,6 @@ place_in_lem page ranges places from below above few same h {p} e = go (leb no_r
 
 -- What the test of a page leaves
 module _ (t level low high : ℕ) (page ranges places : List ℕ) where
-  pub unfit : header_fits level low high page ≡ false → sound_at t level low high page ≡ false
-  unfit e = rw e
-
   module _ (some : low < high) (fits : header_fits level low high page ≡ true) where
     pub few_rows : word page 1 ≤ row_limit
     few_rows = (header_facts level low high page fits).few_rows
@@ -264,21 +265,6 @@ module _ (t level low high : ℕ) (page ranges places : List ℕ) where
     -- the tile test of the listed rows
     pub tested_says : (n : ℕ) → Listed t page (word page 1) ranges places n → tiles low high (take n ranges) ≡ sound_at t level low high page
     tested_says n l = rw (l.ranges_are, tile_says page t (word page 1) few_rows low high some, fits)
-
--- What it says of a page that it calls spoiled, or sound
-module _ (sound : Bool) (t : ℕ) (page ranges places : List ℕ) {r : Tested} where
-  pub tested_spoiled : r ≡ Spoiled → TestedAs sound t page ranges places r → sound ≡ false
-  tested_spoiled e h = subst (λ (s : Tested). TestedAs sound t page ranges places s) e h
-
-  pub tested_sound : {n : ℕ} → r ≡ Sound n → TestedAs sound t page ranges places r → (sound ≡ true) × Listed t page (word page 1) ranges places n
-  tested_sound e h = subst (λ (s : Tested). TestedAs sound t page ranges places s) e h
-
--- In the table: the page is tested on its own words, where its number is one in use
-pub met_tested : (table : List ℕ) (used : TreeUse) (t level low high page : ℕ) (words ranges places : List ℕ) (r : Tested) → InUse used page → words ≡ page_at table page
-    → TestedAs (sound_at t level low high words) t words ranges places r
-    → TestedAs (met_at (rootless table used) t level low high page) t (page_at table page) ranges places r
-met_tested table used t level low high page words ranges places r is_in_use is h =
-    rw is_in_use (subst (λ (w : List ℕ). TestedAs (sound_at t level low high w) t w ranges places r) is h)
 
 -- The lists, said of the parts of the arrays that are lent on
 module _ (t : ℕ) (page : List ℕ) (rows : ℕ) (ranges places : List ℕ) (n : ℕ) (l : Listed t page rows ranges places n) where
@@ -305,42 +291,37 @@ module _ (t : ℕ) (page ranges places : List ℕ) (n : ℕ) (few : word page 1 
   survey_listed k = rw (l.ranges_are, l.places_are) (survey_says t k page few)
 
 -- A page of the table that passed its test: it lies in the table, and its live rows are listed
-module _ (table : List ℕ) (used : TreeUse) (t level low high page : ℕ) (in_table : used.pages * page_words ≤ length table)
-    (met : met_at (rootless table used) t level low high page ≡ true) where
-  pub met_inside : page * page_words + page_words ≤ length table
-  met_inside = in_use_inside used page table ((and-eq-true_iff (in_use used page) (sound_at t level low high (page_at table page))).0 met).0 in_table
+module _ (pages : TreePages) (t : ℕ) (e : ExpectedPage) where
+  abbrev meets : Bool
+  meets = met_at (tree_of_pages pages) t e.level e.low e.high e.page
 
-  pub met_few : word (page_at table page) 1 ≤ row_limit
-  met_few = sound_few t level low high (page_at table page) ((and-eq-true_iff (in_use used page) (sound_at t level low high (page_at table page))).0 met).1
+  abbrev words : List ℕ
+  words = page_at pages.table.now e.page
 
-  met_places : (ranges places : List ℕ) (n : ℕ) → Listed t (page_at table page) (word (page_at table page) 1) ranges places n → AllIn (page_at table page) (take n places)
-  met_places ranges places n l =
-      listed_in t (page_at table page) ranges places n met_few l (omega (arith, met_few, page_length table page met_inside))
+  module _ (met : meets ≡ true) where
+    parts : InUse pages.used e.page × (sound_at t e.level e.low e.high words ≡ true)
+    parts = (and-eq-true_iff (in_use pages.used e.page) (sound_at t e.level e.low e.high words)).0 met
 
-  pub met_survey_lem : (words : List ℕ) → words ≡ page_at table page → (ranges places : List ℕ) (n : ℕ)
-      → Listed t (page_at table page) (word (page_at table page) 1) ranges places n → (k : ℕ)
-      → survey_among (word words 1) k (take n ranges) (take n places) ≡ survey_of t k (page_at table page)
-  met_survey_lem words here ranges places n l k = rw here (survey_listed t (page_at table page) ranges places n met_few l k)
+    pub met_inside : e.page * page_words + page_words ≤ length pages.table.now
+    met_inside = in_use_inside pages.used e.page pages.table.now parts.0 pages.page_words_in_bounds
 
--- What is read from the lists that opening a page made
-pub lists_sound : (table : List ℕ) (page : ℕ) (ranges places : List ℕ) {r : Tested} {n : ℕ} → r ≡ Sound n → ListsFit table page ranges places r
-    → ListsFit table page ranges places (Sound n)
-lists_sound table page ranges places e h = subst (λ (s : Tested). ListsFit table page ranges places s) e h
+    pub met_few : word words 1 ≤ row_limit
+    met_few = sound_few t e.level e.low e.high words parts.1
 
-module _ (table : List ℕ) (used : TreeUse) (t level low high page : ℕ) (in_table : used.pages * page_words ≤ length table) (ranges places : List ℕ) where
-  pub opened_fits : (r : Tested) → TestedAs (met_at (rootless table used) t level low high page) t (page_at table page) ranges places r
-      → ListsFit table page ranges places r
-  opened_fits Spoiled h = tt
-  opened_fits (Sound n) h = (
-    met_inside table used t level low high page in_table h.0,
-    h.1.bounded,
-    ranges_length _ _ _ _ _ _ h.1,
-    places_length _ _ _ _ _ _ h.1,
-    met_places table used t level low high page in_table h.0 ranges places n h.1,
-  )
+    met_places : (ranges places : List ℕ) (n : ℕ) → Listed t words (word words 1) ranges places n → AllIn words (take n places)
+    met_places ranges places n l = listed_in t words ranges places n met_few l (omega (arith, met_few, page_length pages.table.now e.page met_inside))
 
-  pub opened_held : (k : ℕ) (r : Tested) → TestedAs (met_at (rootless table used) t level low high page) t (page_at table page) ranges places r
-      → held_tested table page ranges places k r ≡ opened (rootless table used) t k level low high page
-  opened_held k Spoiled h = rw h
-  opened_held k (Sound n) h =
-      rw h.0 (held_listed t (page_at table page) ranges places n (met_few table used t level low high page in_table h.0) h.1 k)
+    pub met_survey_lem : (w : List ℕ) → w ≡ words → (ranges places : List ℕ) (n : ℕ) → Listed t words (word words 1) ranges places n → (k : ℕ)
+        → survey_among (word w 1) k (take n ranges) (take n places) ≡ survey_of t k words
+    met_survey_lem w here ranges places n l k = rw here (survey_listed t words ranges places n met_few l k)
+
+  -- What is read from the lists that opening the page made
+  module _ (ranges places : List ℕ) where
+    pub opened_fits : (r : Result ℕ SpoiledPage) → TestedAs meets t words ranges places r → ListsFit pages.table.now e.page ranges places r
+    opened_fits (Err e) h = tt
+    opened_fits (Ok n) h = (met_inside h.0, h.1.bounded, ranges_length _ _ _ _ _ _ h.1, places_length _ _ _ _ _ _ h.1, met_places h.0 ranges places n h.1)
+
+    pub opened_held : (k : ℕ) (r : Result ℕ SpoiledPage) → TestedAs meets t words ranges places r
+        → held_tested pages.table.now e.page ranges places k r ≡ opened (tree_of_pages pages) t k e.level e.low e.high e.page
+    opened_held k (Err e) h = rw h
+    opened_held k (Ok n) h = rw h.0 (held_listed t words ranges places n (met_few h.0) h.1 k)

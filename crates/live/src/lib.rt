@@ -8,4 +8,4 @@ mod survey;
 mod test;
 
 pub use held::{HeldTwo, read_page, read_page_for_two};
-pub use survey::{Survey, Surveyed, survey_page, survey_sound};
+pub use survey::{Survey, survey_page, survey_sound};

@@ -1,7 +1,7 @@
 // The rows of a page that are live at a tick, as two arrays in the order of the rows' places: their key ranges, and their places.
 // They are not put in key order. Whether they hold each key once, which of them holds a key, and what the lower ones add up to is found
 // without, by loops over small numbers that a processor takes several at a time.
-ghost use Rattle.std.specs.Prelude.{◌≡◌, cond, ◌+◌, ◌≤◌, length};
+ghost use Rattle.std.specs.Prelude.{◌≡◌, ◌+◌, ◌≤◌, length};
 ghost use Rattle.words.specs.Words.{birth_of, end_of};
 ghost use Rattle.tree.specs.Row.{row_start, row_limit, live_for};
 ghost use Rattle.live.specs.LiveRows.{ended_by, Listed};
@@ -24,17 +24,6 @@ fn is_live_past(life: u64, t: u32, ended: u64) -> bool
     words::birth_of(life) <= t && ended < life
 }
 
-// 1 for a row with this word 1 that is live at t, else 0.
-fn count_live(life: u64, t: u32, ended: u64) -> usize
-    requires { ended ≡ ended_by t }
-    ensures { result ≡ cond (live_for (birth_of life) (end_of life) t) 1 0 }
-{
-    if is_live_past(life, t, ended) {
-        return 1;
-    }
-    0
-}
-
 // Leaves the page's live rows at the front of both arrays and returns how many there are. Every row is written behind the live ones so far,
 // and the next is written over it unless it is live: no branch depends on a row.
 pub fn list_live(page: &[u64], rows: usize, t: u32, ranges: &mut [u32], places: &mut [u8]) -> usize
@@ -46,13 +35,11 @@ pub fn list_live(page: &[u64], rows: usize, t: u32, ranges: &mut [u32], places: 
 {
     let ended = ended_by(t);
     let mut count: usize = 0;
-    let mut place: usize = 0;
-    while place < rows {
+    for place in 0..rows {
         let at = row_start(place);
         ranges[count] = range_of(page[at]);
         places[count] = place as u8;
-        count += count_live(page[at + 1], t, ended);
-        place += 1;
+        count += usize::from(is_live_past(page[at + 1], t, ended));
     }
     count
 }

@@ -1,33 +1,26 @@
 // What entering a point has to know of a page's rows before any row is changed.
-ghost use Rattle.std.specs.Prelude.{◌≡◌, cond, ◌*◌, ◌≤◌, ◌<◌, length};
-ghost use Rattle.live.specs.declared.survey.Surveyed.TheVariants.{Spoiled, Sound};
+ghost use Rattle.std.specs.Prelude.{◌≡◌, cond, ◌≤◌, length, Ok};
 ghost use Rattle.tree.specs.Row.{word, page_words, row_limit};
 ghost use Rattle.tree.specs.Tree.{page_at, met_at};
-ghost use Rattle.tree.specs.Taking.{rootless};
+ghost use Rattle.tree.specs.Spoiled.{spoiled};
+ghost use Rattle.tree.specs.Taking.{tree_of_pages};
 ghost use Rattle.live.specs.LiveHeld.{survey_among};
 ghost use Rattle.live.specs.Survey.{survey_of};
 
 use crate::live::list_live;
-use crate::test::{Tested, open_page};
+use crate::test::open_page;
 use page::Page;
-use ranges::{Place, find_place};
+use ranges::find_place;
 use rows::page_at;
-use tree::TreeUse;
+use tree::{ExpectedPage, SpoiledPage, TreePages};
 
 // How many rows a page has, how many of them are live, the row around a key, and the first row that starts at the key or above.
 #[derive(Clone, Copy)]
 pub struct Survey {
     pub rows: usize,
     pub live: usize,
-    pub inner: Place,
-    pub gain: Place,
-}
-
-// What the survey of a page finds: a spoiled page, or a sound one.
-#[derive(Clone, Copy)]
-pub enum Surveyed {
-    Spoiled,
-    Sound(Survey),
+    pub inner: Option<usize>,
+    pub gain: Option<usize>,
 }
 
 // The survey of a page of so many rows, from its live rows.
@@ -62,36 +55,17 @@ pub fn survey_page(page: &[u64], t: u32, k: u16) -> Survey
 
 // The survey of a page of the table that is one of the expected level and key range.
 pub fn survey_sound(
-    table: &[u64],
-    used: TreeUse,
-    page: u32,
-    level: u64,
-    low: u16,
-    high: u16,
+    tree: TreePages,
+    expected: ExpectedPage,
     t: u32,
     k: u16,
-) -> Surveyed
-    requires page_words_in_bounds { used.pages * page_words ≤ length table.now }
-    requires low_lt_high { low < high }
-    ensures { result ≡ cond (met_at (rootless table.now used) t level low high page) (Sound (survey_of t k (page_at table.now page))) Spoiled }
+) -> Result<Survey, SpoiledPage>
+    ensures { result ≡ cond (met_at (tree_of_pages tree.entry) t expected.level expected.low expected.high expected.page) (Ok (survey_of t k (page_at tree.entry.table.now expected.page))) spoiled }
 {
     let mut ranges = [0u32; Page::ROWS];
     let mut places = [0u8; Page::ROWS];
-    let tested = open_page(
-        table,
-        used,
-        page,
-        level,
-        low,
-        high,
-        t,
-        &mut ranges,
-        &mut places,
-    );
-    let Tested::Sound(count) = tested else {
-        return Surveyed::Spoiled;
-    };
-    let words = page_at(table, page);
+    let count = open_page(tree, expected, t, &mut ranges, &mut places)?;
+    let words = page_at(tree.table, expected.page);
     let rows = words[1] as usize;
-    Surveyed::Sound(survey_live(&ranges[..count], &places[..count], rows, k))
+    Ok(survey_live(&ranges[..count], &places[..count], rows, k))
 }

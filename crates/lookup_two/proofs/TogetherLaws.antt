@@ -1,6 +1,7 @@
 -- Two lookups as long as their paths have the same pages.
-use Prim.Native.Nat.{ℕ, ◌+◌, ◌-◌, ◌<◌}
-use mathlib.Core.Path.{◌≡◌, sym, subst, ◌∙◌}
+use Prim.Native.Nat.{ℕ, ◌+◌, ◌-◌}
+use mathlib.Core.Path.{◌≡◌, sym, ◌∙◌}
+use Rattle.std.specs.Prelude.{Result}
 use Rattle.words.specs.declared.value.Value.{Value}
 use Rattle.words.specs.Value.{plus, zero}
 use Rattle.tree.specs.declared.types.Row.{Row}
@@ -8,31 +9,23 @@ use Rattle.tree.specs.declared.types.Held.{Held}
 use Rattle.tree.specs.declared.types.Lookup.{Lookup}
 use Rattle.tree.specs.Tree.{Tree}
 use Rattle.tree.specs.Lookup.{lookup_from}
-use Rattle.lookup_two.specs.declared.together.Fork.{Fork}
-use Rattle.lookup_two.specs.declared.together.Fork.TheVariants.{Shared}
+use Rattle.tree.specs.declared.types.SpoiledPage.{SpoiledPage}
 use Rattle.live.specs.Tested.{opened}
 use Rattle.lookup.specs.Descent.{onward, Wide, lookup_held}
-use Rattle.lookup_two.specs.Together.{LeadsAs, ForkAs}
-use Rattle.lookup.proofs.HeldRanges.{opened_wide, row_wide}
+use Rattle.lookup_two.specs.Together.{LeadsAs}
+use Rattle.lookup.proofs.HeldRanges.{opened_wide}
 use Rattle.lookup.proofs.LookupLaws.{way_start, way_down}
 
-pub fork_shared : (level : ℕ) (lower upper : Held) {f : Fork} {row : Row} {v w : Value} → f ≡ Shared row v w → ForkAs level lower upper f
-    → ForkAs level lower upper (Shared row v w)
-fork_shared level lower upper e is = subst (λ (f : Fork). ForkAs level lower upper f) e is
-
-pub leads_wide : (row : Row) {h : Held} {v : Value} → LeadsAs row h v → Wide h → row.low < row.high
-leads_wide row own wide = rw (← own.3, ← own.4) (row_wide own.1 wide)
-
 -- One of the two lookups on its way: what it has, and what its page leads to, is its answer
-module _ (tree : Tree) (t k : ℕ) (answer : Lookup) where
-  abbrev pub OnWay : ℕ → Held → Value → ℕ → Type 0
+module _ (tree : Tree) (t k : ℕ) (answer : Result Lookup SpoiledPage) where
+  abbrev pub OnWay : ℕ → Result Held SpoiledPage → Value → ℕ → Type 0
   OnWay level h total pages = Wide h × (onward total pages (lookup_held tree t k level h) ≡ answer)
 
-  pub on_start : (level low high page : ℕ) {h : Held} {total : Value} → total ≡ zero → h ≡ opened tree t k level low high page
+  pub on_start : (level low high page : ℕ) {h : Result Held SpoiledPage} {total : Value} → total ≡ zero → h ≡ opened tree t k level low high page
       → lookup_from tree t k level low high page ≡ answer → OnWay level h total 0
   on_start level low high page z e is = (opened_wide tree t k level low high page e, way_start tree t k level low high page z e ∙ is)
 
-  pub on_shared : (level : ℕ) (row : Row) (h : Held) (total : Value) (pages : ℕ) {next : Held} {v more : Value} → OnWay level h total pages
+  pub on_shared : (level : ℕ) (row : Row) (h : Result Held SpoiledPage) (total : Value) (pages : ℕ) {next : Result Held SpoiledPage} {v more : Value} → OnWay level h total pages
       → (level ≡ 0 → ⊥) → LeadsAs row h v → more ≡ plus total v → next ≡ opened tree t k (level - 1) row.low row.high row.child
       → OnWay (level - 1) next more (pages + 1)
   on_shared level row h total pages way some own m n = (

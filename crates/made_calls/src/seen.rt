@@ -3,48 +3,28 @@ use crate::call::make;
 use observed::memory_sum;
 use outcomes::{Outcome, outcome_of};
 use pass_book::Call;
-use store::Head;
+use store::{Head, StoreView, TreeMemory};
 
 // Makes a call on the store.
 pub fn made(
     head: Head,
-    start_table: &mut [u64],
-    start_roots: &mut [u64],
-    end_table: &mut [u64],
-    end_roots: &mut [u64],
-    time_table: &mut [u64],
-    time_roots: &mut [u64],
+    starts: &mut TreeMemory,
+    ends: &mut TreeMemory,
+    time: &mut TreeMemory,
     call: Call,
 ) -> Outcome {
-    let before = memory_sum(
-        head,
-        start_table,
-        start_roots,
-        end_table,
-        end_roots,
-        time_table,
-        time_roots,
-    );
-    let reply = make(
-        head,
-        start_table,
-        start_roots,
-        end_table,
-        end_roots,
-        time_table,
-        time_roots,
-        call,
-    );
-    outcome_of(
-        head,
-        reply,
-        before,
-        start_table,
-        start_roots,
-        end_table,
-        end_roots,
-        time_table,
-        time_roots,
-        call,
-    )
+    let before = memory_sum(&StoreView {
+        head: &head,
+        starts: starts.view(),
+        ends: ends.view(),
+        time: time.view(),
+    });
+    let reply = make(head, starts, ends, time, call);
+    let store = StoreView {
+        head: &head,
+        starts: starts.view(),
+        ends: ends.view(),
+        time: time.view(),
+    };
+    outcome_of(&store, reply, before, call)
 }

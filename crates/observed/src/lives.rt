@@ -1,11 +1,10 @@
 // What histories reach of closed lives: clicks, and ticks at which many passes end.
-use crate::counts::higher;
 use pass_book::Call;
-use pass_list::{PassBook, pass_at};
-use random_calls::{NUMBERS, PASSES};
+use pass_list::{ListedPass, PassBook};
+use random_calls::PASSES;
 use store::Answer;
 
-#[derive(Clone, Copy)]
+#[derive(Clone, Copy, Default)]
 pub struct Lives {
     // Passes that ended at their own start tick
     pub clicks: u64,
@@ -14,35 +13,22 @@ pub struct Lives {
     pub most_ends: u64,
 }
 
-// One if a call that was accepted ended a pass at its own start tick.
-fn one_if_click(call: Call, passes: &[u32; NUMBERS]) -> u64 {
+// Whether a call that was accepted ended a pass at its own start tick.
+fn is_click(call: Call, passes: &[ListedPass; PASSES]) -> bool {
     let Call::End { tick, number } = call else {
-        return 0;
+        return false;
     };
-    if PASSES <= number {
-        return 0;
-    }
-    if pass_at(passes, number).start == tick {
-        return 1;
-    }
-    0
+    passes
+        .get(number as usize)
+        .is_some_and(|pass| pass.start == tick)
 }
 
 impl Lives {
-    pub fn none() -> Lives {
-        Lives {
-            clicks: 0,
-            ends_at_last: 0,
-            most_ends: 0,
-        }
-    }
-
     // At a tick at which no pass has ended yet.
     fn at_new_tick(self) -> Lives {
         Lives {
-            clicks: self.clicks,
             ends_at_last: 0,
-            most_ends: self.most_ends,
+            ..self
         }
     }
 
@@ -55,12 +41,12 @@ impl Lives {
     }
 
     // One more end at the last tick.
-    fn with_end(self, call: Call, passes: &[u32; NUMBERS]) -> Lives {
-        let ends = std::num::wrapping_add_u64(self.ends_at_last, 1);
+    fn with_end(self, call: Call, passes: &[ListedPass; PASSES]) -> Lives {
+        let ends = self.ends_at_last.wrapping_add(1);
         Lives {
-            clicks: std::num::wrapping_add_u64(self.clicks, one_if_click(call, passes)),
+            clicks: self.clicks.wrapping_add(u64::from(is_click(call, passes))),
             ends_at_last: ends,
-            most_ends: higher(self.most_ends, ends),
+            most_ends: self.most_ends.max(ends),
         }
     }
 
@@ -71,7 +57,7 @@ impl Lives {
         answer: Answer,
         before: PassBook,
         now: PassBook,
-        passes: &[u32; NUMBERS],
+        passes: &[ListedPass; PASSES],
     ) -> Lives {
         let at = self.at(now.last, before.last);
         match answer {

@@ -2,30 +2,29 @@
 use Prim.Native.Nat.{ℕ, ◌≤◌, ◌<◌, ◌+◌, min}
 use native.Mathlib.Omega.{arith}
 use native.Mathlib.Decide.{dec_le}
-use mathlib.Core.Path.{◌≡◌, ap, sym, ◌∙◌}
+use mathlib.Core.Path.{◌≡◌, refl, ap, sym, ◌∙◌}
 use mathlib.Core.List.{List}
-use lib.ListN.{length, get_or, take}
-use lib.Seq.{slice, take_all}
+use lib.ListN.{length, get_or, take, drop}
+use lib.Seq.{take_all}
 use borrow.Author.Tests.{eq-eqb, ne_eqb}
+use Rattle.std.proofs.lemmas.List.{at_drop_more, at_drop_all}
+use Rattle.std.specs.Prelude.{None}
 use Rattle.store.specs.declared.types.OpenPass.{OpenPass}
-use Rattle.store.specs.declared.types.FoundPass.TheVariants.{Missing, At}
-use Rattle.store.specs.Head.{open_limit, find_pass}
-use Rattle.open_passes.proofs.PassesFrom.{pass_here, no_pass_left}
+use Rattle.store.specs.Head.{open_limit, found_at, find_pass}
 
-module _ (passes : List OpenPass) (count : ℕ) (room : count ≤ length passes) (number place : ℕ) where
-  module _ (d : OpenPass) (more : place < count) where
-    pub find_here : (get_or passes place d).number ≡ number → find_pass number place (slice place count passes) ≡ At place (get_or passes place d)
+module _ (passes : List OpenPass) (number place : ℕ) where
+  module _ (d : OpenPass) (more : place < length passes) where
+    pub find_here : (get_or passes place d).number ≡ number → find_pass number place (drop place passes) ≡ found_at place (get_or passes place d)
     unfolding find_pass
-    find_here e = rw (pass_here passes count room place d more, eq-eqb _ _ e)
+    find_here e = at_drop_more (find_pass number place) passes place d more ∙ rw (eq-eqb _ _ e) refl
 
-    pub find_next : ((get_or passes place d).number ≡ number → ⊥)
-        → find_pass number place (slice place count passes) ≡ find_pass number (place + 1) (slice (place + 1) count passes)
+    pub find_next : ((get_or passes place d).number ≡ number → ⊥) → find_pass number place (drop place passes) ≡ find_pass number (place + 1) (drop (place + 1) passes)
     unfolding find_pass
-    find_next e = rw (pass_here passes count room place d more, ne_eqb _ _ e)
+    find_next e = at_drop_more (find_pass number place) passes place d more ∙ rw (ne_eqb _ _ e) refl
 
-  pub find_none : place ≡ count → find_pass number place (slice place count passes) ≡ Missing
+  pub find_none : length passes ≤ place → find_pass number place (drop place passes) ≡ None
   unfolding find_pass
-  find_none e = rw (no_pass_left passes count place e)
+  find_none h = at_drop_all (find_pass number place) passes place h
 
 -- A list of 64 has no more passes than 64, whatever the head says
 pub take_listed : (passes : List OpenPass) (count : ℕ) → length passes ≡ open_limit → take (min count open_limit) passes ≡ take count passes

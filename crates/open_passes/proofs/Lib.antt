@@ -1,4 +1,3 @@
 -- Laws of the list of open passes.
-pub mod PassesFrom
 pub mod FindLaws
 pub mod ClosingUp

@@ -1,7 +1,7 @@
 // The open passes of a head, in order of opening: a pass is found by its number, added behind the others by a start, taken out by an end.
 ghost use Rattle.std.specs.Prelude.{◌≡◌, ◌≤◌, ◌<◌, min};
 ghost use Rattle.store.specs.Trees.{with_use};
-ghost use Rattle.store.specs.Head.{open_limit, pass_limit, no_pass, pass_of, opened_head};
+ghost use Rattle.store.specs.Head.{open_limit, pass_limit, found_at, pass_of, opened_head};
 ghost use Rattle.store.specs.Writing.{started_head, ended_head};
 ghost use Rattle.store.specs.declared.types.TreeName.TheVariants.{Starts, Ends, Time};
 ghost use Rattle.store.specs.declared.types.OpenPass.{OpenPass};
@@ -13,27 +13,20 @@ use tree::TreeUse;
 fn listed(count: u32) -> usize
     ensures { result ≡ min count open_limit }
 {
-    let places = count as usize;
-    if places < Head::PLACES {
-        return places;
-    }
-    Head::PLACES
+    (count as usize).min(Head::PLACES)
 }
 
 // The open pass of a number, and its place, in any head.
-pub fn find_pass(head: Head, number: u32) -> FoundPass
+pub fn find_pass(head: Head, number: u32) -> Option<FoundPass>
     ensures { result ≡ pass_of head number }
 {
     let count = listed(head.count);
-    let mut place: usize = 0;
-    while place < count {
-        let pass = head.passes[place];
+    for (place, pass) in head.passes[..count].iter().enumerate() {
         if pass.number == number {
-            return FoundPass::At { place, pass };
+            return Some(FoundPass { place, pass: *pass });
         }
-        place += 1;
     }
-    FoundPass::Missing
+    None
 }
 
 // The head after a start: one more open pass, behind the others. `starts` and `time` are what these trees use then.
@@ -66,34 +59,17 @@ pub fn started_head(
     head
 }
 
-// What stands in an unused place.
-fn no_pass() -> OpenPass
-    ensures { result ≡ no_pass }
-{
-    OpenPass {
-        number: 0,
-        key: 0,
-        weight: 0,
-        start: 0,
-    }
-}
-
 // The head after the end of the pass at a place: each later pass moves down one place, so that the order of opening has no gap, and the
 // place set free becomes zero. `ends` and `time` are what these trees use then.
 pub fn ended_head(mut head: Head, ends: TreeUse, time: TreeUse, tick: u32, place: usize) -> Head
     requires place_lt_count { place < head.count }
     requires count_le_open_limit { head.count ≤ open_limit }
-    ensures { (pass : OpenPass) → result ≡ ended_head (with_use (with_use head Ends ends) Time time) tick (FoundPass.At place pass) }
+    ensures { (pass : OpenPass) → result ≡ ended_head (with_use (with_use head Ends ends) Time time) tick (found_at place pass) }
 {
     let count = head.count - 1;
     let last = count as usize;
-    let mut at = place;
-    while at < last {
-        let later = head.passes[at + 1];
-        head.passes[at] = later;
-        at += 1;
-    }
-    let empty = no_pass();
+    head.passes.copy_within(place + 1..last + 1, place);
+    let empty = OpenPass::default();
     head.passes[last] = empty;
     head.last = tick;
     head.count = count;
@@ -106,13 +82,12 @@ pub fn ended_head(mut head: Head, ends: TreeUse, time: TreeUse, tick: u32, place
 pub fn opened_head() -> Head
     ensures { result ≡ opened_head }
 {
-    let none = no_pass();
     let one = TreeUse { pages: 1, roots: 1 };
     Head {
         last: 0,
         started: 0,
         count: 0,
-        passes: [none; Head::PLACES],
+        passes: [OpenPass::default(); Head::PLACES],
         starts: one,
         ends: one,
         time: one,

@@ -5,23 +5,20 @@ ghost use Rattle.tree.specs.Limits.{most_made};
 use observed::{height, memory_sum, pages_opened, refusal_of, word_at};
 use pass_book::Call;
 use replies::Reply;
-use store::{Answer, Head};
+use store::{Answer, Head, Refusal, StoreView, TreeView};
 use tree::TreeUse;
 
 // The most pages that an entry makes in a tree so many pages high: two on each level and a new root, but no root above the top level.
 fn most_made(height: u64) -> u64
     ensures { result ≤ most_made }
 {
-    if height < TreeUse::TOP_LEVEL {
-        return 2 * height + 1;
-    }
-    2 * TreeUse::TOP_LEVEL + 1
+    2 * height.min(TreeUse::TOP_LEVEL) + 1
 }
 
 // Whether a tree may lack pages for an entry: more may be made than are left.
-fn may_lack_pages(table: &[u64], roots: &[u64], used: TreeUse) -> bool {
-    let most = most_made(height(table, roots, used.roots));
-    let whole = table.len() / tree::PAGE_WORDS;
+fn may_lack_pages(lent: TreeView, used: TreeUse) -> bool {
+    let most = most_made(height(lent, used.roots));
+    let whole = lent.table.len() / tree::PAGE_WORDS;
     (whole as u64) < used.pages as u64 + most
 }
 
@@ -31,95 +28,53 @@ fn may_lack_root(roots: &[u64], used: TreeUse, tick: u32) -> bool {
     if (used.roots as usize) < roots.len() {
         return false;
     }
-    let last = std::num::wrapping_sub_u32(used.roots, 1);
+    let last = used.roots.wrapping_sub(1);
     words::root_birth(word_at(roots, last as usize)) < tick
 }
 
-// 27 or 28 where the store said so and where it can be so, else 0.
-fn lacking(table: &[u64], roots: &[u64], used: TreeUse, tick: u32, refusal: u8) -> u8 {
-    if refusal == 27 {
-        return number_if(27, may_lack_pages(table, roots, used));
+// 27 or 28 where the store said so and where it can be so.
+fn lacking(lent: TreeView, used: TreeUse, tick: u32, refusal: Option<u8>) -> Option<Refusal> {
+    match refusal {
+        Some(27) if may_lack_pages(lent, used) => Some(Refusal::LacksPages),
+        Some(28) if may_lack_root(lent.roots, used, tick) => Some(Refusal::LacksRoot),
+        _ => None,
     }
-    if refusal == 28 {
-        return number_if(28, may_lack_root(roots, used, tick));
-    }
-    0
-}
-
-// A number where something holds, and 0 where not.
-fn number_if(number: u8, holds: bool) -> u8 {
-    if holds {
-        return number;
-    }
-    0
 }
 
 // What the book is told of a call, since it cannot know it: the store's refusal where it is 27 or 28 and can be so, and the pages on the paths that
 // the call's lookups follow. Beside it, whether 27 came where only the tree of time may lack pages.
 #[derive(Clone, Copy)]
 pub struct Hints {
-    pub lacking: u8,
+    pub lacking: Option<Refusal>,
     pub pages: u32,
     pub for_time: bool,
 }
 
 // The hints for a call that writes two trees, by what each of them may lack.
-fn lacking_hints(own: u8, time: u8) -> Hints {
-    if own != 0 {
-        return Hints {
-            lacking: own,
-            pages: 0,
-            for_time: false,
-        };
-    }
+fn lacking_hints(own: Option<Refusal>, time: Option<Refusal>) -> Hints {
     Hints {
-        lacking: time,
+        lacking: own.or(time),
         pages: 0,
-        for_time: time == 27,
+        for_time: own.is_none() && time == Some(Refusal::LacksPages),
     }
 }
 
 // The hints for a call, by the trees that it writes or the lookups that it makes.
-fn hints_of(
-    head: Head,
-    start_table: &[u64],
-    start_roots: &[u64],
-    end_table: &[u64],
-    end_roots: &[u64],
-    time_table: &[u64],
-    time_roots: &[u64],
-    call: Call,
-    refusal: u8,
-) -> Hints {
-    let starts = head.starts;
-    let ends = head.ends;
-    let time = head.time;
+fn hints_of(store: &StoreView, call: Call, refusal: Option<u8>) -> Hints {
+    let head = store.head;
     match call {
-        Call::Open => lacking_hints(0, 0),
-        Call::Start {
-            tick,
-            key: _,
-            weight: _,
-        } => lacking_hints(
-            lacking(start_table, start_roots, starts, tick, refusal),
-            lacking(time_table, time_roots, time, tick, refusal),
+        Call::Open => lacking_hints(None, None),
+        Call::Start { tick, .. } => lacking_hints(
+            lacking(store.starts, head.starts, tick, refusal),
+            lacking(store.time, head.time, tick, refusal),
         ),
-        Call::End { tick, number: _ } => lacking_hints(
-            lacking(end_table, end_roots, ends, tick, refusal),
-            lacking(time_table, time_roots, time, tick, refusal),
+        Call::End { tick, .. } => lacking_hints(
+            lacking(store.ends, head.ends, tick, refusal),
+            lacking(store.time, head.time, tick, refusal),
         ),
         Call::Ask(asked) => Hints {
-            lacking: 0,
-            pages: pages_opened(
-                head,
-                start_table,
-                start_roots,
-                end_table,
-                end_roots,
-                time_table,
-                time_roots,
-                asked,
-            ),
+            lacking: None,
+            pages: pages_opened(store, asked),
             for_time: false,
         },
     }
@@ -135,47 +90,17 @@ pub struct Outcome {
     pub unchanged: bool,
 }
 
-// The call's answer and head, and what the words then say beside them. `head` is the head before the call, and `before` the sum of the
-// words.
-pub fn outcome_of(
-    head: Head,
-    reply: Reply,
-    before: u64,
-    start_table: &[u64],
-    start_roots: &[u64],
-    end_table: &[u64],
-    end_roots: &[u64],
-    time_table: &[u64],
-    time_roots: &[u64],
-    call: Call,
-) -> Outcome {
-    let answer = reply.answer;
-    let next = reply.head;
-    let refusal = refusal_of(answer);
-    let now = memory_sum(
-        next,
-        start_table,
-        start_roots,
-        end_table,
-        end_roots,
-        time_table,
-        time_roots,
-    );
-    let hints = hints_of(
-        head,
-        start_table,
-        start_roots,
-        end_table,
-        end_roots,
-        time_table,
-        time_roots,
-        call,
-        refusal,
-    );
+// The call's answer and head, and what the words then say beside them. `store` has the head before the call and the words after it, and `before` is the sum of
+// the words before it.
+pub fn outcome_of(store: &StoreView, reply: Reply, before: u64, call: Call) -> Outcome {
+    let left = StoreView {
+        head: &reply.head,
+        ..*store
+    };
     Outcome {
-        answer,
-        head: next,
-        hints,
-        unchanged: before == now,
+        answer: reply.answer,
+        head: reply.head,
+        hints: hints_of(store, call, refusal_of(reply.answer)),
+        unchanged: before == memory_sum(&left),
     }
 }

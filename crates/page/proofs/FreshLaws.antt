@@ -4,11 +4,11 @@ use native.Mathlib.Numerals.{add-one}
 use native.Mathlib.Omega.{arith}
 use mathlib.Core.Path.{◌≡◌, refl, ap, sym, ◌∙◌}
 use mathlib.Core.List.{List, [], ◌∷◌, ◌++◌, append_assoc, append-nil}
-use lib.ListN.{length, get_or, set, take, length-append, length-replicate, replicate-append-replicate}
-use lib.Seq.{take-suc, length-take-le}
+use lib.ListN.{length, get_or, set, take, length-append, length-replicate}
+use lib.Seq.{take-suc, length-take-le, get_or-take}
 use Rattle.words.specs.Words.{key_range}
 use Rattle.words.specs.Overwrite.{overwrite}
-use Rattle.words.proofs.OverwriteLaws.{overwrite_none, overwrite_one, overwrite_sets, overwrite_more, overwrite_all, overwrite_length}
+use Rattle.words.proofs.OverwriteLaws.{overwrite_sets, overwrite_more, overwrite_all, overwrite_length}
 use Rattle.tree.specs.declared.types.Row.{Row}
 use Rattle.page.specs.declared.fresh.Page.{Page}
 use Rattle.tree.proofs.PageCodec.{encode_length}
@@ -17,34 +17,9 @@ use Rattle.tree.specs.RowEdits.{put_row}
 use Rattle.tree.specs.Fresh.{zeros, fresh_page}
 use Rattle.page.specs.PageValue.{page_rows, encode_page}
 
--- Words set to zero from a place on, one after the other
-module _ (words : List ℕ) (from : ℕ) where
-  pub zeros_length : (n : ℕ) → length (zeros n) ≡ n
-  unfolding zeros
-  zeros_length n = length-replicate n 0
-
-  zeros_more : (n : ℕ) → zeros n ++ (0 ∷ []) ≡ zeros (n + 1)
-  unfolding zeros
-  zeros_more n = replicate-append-replicate n 1 0
-
-  pub clear_none : words ≡ overwrite words from (zeros (from - from))
-  unfolding zeros
-  clear_none = let none : from - from ≡ 0 = omega arith in rw none (sym (overwrite_none words from))
-
-  pub clear_more : (at : ℕ) → from ≤ at → at < length words →
-      set (overwrite words from (zeros (at - from))) at 0 ≡ overwrite words from (zeros (at + 1 - from))
-  clear_more at h l =
-      let n : ℕ = at - from in
-      let long : length (zeros n) ≡ n = zeros_length n in
-      let room : from + length (zeros n) ≤ length words = omega arith in
-      let next : n + 1 ≡ at + 1 - from = omega arith in
-      overwrite_one (overwrite words from (zeros n)) at 0 (omega (arith, overwrite_length words from (zeros n) room))
-      ∙ overwrite_more words from (zeros n) room at (0 ∷ []) (omega arith)
-      ∙ ap (overwrite words from) (zeros_more n ∙ ap zeros next)
-
-  pub clear_done : (at : ℕ) → at ≤ length words → length words ≤ at →
-      overwrite words from (zeros (at - from)) ≡ overwrite words from (zeros (length words - from))
-  clear_done at h l = let e : at ≡ length words = omega arith in ap (λ (n : ℕ). overwrite words from (zeros (n - from))) e
+pub zeros_length : (n : ℕ) → length (zeros n) ≡ n
+unfolding zeros
+zeros_length n = length-replicate n 0
 
 -- Rows written one behind the other
 pub encode_append : (xs ys : List Row) → encode_rows (xs ++ ys) ≡ encode_rows xs ++ encode_rows ys
@@ -67,13 +42,15 @@ module _ (words : List ℕ) (p : Page) (long : length words ≡ page_words) (ful
   up_to_length : (n : ℕ) → n ≤ row_limit → length (up_to p n) ≡ row_start n
   up_to_length n h = omega (arith, encode_length (take n p.rows), length-take-le n p.rows (omega arith))
 
-  pub row_words_lem : (d : Row) (n : ℕ) → n < row_limit → put_row (overwrite words 0 (up_to p n)) n (get_or p.rows n d) ≡ overwrite words 0 (up_to p (n + 1))
+  pub row_words_lem : (d : Row) (n : ℕ) → n < p.count → p.count ≤ row_limit →
+      put_row (overwrite words 0 (up_to p n)) n (get_or (page_rows p) n d) ≡ overwrite words 0 (up_to p (n + 1))
   unfolding encode_rows
-  row_words_lem d n h =
+  row_words_lem d n h m =
       let here : length (up_to p n) ≡ row_start n = up_to_length n (omega arith) in
       let rows = take n p.rows in
       let row : Row = get_or p.rows n d in
-      overwrite_more words 0 (up_to p n) (omega arith) (row_start n) (encode_row row) (omega arith)
+      ap (put_row (overwrite words 0 (up_to p n)) n) (get_or-take p.count p.rows n d h)
+      ∙ overwrite_more words 0 (up_to p n) (omega arith) (row_start n) (encode_row row) (omega arith)
       ∙ ap (overwrite words 0)
       (append_assoc (header_of p) (encode_rows rows) (encode_row row)
       ∙ ap (◌++◌ (header_of p))
@@ -94,7 +71,7 @@ module _ (words : List ℕ) (p : Page) (long : length words ≡ page_words) (ful
       omega (arith, overwrite_length words 0 (up_to p n) room) in
       let rest : List ℕ = zeros (row_words * (row_limit - length rows)) in
       let size : length (up_to p n ++ rest) ≡ length words =
-      length-append (up_to p n) rest ∙ omega (arith, zeros_length words 0 (row_words * (row_limit - length rows))) in
+      length-append (up_to p n) rest ∙ omega (arith, zeros_length (row_words * (row_limit - length rows))) in
       ap (λ (k : ℕ). overwrite (overwrite words 0 (up_to p n)) (row_start n) (zeros k)) left
       ∙ overwrite_more words 0 (up_to p n) room (row_start n) rest (omega arith)
       ∙ overwrite_all words (up_to p n ++ rest) size

@@ -97,11 +97,8 @@ impl Page {
         words[1] = count as u64;
         words[2] = words::key_range(self.low, self.high);
         words[3] = self.birth as u64;
-        let mut place: usize = 0;
-        while place < count {
-            let row = self.rows[place];
-            put_row(words, place, row);
-            place += 1;
+        for (place, row) in self.rows[..count].iter().enumerate() {
+            put_row(words, place, *row);
         }
         clear_from(words, row_start(count));
     }
@@ -112,9 +109,5 @@ fn clear_from(words: &mut [u64], from: usize)
     requires { from ≤ length words.old }
     ensures { words.new ≡ overwrite words.old from (zeros (length words.old - from)) }
 {
-    let mut at = from;
-    while at < words.len() {
-        words[at] = 0;
-        at += 1;
-    }
+    words[from..].fill(0);
 }

@@ -93,17 +93,17 @@ module _ (b : Book) (few : length b.passes < 2 ^ 32) (light : All Light b.passes
   answered Time is within = is
 
   pub said_as : (asked : Asked) {v : Value} → v ≡ total_of asked ps → book_part (answer_of asked v) ≡ in_words (asked_call asked) (book_says b (asked_call asked))
-  said_as (ask.Question k1 k2 t1 t2) is =
-      let asked : Asked = ask.Question k1 k2 t1 t2 in
+  said_as (ask.Question w) is =
+      let asked : Asked = ask.Question w in
       let one = all_map Light (λ (p : Pass). 1 ≤ 1) (λ p h. omega arith) ps light in
       let weights = all_map Light (λ (p : Pass). p.weight ≤ 4294967295) (λ p h. omega (arith, h)) ps light in
-      let passes = sum_where_most (λ (p : Pass). 1) (meets k1 k2 t1 t2) 1 ps one in
+      let passes = sum_where_most (λ (p : Pass). 1) (meets w.k1 w.k2 w.t1 w.t2) 1 ps one in
       ap₂ (λ (count sum : ℕ). says (count ∷ (sum ∷ [])))
       (fits (ap count_of is ∙ total_is_sum count_of count_measure (adds asked) (counts asked) ps) (omega (arith, passes)))
       (fits (ap sum_of is ∙ total_is_sum sum_of sum_measure (adds asked) (counts asked) ps)
-      (sum_where_most (λ (p : Pass). p.weight) (meets k1 k2 t1 t2) 4294967295 ps weights))
-  said_as (ask.BatTime k1 k2 t1 t2) is =
-      let asked : Asked = ask.BatTime k1 k2 t1 t2 in
+      (sum_where_most (λ (p : Pass). p.weight) (meets w.k1 w.k2 w.t1 w.t2) 4294967295 ps weights))
+  said_as (ask.BatTime w) is =
+      let asked : Asked = ask.BatTime w in
       ap (λ (total : ℕ). says (total ∷ [])) (ap sum_of is ∙ total_is_sum sum_of sum_measure (adds asked) (counts asked) ps)
   said_as (ask.Lookup tree t k) is =
       let points = is ∙ points_total tree t k ps in

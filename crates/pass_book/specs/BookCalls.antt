@@ -6,8 +6,8 @@ use Rattle.pass_book.specs.declared.types.Call.{Call}
 use Rattle.pass_book.specs.declared.types.Call.TheVariants as made
 
 abbrev pub asked_call : Asked → calls.Call
-asked_call (ask.Question k1 k2 t1 t2) = calls.question k1 k2 t1 t2
-asked_call (ask.BatTime k1 k2 t1 t2) = calls.bat_time k1 k2 t1 t2
+asked_call (ask.Question w) = calls.question w.k1 w.k2 w.t1 w.t2
+asked_call (ask.BatTime w) = calls.bat_time w.k1 w.k2 w.t1 w.t2
 asked_call (ask.Lookup tree t k) = calls.lookup_in tree t k
 
 abbrev pub call_of : Call → calls.Call

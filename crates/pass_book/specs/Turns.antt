@@ -1,15 +1,23 @@
 -- The code's answers and what it leaves, as a turn of the book.
-use Rattle.std.specs.Prelude.{ℕ, ◌%◌, ◌^◌, ◌≡◌, List, map}
+use Rattle.std.specs.Prelude.{ℕ, ◌%◌, ◌^◌, ◌≡◌, List, map, Option, None, Some}
 use Rattle.store.specs.Calls.{Call, opening, start, end, question, bat_time, lookup_in}
 use Rattle.words.specs.declared.value.Value.{Value}
 use Rattle.store.specs.declared.types.Answer.{Answer}
 use Rattle.store.specs.declared.types.Answer.TheVariants.{BatTime}
+use Rattle.store.specs.declared.refusal.Refusal.{Refusal}
+use Rattle.store.specs.Refused.{number_of}
 use Rattle.store.specs.Performing.{totals}
 use Rattle.store.specs.Book.{Book, BookAnswer, BookTurn, Fed, neither, pages_lacked, root_lacked, book_part, book_says}
 use Rattle.pass_list.specs.declared.types.Asked.{Asked}
 use Rattle.pass_list.specs.declared.types.Asked.TheVariants as ask
 use Rattle.pass_book.specs.declared.types.Turn.{Turn}
+use Rattle.pass_list.specs.declared.types.ListedPass.{ListedPass}
 use Rattle.pass_list.specs.PassList.{book_in}
+
+-- The number of the refusal that the store gave, or 0
+abbrev pub given_number : Option Refusal → ℕ
+given_number None = 0
+given_number (Some refusal) = number_of refusal
 
 -- 27 or 28, or 0
 abbrev pub lacked : Fed → ℕ
@@ -19,8 +27,8 @@ lacked root_lacked = 28
 
 -- A total as the answer to what was asked, with no page opened
 abbrev pub answer_of : Asked → Value → Answer
-answer_of (ask.Question k1 k2 t1 t2) v = totals v 0
-answer_of (ask.BatTime k1 k2 t1 t2) v = BatTime v.sum 0
+answer_of (ask.Question w) v = totals v 0
+answer_of (ask.BatTime w) v = BatTime v.sum 0
 answer_of (ask.Lookup tree t k) v = totals v 0
 
 -- The book's total of bat-time is a number of any size. The code has a word for it, and gives it modulo 2^64; every other value of the book fits its word
@@ -37,6 +45,6 @@ abbrev pub SaysAs : Answer → Book → Call → Type 0
 SaysAs answer b c = book_part answer ≡ in_words c (book_says b c)
 
 -- Answer and book are those of a turn at a call; the passes are in the list as the code leaves it
-pub record TurnsAs (c : Call) (t : BookTurn) (r : Turn) (ws : List ℕ) : Type 0 where
+pub record TurnsAs (c : Call) (t : BookTurn) (r : Turn) (ps : List ListedPass) : Type 0 where
   pub answer : book_part r.answer ≡ in_words c t.answer
-  pub book : book_in ws r.book ≡ t.book
+  pub book : book_in ps r.book ≡ t.book

@@ -1,6 +1,8 @@
-// "the first refusal of these papers, in their order, 20 and 26 to 28 left out, that its arguments and the book meet", or 0.
-ghost use Rattle.std.specs.Prelude.{◌≡◌, ◌*◌, ◌≤◌, length, [], ◌∷◌};
+// "the first refusal of these papers, in their order, 20 and 26 to 28 left out, that its arguments and the book meet". The crate
+// grounds tests a call's arguments for the store; the book is what the store's answers are compared with, so it has tests of its own.
+ghost use Rattle.std.specs.Prelude.{◌≡◌, ◌≤◌, length, [], ◌∷◌};
 ghost use Rattle.store.specs.Refusals.{first_met};
+ghost use Rattle.store.specs.Refused.{told};
 ghost use Rattle.store.specs.Calls.{start, end, question};
 ghost use Rattle.store.specs.Grounds.{key_too_high, no_tick, argument_grounds};
 ghost use Rattle.store.specs.Book.{Book, book_refusal};
@@ -8,103 +10,105 @@ ghost use Rattle.pass_list.specs.PassList.{book_in};
 ghost use Rattle.pass_book.specs.BookCalls.{call_of, asked_call};
 
 use crate::types::Call;
-use pass_list::{Asked, PassBook, open_count, pass_at};
-use store::{Head, OpenPass};
+use pass_list::{Asked, ListedPass, PassBook, Window, open_count};
+use store::{Head, OpenPass, Refusal};
 
-fn start_refusal(passes: &[u32], book: PassBook, tick: u32, key: u32, weight: u32) -> u8
-    requires { book.started * 4 ≤ length passes.now }
-    ensures { result ≡ book_refusal (book_in passes.now book) (start tick key weight) }
+#[tactic(auto, unfolding(store::specs::Refusals::first_met, store::specs::Book::book_refusal))]
+fn start_refusal(
+    passes: &[ListedPass],
+    book: PassBook,
+    tick: u32,
+    key: u32,
+    weight: u32,
+) -> Result<(), Refusal>
+    requires { book.started ≤ length passes.now }
+    ensures { told result ≡ book_refusal (book_in passes.now book) (start tick key weight) }
 {
     if OpenPass::KEY_LIMIT <= key {
-        return 1;
+        return Err(Refusal::KeyTooHigh);
     }
-    if weight == 0 {
-        return 3;
-    }
-    if OpenPass::HEAVIEST < weight {
-        return 3;
+    if weight == 0 || OpenPass::HEAVIEST < weight {
+        return Err(Refusal::WeightBeyond);
     }
     if tick == words::OPEN {
-        return 4;
+        return Err(Refusal::NoTick);
     }
     if tick < book.last {
-        return 21;
+        return Err(Refusal::BeforeLast);
     }
     let open = open_count(passes, book.started);
     if Head::OPEN_LIMIT <= open {
-        return 24;
+        return Err(Refusal::AllOpen);
     }
     if Head::PASS_LIMIT <= book.started {
-        return 25;
+        return Err(Refusal::AllStarted);
     }
-    0
+    Ok(())
 }
 
-fn end_refusal(passes: &[u32], book: PassBook, tick: u32, number: u32) -> u8
-    requires { book.started * 4 ≤ length passes.now }
-    ensures { result ≡ book_refusal (book_in passes.now book) (end tick number) }
+#[tactic(auto, unfolding(store::specs::Refusals::first_met, store::specs::Book::book_refusal))]
+fn end_refusal(passes: &[ListedPass], book: PassBook, tick: u32, number: u32) -> Result<(), Refusal>
+    requires { book.started ≤ length passes.now }
+    ensures { told result ≡ book_refusal (book_in passes.now book) (end tick number) }
 {
     if tick == words::OPEN {
-        return 4;
+        return Err(Refusal::NoTick);
     }
     if tick < book.last {
-        return 21;
+        return Err(Refusal::BeforeLast);
     }
-    if book.started <= number {
-        return 22;
+    if book.started <= number || !passes[number as usize].is_open() {
+        return Err(Refusal::NotOpen);
     }
-    if pass_at(passes, number).end != words::OPEN {
-        return 22;
-    }
-    0
+    Ok(())
 }
 
-fn question_refusal(k1: u32, k2: u32, t1: u32, t2: u32) -> u8
-    ensures { result ≡ first_met (argument_grounds (question k1 k2 t1 t2)) }
+#[tactic(auto, unfolding(store::specs::Refusals::first_met))]
+fn question_refusal(window: Window) -> Result<(), Refusal>
+    ensures { told result ≡ first_met (argument_grounds (question window.k1 window.k2 window.t1 window.t2)) }
 {
-    if OpenPass::KEY_LIMIT <= k1 {
-        return 1;
+    if OpenPass::KEY_LIMIT <= window.k1 || OpenPass::KEY_LIMIT < window.k2 {
+        return Err(Refusal::KeyTooHigh);
     }
-    if OpenPass::KEY_LIMIT < k2 {
-        return 1;
+    if window.k2 <= window.k1 {
+        return Err(Refusal::NoBand);
     }
-    if k2 <= k1 {
-        return 2;
+    if window.t2 <= window.t1 {
+        return Err(Refusal::NoTime);
     }
-    if t2 <= t1 {
-        return 5;
-    }
-    0
+    Ok(())
 }
 
-fn lookup_refusal(t: u32, k: u32) -> u8
-    ensures { result ≡ first_met (key_too_high k ∷ (no_tick t ∷ [])) }
+#[tactic(auto, unfolding(store::specs::Refusals::first_met))]
+fn lookup_refusal(t: u32, k: u32) -> Result<(), Refusal>
+    ensures { told result ≡ first_met (key_too_high k ∷ (no_tick t ∷ [])) }
 {
     if OpenPass::KEY_LIMIT <= k {
-        return 1;
+        return Err(Refusal::KeyTooHigh);
     }
     if t == words::OPEN {
-        return 4;
+        return Err(Refusal::NoTick);
     }
-    0
+    Ok(())
 }
 
-fn asked_refusal(asked: Asked) -> u8
-    ensures { (b : Book) → result ≡ book_refusal b (asked_call asked) }
+#[tactic(auto, unfolding(store::specs::Book::book_refusal))]
+fn asked_refusal(asked: Asked) -> Result<(), Refusal>
+    ensures { (b : Book) → told result ≡ book_refusal b (asked_call asked) }
 {
     match asked {
-        Asked::Question { k1, k2, t1, t2 } => question_refusal(k1, k2, t1, t2),
-        Asked::BatTime { k1, k2, t1, t2 } => question_refusal(k1, k2, t1, t2),
-        Asked::Lookup { tree: _, t, k } => lookup_refusal(t, k),
+        Asked::Question(window) | Asked::BatTime(window) => question_refusal(window),
+        Asked::Lookup { t, k, .. } => lookup_refusal(t, k),
     }
 }
 
-pub fn refusal(passes: &[u32], book: PassBook, call: Call) -> u8
-    requires { book.started * 4 ≤ length passes.now }
-    ensures { result ≡ book_refusal (book_in passes.now book) (call_of call) }
+#[tactic(auto, unfolding(store::specs::Refusals::first_met, store::specs::Book::book_refusal))]
+pub fn refusal(passes: &[ListedPass], book: PassBook, call: Call) -> Result<(), Refusal>
+    requires { book.started ≤ length passes.now }
+    ensures { told result ≡ book_refusal (book_in passes.now book) (call_of call) }
 {
     match call {
-        Call::Open => 0,
+        Call::Open => Ok(()),
         Call::Start { tick, key, weight } => start_refusal(passes, book, tick, key, weight),
         Call::End { tick, number } => end_refusal(passes, book, tick, number),
         Call::Ask(asked) => asked_refusal(asked),

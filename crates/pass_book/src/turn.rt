@@ -1,31 +1,44 @@
 // What the book says to a call, and what it holds afterwards.
-ghost use Rattle.std.specs.Prelude.{◌≡◌, ◌+◌, ◌*◌, ◌≤◌, ◌<◌, length};
+ghost use Rattle.std.specs.Prelude.{◌≡◌, ◌≤◌, ◌<◌, length};
 ghost use Rattle.words.specs.Words.{open_end};
 ghost use Rattle.store.specs.Head.{pass_limit};
 ghost use Rattle.store.specs.Calls.{start, end};
 ghost use Rattle.store.specs.Performing.{totals};
+ghost use Rattle.store.specs.Refused.{told};
 ghost use Rattle.store.specs.Book.{fed_by, book_refusal, book_does, book_done, book_turn};
 ghost use Rattle.pass_list.specs.PassList.{book_in};
 ghost use Rattle.pass_book.specs.BookCalls.{call_of, asked_call};
-ghost use Rattle.pass_book.specs.Turns.{lacked, answer_of, SaysAs, TurnsAs};
+ghost use Rattle.pass_book.specs.Turns.{given_number, lacked, answer_of, SaysAs, TurnsAs};
 
 use crate::grounds::refusal;
 use crate::types::{Call, Turn};
-use pass_list::{Asked, ListedPass, PassBook, put_end, put_pass, totals};
-use store::Answer;
+use pass_list::{Asked, ListedPass, PassBook, totals};
+use store::{Answer, Refusal};
 use words::Value;
 
-// 27 or 28, where the store's answer was one of them, else 0: of its answers the book is fed no more.
-fn lacking(refusal: u8) -> u8
-    ensures { result ≡ lacked (fed_by refusal) }
+// 27 or 28, where the store's answer was one of them: of its answers the book is fed no more.
+fn lacking(given: Option<Refusal>) -> Result<(), Refusal>
+    ensures { told result ≡ lacked (fed_by (given_number given)) }
 {
-    if refusal == 27 {
-        return 27;
+    match given {
+        Some(Refusal::LacksPages) => Err(Refusal::LacksPages),
+        Some(Refusal::LacksRoot) => Err(Refusal::LacksRoot),
+        _ => Ok(()),
     }
-    if refusal == 28 {
-        return 28;
-    }
-    0
+}
+
+// Whether the book takes a call: no ground of its own is met, and the store lacked nothing for it.
+fn takes(
+    passes: &[ListedPass],
+    book: PassBook,
+    call: Call,
+    given: Option<Refusal>,
+) -> Result<(), Refusal>
+    requires { book.started ≤ length passes.now }
+    ensures { told result ≡ (book_turn (book_in passes.now book) (call_of call) (fed_by (given_number given))).answer.refusal }
+{
+    refusal(passes, book, call)?;
+    lacking(given)
 }
 
 // A count and a weight sum as an answer, with no page opened.
@@ -44,50 +57,40 @@ fn answer_of(asked: Asked, total: Value) -> Answer
     ensures { result ≡ answer_of asked total }
 {
     match asked {
-        Asked::Question {
-            k1: _,
-            k2: _,
-            t1: _,
-            t2: _,
-        } => totals_answer(total),
-        Asked::BatTime {
-            k1: _,
-            k2: _,
-            t1: _,
-            t2: _,
-        } => Answer::BatTime {
+        Asked::BatTime(_) => Answer::BatTime {
             total: total.sum,
             pages: 0,
         },
-        Asked::Lookup {
-            tree: _,
-            t: _,
-            k: _,
-        } => totals_answer(total),
+        Asked::Question(_) | Asked::Lookup { .. } => totals_answer(total),
     }
 }
 
 // The answer to a call that only reads.
-fn totals_of(passes: &[u32], book: PassBook, asked: Asked) -> Answer
-    requires { book.started * 4 ≤ length passes.now }
+fn totals_of(passes: &[ListedPass], book: PassBook, asked: Asked) -> Answer
+    requires { book.started ≤ length passes.now }
     ensures { SaysAs result (book_in passes.now book) (asked_call asked) }
 {
     answer_of(asked, totals(passes, book.started, asked))
 }
 
 // "the pass is added, open, and its tick becomes the last tick"
-fn with_start(passes: &mut [u32], book: PassBook, tick: u32, key: u32, weight: u32) -> PassBook
-    requires started_in_bounds { book.started * 4 + 4 ≤ length passes.old }
+fn with_start(
+    passes: &mut [ListedPass],
+    book: PassBook,
+    tick: u32,
+    key: u32,
+    weight: u32,
+) -> PassBook
+    requires started_in_bounds { book.started < length passes.old }
     requires started_le_pass_limit { book.started ≤ pass_limit }
     ensures { book_in passes.new result ≡ book_does (book_in passes.old book) (start tick key weight) }
 {
-    let pass = ListedPass {
+    passes[book.started as usize] = ListedPass {
         key,
         weight,
         start: tick,
         end: words::OPEN,
     };
-    put_pass(passes, book.started, pass);
     PassBook {
         last: tick,
         started: book.started + 1,
@@ -95,13 +98,13 @@ fn with_start(passes: &mut [u32], book: PassBook, tick: u32, key: u32, weight: u
 }
 
 // "the pass gets its end, and that tick becomes the last tick"
-fn with_end(passes: &mut [u32], book: PassBook, tick: u32, number: u32) -> PassBook
-    requires started_in_bounds { book.started * 4 ≤ length passes.old }
+fn with_end(passes: &mut [ListedPass], book: PassBook, tick: u32, number: u32) -> PassBook
+    requires started_in_bounds { book.started ≤ length passes.old }
     requires number_lt_started { number < book.started }
     requires tick_lt_open_end { tick < open_end }
     ensures { book_in passes.new result ≡ book_does (book_in passes.old book) (end tick number) }
 {
-    put_end(passes, number, tick);
+    passes[number as usize].end = tick;
     PassBook {
         last: tick,
         started: book.started,
@@ -109,8 +112,8 @@ fn with_end(passes: &mut [u32], book: PassBook, tick: u32, number: u32) -> PassB
 }
 
 // A call that the book does not refuse.
-fn does(passes: &mut [u32], book: PassBook, call: Call) -> Turn
-    requires started_in_bounds { book.started * 4 + 4 ≤ length passes.old }
+fn does(passes: &mut [ListedPass], book: PassBook, call: Call) -> Turn
+    requires started_in_bounds { book.started < length passes.old }
     requires call_value { book_refusal (book_in passes.old book) (call_of call) ≡ 0 }
     ensures { TurnsAs (call_of call) (book_done (book_in passes.old book) (call_of call)) result passes.new }
 {
@@ -137,25 +140,22 @@ fn does(passes: &mut [u32], book: PassBook, call: Call) -> Turn
     }
 }
 
-// A turn of the book: what it says to a call, and what it holds then. `given` is the refusal that the store gave to it, or 0. The list has room for
+// A turn of the book: what it says to a call, and what it holds then. `given` is the refusal that the store gave to it. The list has room for
 // one pass more.
-pub fn book_turn(passes: &mut [u32], book: PassBook, call: Call, given: u8) -> Turn
-    requires { book.started * 4 + 4 ≤ length passes.old }
-    ensures { TurnsAs (call_of call) (book_turn (book_in passes.old book) (call_of call) (fed_by given)) result passes.new }
+pub fn book_turn(
+    passes: &mut [ListedPass],
+    book: PassBook,
+    call: Call,
+    given: Option<Refusal>,
+) -> Turn
+    requires { book.started < length passes.old }
+    ensures { TurnsAs (call_of call) (book_turn (book_in passes.old book) (call_of call) (fed_by (given_number given))) result passes.new }
 {
-    let refused = refusal(passes, book, call);
-    if refused != 0 {
-        return Turn {
-            answer: Answer::Refused(refused),
+    match takes(passes, book, call, given) {
+        Ok(()) => does(passes, book, call),
+        Err(refusal) => Turn {
+            answer: Answer::from(refusal),
             book,
-        };
+        },
     }
-    let lack = lacking(given);
-    if lack != 0 {
-        return Turn {
-            answer: Answer::Refused(lack),
-            book,
-        };
-    }
-    does(passes, book, call)
 }

@@ -1,5 +1,7 @@
 -- What passes add up to: over none, and over one more.
-use Rattle.std.proofs.Common.{◌≡◌, ℕ, suc, ◌+◌, ◌^◌, ◌<◌, Bool, cond, eqb, List, [], ◌∷◌, ◌++◌, sym, ap, ◌∙◌, subst, add-one}
+use Rattle.std.proofs.Common.{◌≡◌, ℕ, ◌+◌, ◌^◌, ◌<◌, Bool, true, false, cond, eqb, List, [], ◌∷◌, ◌++◌, map, count_by, get_or, length, sym, refl, ap, ap₂, ◌∙◌, subst, arith}
+use Rattle.std.proofs.lemmas.List.{map_more}
+use Rattle.std.proofs.lemmas.List.Recursion.{is_count_by}
 use Rattle.words.specs.Lists.{All}
 use Rattle.words.specs.Words.{open_end}
 use Rattle.words.specs.Value.{plus, zero as nothing}
@@ -8,31 +10,28 @@ use Rattle.words.proofs.ValueLaws.{plus_comm, plus_assoc, zero_plus}
 use Rattle.tree.specs.TrueValue.{total_where}
 use Rattle.tree.proofs.Lists.{all_append}
 use Rattle.tree.proofs.OrderTotals.{total_stored}
-use Rattle.store.specs.Passes.{Pass, sum_where, count_where}
+use Rattle.store.specs.Passes.{sum_where, count_where}
 use Rattle.store.specs.Book.{is_open}
-use Rattle.store.proofs.SumLaws.{sum_where_append, sum_where_one}
 use Rattle.pass_list.specs.declared.types.Asked.{Asked}
 use Rattle.pass_list.specs.declared.types.ListedPass.{ListedPass}
-use Rattle.pass_list.specs.PassList.{pass_of, pass_at, passes_in, Light}
+use Rattle.pass_list.specs.PassList.{pass_of, passes_in, Light}
 use Rattle.pass_list.specs.Counted.{counts, adds, worth, total_of}
 use Rattle.pass_list.proofs.PassLaws.{end_open}
 
--- A sum over one pass more
-module _ (ws : List ℕ) (n : ℕ) (f : Pass → ℕ) (test : Pass → Bool) where
-  with_one : (m : ℕ) → m ≡ suc n → sum_where f test (passes_in ws m) ≡ sum_where f test (passes_in ws n) + cond (test (pass_of (pass_at ws n))) (f (pass_of (pass_at ws n))) 0
-  unfolding passes_in
-  with_one m e =
-      ap (λ (j : ℕ). sum_where f test (passes_in ws j)) e
-      ∙ sum_where_append f test (passes_in ws n) (pass_of (pass_at ws n) ∷ [])
-      ∙ ap (λ (j : ℕ). sum_where f test (passes_in ws n) + j) (sum_where_one f test (pass_of (pass_at ws n)))
+-- The open passes, by the test of the code
+open_first : (p : ListedPass) (ps : List ListedPass)
+    → count_where is_open (map pass_of (p ∷ ps)) ≡ cond (eqb p.end open_end) (1 + count_where is_open (map pass_of ps)) (count_where is_open (map pass_of ps))
+unfolding sum_where
+open_first p ps = go (eqb p.end open_end) (end_open p.end)
+  where
+    go : (b : Bool) → is_open (pass_of p) ≡ b
+        → count_where is_open (map pass_of (p ∷ ps)) ≡ cond b (1 + count_where is_open (map pass_of ps)) (count_where is_open (map pass_of ps))
+    go true e = ap (λ (b : Bool). cond b 1 0 + count_where is_open (map pass_of ps)) e
+    go false e = ap (λ (b : Bool). cond b 1 0 + count_where is_open (map pass_of ps)) e ∙ omega arith
 
-  pub sum_next : (p : ListedPass) → p ≡ pass_at ws n → sum_where f test (passes_in ws n) + cond (test (pass_of p)) (f (pass_of p)) 0 ≡ sum_where f test (passes_in ws (n + 1))
-  sum_next p is_pass = rw is_pass (sym (with_one (n + 1) (add-one n)))
-
-pub open_next : (ws : List ℕ) (n : ℕ) (p : ListedPass) {count one : ℕ} → count ≡ count_where is_open (passes_in ws n) → p ≡ pass_at ws n
-    → one ≡ cond (eqb p.end open_end) 1 0 → count + one ≡ count_where is_open (passes_in ws (n + 1))
-open_next ws n p so_far is_pass is_one =
-    rw (so_far, is_one ∙ ap (λ (b : Bool). cond b 1 0) (sym (end_open p.end))) (sum_next ws n (λ (q : Pass). 1) is_open p is_pass)
+pub open_counted : (ps : List ListedPass) → count_by (λ (p : ListedPass). eqb p.end open_end) ps ≡ count_where is_open (map pass_of ps)
+unfolding sum_where
+open_counted ps = sym (is_count_by (λ (qs : List ListedPass). count_where is_open (map pass_of qs)) (λ (p : ListedPass). eqb p.end open_end) refl open_first ps)
 
 -- Values added up over two lists, and over one item more
 module _ {A : Type 0} (value_of : A → Value) (test : A → Bool) where
@@ -53,28 +52,20 @@ module _ {A : Type 0} (value_of : A → Value) (test : A → Bool) where
       ∙ sym (plus_assoc (cond (test y) (value_of y) nothing) (total xs) (cond (test x) (value_of x) nothing))
 
 -- The total so far, of passes whose weights are numbers of 32 bits
-pub record TotalSoFar (asked : Asked) (ws : List ℕ) (n : ℕ) (total : Value) : Type 0 where
-  pub is : total ≡ total_of asked (passes_in ws n)
-  pub light : All Light (passes_in ws n)
+pub record TotalSoFar (asked : Asked) (ps : List ListedPass) (i : ℕ) (total : Value) : Type 0 where
+  pub is : total ≡ total_of asked (passes_in ps i)
+  pub light : All Light (passes_in ps i)
 
-pub total_none : (asked : Asked) (ws : List ℕ) {total : Value} → total ≡ nothing → TotalSoFar asked ws 0 total
-unfolding passes_in total_where
-total_none asked ws e = record { is = e; light = tt }
+pub total_none : (asked : Asked) (ps : List ListedPass) {total : Value} → total ≡ nothing → TotalSoFar asked ps 0 total
+unfolding total_where
+total_none asked ps e = record { is = e; light = tt }
 
-module _ (asked : Asked) (ws : List ℕ) (n : ℕ) (p : ListedPass) (light : p.weight < 2 ^ 32) where
-  with_pass_lem : (m : ℕ) → m ≡ suc n → p ≡ pass_at ws n → {total : Value} → TotalSoFar asked ws n total → TotalSoFar asked ws m (plus total (worth asked (pass_of p)))
-  unfolding passes_in
-  with_pass_lem m e is_pass {total} so_far =
-      let with_one : passes_in ws n ++ (pass_of p ∷ []) ≡ passes_in ws m =
-      ap (λ (q : ListedPass). passes_in ws n ++ (pass_of q ∷ [])) is_pass ∙ ap (passes_in ws) (sym e) in
-      record {
-        is =
-            ap (λ (v : Value). plus v (worth asked (pass_of p))) so_far.is
-            ∙ sym (total_more (adds asked) (counts asked) (passes_in ws n) (pass_of p))
-            ∙ ap (total_of asked) with_one;
-        light = subst (All Light) with_one (all_append Light (passes_in ws n) (pass_of p ∷ []) so_far.light (light, tt));
-      }
-
-  pub total_next : {total value next : Value} → TotalSoFar asked ws n total → p ≡ pass_at ws n
-      → value ≡ worth asked (pass_of p) → next ≡ plus total value → TotalSoFar asked ws (n + 1) next
-  total_next so_far is_pass is_value is_next = rw (is_next, is_value) (with_pass_lem (n + 1) (add-one n) is_pass so_far)
+pub total_next : (asked : Asked) (ps : List ListedPass) (i : ℕ) (d : ListedPass) → i < length ps → (get_or ps i d).weight < 2 ^ 32
+    → {total value next : Value} → TotalSoFar asked ps i total → value ≡ worth asked (pass_of (get_or ps i d)) → next ≡ plus total value → TotalSoFar asked ps (i + 1) next
+total_next asked ps i d below light so_far is_value is_next =
+    let p = pass_of (get_or ps i d) in
+    let more : passes_in ps (i + 1) ≡ passes_in ps i ++ (p ∷ []) = map_more pass_of ps i d below in
+    record {
+      is = is_next ∙ ap₂ plus so_far.is is_value ∙ sym (total_more (adds asked) (counts asked) (passes_in ps i) p) ∙ ap (total_of asked) (sym more);
+      light = subst (All Light) (sym more) (all_append Light (passes_in ps i) (p ∷ []) so_far.light (light, tt));
+    }

@@ -2,7 +2,6 @@
 use Rattle.std.proofs.Common.{◌≡◌, ℕ, ◌*◌, ◌%◌, ◌^◌, ◌<◌, Bool, true, false, cond, eqb, [], ◌∷◌, sym, refl, ap, arith}
 use Rattle.words.specs.Words.{open_end}
 use Rattle.words.specs.Value.{zero, plus, subtract_words, line}
-use Rattle.words.specs.declared.value.Value.{Value}
 use Rattle.words.proofs.ValueLaws.{Stored, plus_zero}
 use Rattle.tree.specs.RowSteps.{Point}
 use Rattle.tree.specs.PointSums.{dominated}
@@ -14,13 +13,6 @@ use Rattle.store.specs.Points.{end_points_of, end_time_of, points_of_pass}
 use Rattle.pass_list.specs.declared.types.ListedPass.{ListedPass}
 use Rattle.pass_list.specs.PassList.{pass_of}
 use Rattle.pass_list.specs.Counted.{point_worth, end_worth, points_worth}
-
--- What counts, and what does not
-pub counted : {b : Bool} (v : Value) → b ≡ true → v ≡ cond b v zero
-counted v e = rw e refl
-
-pub uncounted : {b : Bool} (v : Value) → b ≡ false → zero ≡ cond b v zero
-uncounted v e = rw e refl
 
 module _ (t k : ℕ) where
   -- One point

@@ -30,14 +30,14 @@ points_worth t k points = total_where (λ (p : Point). p.value) (dominated t k) 
 
 -- Which passes count. To a lookup every pass adds what its points do
 abbrev pub counts : Asked → Pass → Bool
-counts (ask.Question k1 k2 t1 t2) p = meets k1 k2 t1 t2 p
-counts (ask.BatTime k1 k2 t1 t2) p = has_key_in k1 k2 p
+counts (ask.Question w) p = meets w.k1 w.k2 w.t1 w.t2 p
+counts (ask.BatTime w) p = has_key_in w.k1 w.k2 p
 counts (ask.Lookup tree t k) p = true
 
 -- What a pass adds that counts: to bat-time "weight times ticks shared", kept where the others have their weight sum
 abbrev pub adds : Asked → Pass → Value
-adds (ask.Question k1 k2 t1 t2) p = record { count = 1; sum = p.weight }
-adds (ask.BatTime k1 k2 t1 t2) p = record { count = 0; sum = p.weight * shared_ticks t1 t2 p.start p.end }
+adds (ask.Question w) p = record { count = 1; sum = p.weight }
+adds (ask.BatTime w) p = record { count = 0; sum = p.weight * shared_ticks w.t1 w.t2 p.start p.end }
 adds (ask.Lookup tree t k) p = points_worth t k (points_of_pass tree p)
 
 abbrev pub worth : Asked → Pass → Value

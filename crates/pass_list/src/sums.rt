@@ -9,39 +9,25 @@ ghost use Rattle.pass_list.specs.declared.types.Asked.TheVariants.{Question, Bat
 ghost use Rattle.pass_list.specs.PassList.{pass_of, passes_in, Light};
 ghost use Rattle.pass_list.specs.Counted.{is_below, point_worth, end_worth, points_worth, worth, total_of};
 
-use crate::list::pass_at;
-use crate::numbers::{higher, lower, ticks_between};
-use crate::types::{Asked, ListedPass};
+use crate::types::{Asked, ListedPass, Window};
 use store::TreeName;
 use words::Value;
 
 // "the passes with k1 ≤ key < k2" that meet the question: "s < t2 and e ≥ t1", or open
-fn meets_band(pass: ListedPass, k1: u32, k2: u32, t1: u32, t2: u32) -> bool
-    ensures { result ≡ meets k1 k2 t1 t2 (pass_of pass) }
+fn meets_band(pass: ListedPass, window: Window) -> bool
+    ensures { result ≡ meets window.k1 window.k2 window.t1 window.t2 (pass_of pass) }
 {
-    if pass.key < k1 {
+    if pass.key < window.k1 || window.k2 <= pass.key || window.t2 <= pass.start {
         return false;
     }
-    if k2 <= pass.key {
-        return false;
-    }
-    if t2 <= pass.start {
-        return false;
-    }
-    if pass.end == words::OPEN {
-        return true;
-    }
-    t1 <= pass.end
+    pass.is_open() || window.t1 <= pass.end
 }
 
 // "points with tick ≤ t and key ≤ k"
 fn is_below(tick: u32, key: u32, t: u32, k: u32) -> bool
     ensures { result ≡ is_below t k tick key }
 {
-    if t < tick {
-        return false;
-    }
-    key <= k
+    tick <= t && key <= k
 }
 
 // What a point adds to a lookup.
@@ -58,7 +44,7 @@ fn point_worth(tick: u32, key: u32, value: Value, t: u32, k: u32) -> Value
 fn end_worth(pass: ListedPass, value: Value, t: u32, k: u32) -> Value
     ensures { result ≡ end_worth t k pass.end pass.key value }
 {
-    if pass.end == words::OPEN {
+    if pass.is_open() {
         return Value::zero();
     }
     point_worth(pass.end, pass.key, value, t, k)
@@ -74,12 +60,13 @@ fn one_pass(weight: u32) -> Value
     }
 }
 
-// Points of the tree of time, with the factor of t and the constant: w and w - w × s at a start.
+// Points of the tree of time, with the factor of t and the constant: w and w - w × s at a start. The crate time_points has these two lines for the store's calls; the
+// book is what the calls are compared with, so it has its own.
 fn start_line(start: u32, weight: u32) -> Value
     ensures { result ≡ line weight (subtract_words weight (weight * start)) }
 {
     let w = weight as u64;
-    Value::line(w, std::num::wrapping_sub_u64(w, w * start as u64))
+    Value::line(w, w.wrapping_sub(w * start as u64))
 }
 
 // -w and w × e at an end.
@@ -87,7 +74,7 @@ fn end_line(end: u32, weight: u32) -> Value
     ensures { result ≡ line (subtract_words 0 weight) (weight * end % 2 ^ 64) }
 {
     let w = weight as u64;
-    Value::line(std::num::wrapping_sub_u64(0, w), w * end as u64)
+    Value::line(0u64.wrapping_sub(w), w * end as u64)
 }
 
 // What the points of a pass in a tree add to a lookup.
@@ -111,65 +98,60 @@ fn points_worth(pass: ListedPass, tree: TreeName, t: u32, k: u32) -> Value
 }
 
 // What a pass adds to a question.
-fn band_worth(pass: ListedPass, k1: u32, k2: u32, t1: u32, t2: u32) -> Value
-    ensures { result ≡ worth (Question k1 k2 t1 t2) (pass_of pass) }
+fn band_worth(pass: ListedPass, window: Window) -> Value
+    ensures { result ≡ worth (Question window) (pass_of pass) }
 {
-    if meets_band(pass, k1, k2, t1, t2) {
+    if meets_band(pass, window) {
         return one_pass(pass.weight);
     }
     Value::zero()
 }
 
 // The ticks from t1 up to but not t2 at which a pass lives.
-fn shared_ticks(pass: ListedPass, t1: u32, t2: u32) -> u32
-    ensures { result ≡ shared_ticks t1 t2 (pass_of pass).start (pass_of pass).end }
+fn shared_ticks(pass: ListedPass, window: Window) -> u32
+    ensures { result ≡ shared_ticks window.t1 window.t2 (pass_of pass).start (pass_of pass).end }
 {
-    let from = higher(t1, pass.start);
-    if pass.end == words::OPEN {
-        return ticks_between(from, t2);
+    let from = window.t1.max(pass.start);
+    if pass.is_open() {
+        return window.t2.saturating_sub(from);
     }
-    ticks_between(from, lower(t2, pass.end + 1))
+    window.t2.min(pass.end + 1).saturating_sub(from)
 }
 
 // What a pass adds to bat-time.
-fn time_worth(pass: ListedPass, k1: u32, k2: u32, t1: u32, t2: u32) -> Value
-    ensures { result ≡ worth (BatTime k1 k2 t1 t2) (pass_of pass) }
+fn time_worth(pass: ListedPass, window: Window) -> Value
+    ensures { result ≡ worth (BatTime window) (pass_of pass) }
 {
-    if pass.key < k1 {
-        return Value::zero();
-    }
-    if k2 <= pass.key {
+    if pass.key < window.k1 || window.k2 <= pass.key {
         return Value::zero();
     }
     Value {
         count: 0,
-        sum: pass.weight as u64 * shared_ticks(pass, t1, t2) as u64,
+        sum: pass.weight as u64 * shared_ticks(pass, window) as u64,
     }
 }
 
-// What a pass adds to what is asked.
+// What a pass adds to what is asked. Its weight is a number of 32 bits.
 fn worth_of(pass: ListedPass, asked: Asked) -> Value
-    ensures { result ≡ worth asked (pass_of pass) }
+    ensures value { result ≡ worth asked (pass_of pass) }
+    ensures light { Light (pass_of pass) }
 {
     match asked {
-        Asked::Question { k1, k2, t1, t2 } => band_worth(pass, k1, k2, t1, t2),
-        Asked::BatTime { k1, k2, t1, t2 } => time_worth(pass, k1, k2, t1, t2),
+        Asked::Question(window) => band_worth(pass, window),
+        Asked::BatTime(window) => time_worth(pass, window),
         Asked::Lookup { tree, t, k } => points_worth(pass, tree, t, k),
     }
 }
 
 // What the first passes add together. Their weights are numbers of 32 bits, so that no count and no weight sum is cut.
-pub fn totals(passes: &[u32], started: u32, asked: Asked) -> Value
-    requires { started * 4 ≤ length passes.now }
+pub fn totals(passes: &[ListedPass], started: u32, asked: Asked) -> Value
+    requires { started ≤ length passes.now }
     ensures value { result ≡ total_of asked (passes_in passes.now started) }
     ensures all { All Light (passes_in passes.now started) }
 {
     let mut total = Value::zero();
-    let mut number: u32 = 0;
-    while number < started {
-        let pass = pass_at(passes, number);
-        total = total.plus(worth_of(pass, asked));
-        number += 1;
+    for pass in &passes[..started as usize] {
+        total = total.plus(worth_of(*pass, asked));
     }
     total
 }

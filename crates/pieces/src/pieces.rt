@@ -1,6 +1,7 @@
 // A piece of the stream: as many of its commands as have come and as there is room for answers.
 ghost use Rattle.std.specs.Prelude.{◌≡◌, length};
-ghost use Rattle.store.specs.Trees.{Lent, lent_of, Store, store_of};
+ghost use Rattle.store.specs.Trees.{Lent, Store};
+ghost use Rattle.store.specs.Lending.{words_of, lent_to_trees, store_with, SameSlices};
 ghost use Rattle.command.specs.Pieces.{run_piece};
 ghost use Rattle.pieces.specs.Fed.{runs_at, is_over, FedAs};
 
@@ -8,7 +9,7 @@ use answer_codec::put_answer;
 use framing::{command_length, goes_on, must_wait};
 use interpret::run_command;
 use replies::Reply;
-use store::{Answer, Head};
+use store::{Answer, Head, TreeMemory};
 
 // What a piece leaves: the head for the next one, how many bytes were taken and written, and whether the run is over.
 #[derive(Clone, Copy)]
@@ -50,22 +51,23 @@ fn is_over(on: bool, at: usize, count: usize, ended: bool) -> bool
 // Runs as much of a piece as it may. `ended` says that no byte comes after these: only then is a command that lacks operands cut short.
 pub fn run_piece(
     head: Head,
-    start_table: &mut [u64],
-    start_roots: &mut [u64],
-    end_table: &mut [u64],
-    end_roots: &mut [u64],
-    time_table: &mut [u64],
-    time_roots: &mut [u64],
+    starts: &mut TreeMemory,
+    ends: &mut TreeMemory,
+    time: &mut TreeMemory,
     input: &[u8],
     ended: bool,
     out: &mut [u8],
 ) -> Fed
-    ensures { let s : Store = store_of head start_table.old start_roots.old end_table.old end_roots.old time_table.old time_roots.old in
-        let left : Lent = lent_of start_table.new start_roots.new end_table.new end_roots.new time_table.new time_roots.new in
+    ensures same_starts { SameSlices starts.old starts.new }
+    ensures same_ends { SameSlices ends.old ends.new }
+    ensures same_time { SameSlices time.old time.new }
+    ensures fed { let s : Store = store_with head (words_of starts.old) (words_of ends.old) (words_of time.old) in
+        let left : Lent = lent_to_trees (words_of starts.new) (words_of ends.new) (words_of time.new) in
         FedAs (run_piece (length out.old) ended s input.now) result out.old out.new left }
 {
     // A head is 1 KB, and each struct that holds one gets its own place on the stack. So the loop keeps the head in the reply alone, where a command
-    // leaves it for the next one, and has one way out. The answer set here is never written.
+    // leaves it for the next one, and has one way out. The answer set here is never written. A command is as long as its kind says: no iterator has their
+    // places, so `taken` is moved by hand.
     let mut reply = Reply {
         answer: Answer::Opened,
         head,
@@ -77,17 +79,7 @@ pub fn run_piece(
         let code = input[taken];
         let behind = taken + 1;
         let rest = &input[behind..];
-        reply = run_command(
-            reply.head,
-            start_table,
-            start_roots,
-            end_table,
-            end_roots,
-            time_table,
-            time_roots,
-            code,
-            rest,
-        );
+        reply = run_command(reply.head, starts, ends, time, code, rest);
         let answer = reply.answer;
         written = put_answer(out, written, answer);
         taken += command_length(code, rest);

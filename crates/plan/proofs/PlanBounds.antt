@@ -9,8 +9,9 @@ use lib.ListN.{length}
 use borrow.Author.Tests.{ltb-true}
 use Rattle.tree.specs.declared.types.Row.{Row}
 use Rattle.tree.specs.declared.types.TreeUse.{TreeUse}
-use Rattle.ranges.specs.declared.search.Place.{Place}
-use Rattle.ranges.specs.declared.search.Place.TheVariants as place
+use Rattle.std.specs.Prelude.{Option, Some, None, Result, Ok, Err, IfSome, IfOk}
+use Rattle.tree.specs.declared.types.SpoiledPage.{SpoiledPage}
+use Rattle.tree.specs.Spoiled.{spoiled}
 use Rattle.tree.specs.Row.{word, row_at, row_start, rows_of, header_words, live, row_limit, copy_limit}
 use Rattle.tree.specs.KeyOrder.{Placed, key_order}
 use Rattle.tree.specs.TrueValue.{Search, none, one, first}
@@ -22,19 +23,17 @@ use Rattle.tree.proofs.Searches.{first_has, first_passes}
 use Rattle.live.proofs.PageReadings.{sound_few}
 use Rattle.plan.specs.declared.planning.Counts.{Counts}
 use Rattle.plan.specs.declared.planning.Met.{Met}
-use Rattle.plan.specs.declared.planning.Met.TheVariants as met
 use Rattle.plan.specs.declared.planning.PagePlan.{PagePlan}
-use Rattle.plan.specs.declared.planning.PagePlan.TheVariants as planned
 use Rattle.tree.specs.Tree.{page_at}
 use Rattle.tree.specs.Use.{in_use}
 use Rattle.plan.specs.PlanSteps.{appended, counts_of, met_around, met_survey, met_words, met_page, Few, FewMet, FewParts}
-use Rattle.plan.specs.PlanSteps.{parts_of, plan_page, plan_above, plan_cut, plan_met, plan_from}
+use Rattle.plan.specs.PlanSteps.{parts_of, plan_page, plan_above, plan_over, plan_cut, plan_found, plan_met, plan_from}
 use Rattle.plan.proofs.RowCounts.{live_count, rows_count, count_at_most}
 
 module _ (t : ℕ) (words : List ℕ) where
-  appended_small : (pl : Place) → appended t words pl ≤ 1
-  appended_small place.Missing = omega arith
-  appended_small (place.At p) = go (eqb (row_at words (row_start p)).birth t)
+  appended_small : (pl : Option ℕ) → appended t words pl ≤ 1
+  appended_small None = omega arith
+  appended_small (Some p) = go (eqb (row_at words (row_start p)).birth t)
     where
       go : (b : Bool) → cond b 0 1 ≤ 1
       go true = omega arith
@@ -61,22 +60,9 @@ module _ (t : ℕ) (words : List ℕ) where
     unfolding met_words
     words_few = go (sound_at t level low high words) refl
       where
-        place_few : (counts : Counts) (pl : Place) → Few counts → FewMet (met_around words counts pl)
-        place_few counts place.Missing h = h
-        place_few counts (place.At p) h = h
-
-        go : (b : Bool) → sound_at t level low high words ≡ b → FewMet (cond b (met_survey t words (survey_of t k words)) met.Spoiled)
-        go true e = place_few (counts_of t words (survey_of t k words)) (survey_of t k words).inner (counts_few e)
+        go : (b : Bool) → sound_at t level low high words ≡ b → FewMet (cond b (Ok (met_survey t words (survey_of t k words))) spoiled)
+        go true e = counts_few e
         go false e = tt
-
-pub few_made : (limit : ℕ) {pl : PagePlan} {made parts : ℕ} → pl ≡ planned.Made made parts → FewParts limit pl → (made ≤ limit) × (parts ≤ 2)
-few_made limit e h = subst (λ (q : PagePlan). FewParts limit q) e h
-
-pub few_around : {m : Met} {counts : Counts} {row : Row} → m ≡ met.Around counts row → FewMet m → Few counts
-few_around e h = subst (λ (q : Met). FewMet q) e h
-
-pub few_lowest : {m : Met} {counts : Counts} → m ≡ met.Lowest counts → FewMet m → Few counts
-few_lowest e h = subst (λ (q : Met). FewMet q) e h
 
 pub parts_few : (rows live : ℕ) → parts_of rows live ≤ 2
 parts_few rows live = go (leb rows row_limit) (leb live copy_limit)
@@ -87,13 +73,19 @@ parts_few rows live = go (leb rows row_limit) (leb live copy_limit)
     go false false = omega arith
 
 module _ (table : List ℕ) (used : TreeUse) (t k : ℕ) where
-  pub met_few : (level low high page : ℕ) → FewMet (met_page table used t k level low high page)
+  page_met_few : (level low high page : ℕ) → FewMet (met_page table used t k level low high page)
   unfolding met_page
-  met_few level low high page = go (in_use used page)
+  page_met_few level low high page = go (in_use used page)
     where
-      go : (b : Bool) → FewMet (cond b (met_words t k level low high (page_at table page)) met.Spoiled)
+      go : (b : Bool) → FewMet (cond b (met_words t k level low high (page_at table page)) spoiled)
       go true = words_few t (page_at table page) k level low high
       go false = tt
+
+  pub met_few : (level low high page : ℕ) {m : Met} → Ok m ≡ met_page table used t k level low high page → Few m.counts
+  met_few level low high page is = subst FewMet (sym is) (page_met_few level low high page)
+
+  abbrev FewPlanned : ℕ → Result PagePlan SpoiledPage → Type 0
+  FewPlanned limit r = IfOk r (FewParts limit)
 
   page_few : (made rows live limit : ℕ) → made + 2 ≤ limit → FewParts limit (plan_page made rows live)
   unfolding plan_page
@@ -102,62 +94,59 @@ module _ (table : List ℕ) (used : TreeUse) (t k : ℕ) where
       sum_few : (n : ℕ) → n ≤ 2 → made + n ≤ limit
       sum_few n p = omega arith
 
-  above_few : (counts : Counts) (limit : ℕ) (below : PagePlan) → FewParts limit below → FewParts (limit + 2) (plan_above counts below)
+  above_few : (counts : Counts) (limit : ℕ) (below : Result PagePlan SpoiledPage) → FewPlanned limit below → FewPlanned (limit + 2) (plan_over counts below)
   unfolding plan_above
-  above_few counts limit planned.Spoiled h = tt
-  above_few counts limit (planned.Made made parts) h = go (eqb parts 0)
+  above_few counts limit (Err e) h = tt
+  above_few counts limit (Ok below) h = go (eqb below.parts 0)
     where
       go : (b : Bool) → FewParts (limit + 2) (cond b
-          (plan_page made (counts.rows + counts.gain) counts.live)
-          (plan_page made (counts.rows + counts.gain + counts.inner + (parts - 1)) (counts.live + (parts - 1))))
-      go true = page_few made _ _ (limit + 2) (omega arith)
-      go false = page_few made _ _ (limit + 2) (omega arith)
+          (plan_page below.made (counts.rows + counts.gain) counts.live)
+          (plan_page below.made (counts.rows + counts.gain + counts.inner + (below.parts - 1)) (counts.live + (below.parts - 1))))
+      go true = page_few below.made _ _ (limit + 2) (omega arith)
+      go false = page_few below.made _ _ (limit + 2) (omega arith)
 
-  met_plan_few : (limit : ℕ) (around : Counts → Row → PagePlan) → 2 ≤ limit → ((c : Counts) (r : Row) → FewParts limit (around c r)) →
-      (m : Met) → FewParts limit (plan_met around m)
-  met_plan_few limit around h f met.Spoiled = tt
-  met_plan_few limit around h f (met.Lowest counts) = page_few 0 _ _ limit (omega arith)
-  met_plan_few limit around h f (met.Around counts row) = f counts row
+  met_plan_few : (limit : ℕ) (around : Counts → Row → Result PagePlan SpoiledPage) → 2 ≤ limit → ((c : Counts) (r : Row) → FewPlanned limit (around c r)) →
+      (m : Result Met SpoiledPage) → FewPlanned limit (plan_met around m)
+  met_plan_few limit around h f (Err e) = tt
+  met_plan_few limit around h f (Ok m) = go m.around
+    where
+      go : (r : Option Row) → FewPlanned limit (plan_found (around m.counts) m.counts r)
+      go None = page_few 0 _ _ limit (omega arith)
+      go (Some row) = f m.counts row
 
   -- Each page on the way makes two pages at most
-  plan_few : (level low high page : ℕ) → FewParts (2 * level + 2) (plan_from table used t k level low high page)
+  plan_few : (level low high page : ℕ) → FewPlanned (2 * level + 2) (plan_from table used t k level low high page)
   unfolding plan_from
   plan_few zero low high page =
-      met_plan_few 2 (λ (counts : Counts) (row : Row). plan_cut counts) (omega arith)
+      met_plan_few 2 (λ (counts : Counts) (row : Row). Ok (plan_cut counts)) (omega arith)
       (λ c r. page_few 0 (c.rows + c.inner + 1) (c.live + 1) 2 (omega arith))
       (met_page table used t k 0 low high page)
   plan_few (suc l) low high page =
-      subst (λ (n : ℕ). FewParts n (plan_from table used t k (suc l) low high page)) (limit_next l)
+      subst (λ (n : ℕ). FewPlanned n (plan_from table used t k (suc l) low high page)) (limit_next l)
       (met_plan_few (2 * l + 2 + 2)
-      (λ (counts : Counts) (row : Row). plan_above counts (plan_from table used t k l row.low row.high row.child)) (omega arith)
+      (λ (counts : Counts) (row : Row). plan_over counts (plan_from table used t k l row.low row.high row.child)) (omega arith)
       (λ c r. above_few c (2 * l + 2) (plan_from table used t k l r.low r.high r.child) (plan_few l r.low r.high r.child))
       (met_page table used t k (suc l) low high page))
     where
       limit_next : (n : ℕ) → 2 * n + 2 + 2 ≡ 2 * suc n + 2
       limit_next n = omega arith
 
-  few_more : (a b : ℕ) (pl : PagePlan) → a ≤ b → FewParts a pl → FewParts b pl
-  few_more a b planned.Spoiled h f = tt
-  few_more a b (planned.Made made parts) h f = (omega (arith, f.0), f.1)
-
-  pub plan_within : (limit level low high page : ℕ) → 2 * level + 2 ≤ limit → {r : PagePlan}
-      → r ≡ plan_from table used t k level low high page →
-      FewParts limit r
-  plan_within limit level low high page h e =
-      subst (λ (q : PagePlan). FewParts limit q) (sym e)
-      (few_more (2 * level + 2) limit (plan_from table used t k level low high page) h (plan_few level low high page))
+  pub plan_within : (limit level low high page : ℕ) → 2 * level + 2 ≤ limit → {planned : PagePlan}
+      → Ok planned ≡ plan_from table used t k level low high page →
+      FewParts limit planned
+  plan_within limit level low high page h is =
+      let few = subst (FewPlanned (2 * level + 2)) (sym is) (plan_few level low high page) in
+      (omega (arith, few.0), few.1)
 
 -- The row that a plan goes on from has its key inside, so its key range has one
-abbrev Wide : Met → Type 0
-Wide met.Spoiled = Unit {0}
-Wide (met.Lowest counts) = Unit {0}
-Wide (met.Around counts row) = row.low < row.high
+abbrev Wide : Result Met SpoiledPage → Type 0
+Wide r = IfOk r (λ m. IfSome m.around (λ row. row.low < row.high))
 
 words_wide : (t k level low high : ℕ) (words : List ℕ) → Wide (met_words t k level low high words)
 unfolding met_words
 words_wide t k level low high words = go (sound_at t level low high words)
   where
-    found : (s : Search Placed) → first (is_around k) (key_order t (rows_of words)) ≡ s → Wide (met_around words (counts_of t words (survey_of t k words)) (place_found s))
+    found : (s : Search Placed) → first (is_around k) (key_order t (rows_of words)) ≡ s → Wide (Ok (met_around words (counts_of t words (survey_of t k words)) (place_found s)))
     found none e = tt
     found (one x) e =
         let h = (and-eq-true_iff (ltb x.row.low k) (ltb k x.row.high)).0 (first_passes (is_around k) (key_order t (rows_of words)) e) in
@@ -165,17 +154,19 @@ words_wide t k level low high words = go (sound_at t level low high words)
         (order_seated words (word words 1) t 0 (word words 1) (omega arith)) e in
         subst (λ (r : Row). r.low < r.high) seat.same (omega (arith, ltb-true x.row.low k h.0, ltb-true k x.row.high h.1))
 
-    go : (b : Bool) → Wide (cond b (met_survey t words (survey_of t k words)) met.Spoiled)
+    go : (b : Bool) → Wide (cond b (Ok (met_survey t words (survey_of t k words))) spoiled)
     go true = found (first (is_around k) (key_order t (rows_of words))) refl
     go false = tt
 
-pub met_wide : (table : List ℕ) (used : TreeUse) (t k level low high page : ℕ) → Wide (met_page table used t k level low high page)
+page_wide : (table : List ℕ) (used : TreeUse) (t k level low high page : ℕ) → Wide (met_page table used t k level low high page)
 unfolding met_page
-met_wide table used t k level low high page = go (in_use used page)
+page_wide table used t k level low high page = go (in_use used page)
   where
-    go : (b : Bool) → Wide (cond b (met_words t k level low high (page_at table page)) met.Spoiled)
+    go : (b : Bool) → Wide (cond b (met_words t k level low high (page_at table page)) spoiled)
     go true = words_wide t k level low high (page_at table page)
     go false = tt
 
-pub wide_around : {m : Met} {counts : Counts} {row : Row} → m ≡ met.Around counts row → Wide m → row.low < row.high
-wide_around e h = subst Wide e h
+pub met_wide : (table : List ℕ) (used : TreeUse) (t k level low high page : ℕ) {m : Met} {row : Row} → Ok m ≡ met_page table used t k level low high page
+    → m.around ≡ Some row → row.low < row.high
+met_wide table used t k level low high page {m} is found =
+    subst (λ (r : Option Row). IfSome r (λ row. row.low < row.high)) found (subst Wide (sym is) (page_wide table used t k level low high page))

@@ -6,7 +6,10 @@ use mathlib.Core.Bool.{Bool, true, false, cond, ◌&&◌}
 use mathlib.Core.List.{List}
 use lib.Dec.{leb, eqb}
 use lib.ListN.{length}
+use Rattle.std.specs.Prelude.{Result, Ok}
 use Rattle.words.specs.Words.{open_end}
+use Rattle.tree.specs.declared.types.SpoiledPage.{SpoiledPage}
+use Rattle.tree.specs.Spoiled.{spoiled}
 use Rattle.tree.specs.declared.types.Row.{Row}
 use Rattle.tree.specs.Row.{word, rows_of, header_words, live, row_limit, copy_limit}
 use Rattle.tree.specs.KeyOrder.{Placed, key_order}
@@ -19,9 +22,7 @@ use Rattle.rows.proofs.SeatedRows.{Seated, order_seated}
 use Rattle.tree.proofs.Searches.{first_has}
 use Rattle.plan.specs.declared.planning.Counts.{Counts}
 use Rattle.plan.specs.declared.planning.Met.{Met}
-use Rattle.plan.specs.declared.planning.Met.TheVariants as met
 use Rattle.plan.specs.declared.planning.PagePlan.{PagePlan}
-use Rattle.plan.specs.declared.planning.PagePlan.TheVariants.{Spoiled, Made}
 use Rattle.tree.specs.Tree.{Tree, page_at, met_at}
 use Rattle.tree.specs.RowSteps.{Point, row_around, gain_rows, leaf_rows, relink_row}
 use Rattle.tree.specs.declared.types.Became.{Became}
@@ -31,7 +32,7 @@ use Rattle.tree.specs.Enter.{unwritten, enter_below, enter_from}
 use Rattle.tree.specs.Plan.{sound_below, descent_sound}
 use Rattle.tree.specs.Use.{in_use}
 use Rattle.plan.specs.PlanSteps.{appended, counts_of, met_around, met_survey, met_words, met_page}
-use Rattle.plan.specs.PlanSteps.{plan_page, plan_above, plan_lowest, plan_cut, plan_met, plan_from}
+use Rattle.plan.specs.PlanSteps.{plan_page, plan_above, plan_over, plan_lowest, plan_cut, plan_met, plan_from}
 use Rattle.plan.proofs.RowCounts.{live_count, copied_count, rows_count}
 use Rattle.plan.proofs.ShapeLaws.{cost_of, cost_in, gain_rows_lem, gain_live, leaf_lowest, cut_rows, cut_live}
 use Rattle.plan.proofs.ShapeLaws.{copied_rows_lem, copied_live, halved_rows, halved_live}
@@ -44,10 +45,10 @@ parts_in (Halved c d) = 2
 
 -- What the plan says of what was written
 abbrev pub outcome : Written → PagePlan
-outcome so = Made so.made (parts_in so.became)
+outcome so = record { made = so.made; parts = parts_in so.became }
 
-same_made : {a b c d : ℕ} → a ≡ b → c ≡ d → Made a c ≡ Made b d
-same_made p q = λ i. Made (p i) (q i)
+same_made : {a b c d : ℕ} → a ≡ b → c ≡ d → ◌≡◌ {A = PagePlan} (record { made = a; parts = c }) (record { made = b; parts = d })
+same_made p q = λ i. record { made = p i; parts = q i }
 
 -- Step 5 by counts
 pub finish_is : (tree : Tree) (t : ℕ) (so : Written) (page : ℕ) (rows : List Row) →
@@ -67,8 +68,8 @@ finish_is tree t so page rows =
         rw (e, f, f') refl
 
 -- The tests of a page, joined
-met_tests : (around : Counts → Row → PagePlan) (a b : Bool) (m : Met) →
-    plan_met around (cond a (cond b m met.Spoiled) met.Spoiled) ≡ cond (a && b) (plan_met around m) Spoiled
+met_tests : (around : Counts → Row → Result PagePlan SpoiledPage) (a b : Bool) (m : Met) →
+    plan_met around (cond a (cond b (Ok m) spoiled) spoiled) ≡ cond (a && b) (plan_met around (Ok m)) spoiled
 met_tests around true true m = refl
 met_tests around true false m = refl
 met_tests around false b m = refl
@@ -78,8 +79,7 @@ pub join_tests : {X : Type 0} (a b : Bool) (x y : X) → cond a (cond b x y) y �
 join_tests true b x y = refl
 join_tests false b x y = refl
 
-above_test : (counts : Counts) (b : Bool) (x : PagePlan) → plan_above counts (cond b x Spoiled) ≡ cond b (plan_above counts x) Spoiled
-unfolding plan_above
+above_test : (counts : Counts) (b : Bool) (x : PagePlan) → plan_over counts (cond b (Ok x) spoiled) ≡ cond b (Ok (plan_above counts x)) spoiled
 above_test counts true x = refl
 above_test counts false x = refl
 
@@ -130,7 +130,7 @@ module _ (p : Point) (small : p.tick < open_end) (words : List ℕ) where
     cut_live_count = ap (λ (n : ℕ). n + 1) (live_count p.tick (rows_of words)) ∙ sym (cut_live p small (rows_of words) e)
 
     -- Steps 3 and 7, for each thing that the child became
-    relink_is : (made : ℕ) (b : Became) → plan_above the_counts (Made made (parts_in b))
+    relink_is : (made : ℕ) (b : Became) → plan_above the_counts (record { made = made; parts = parts_in b })
         ≡ plan_page made (length (relink_row p.tick x b (gain_rows p (rows_of words))))
         (count (live p.tick) (relink_row p.tick x b (gain_rows p (rows_of words))))
     unfolding plan_above relink_row
@@ -153,56 +153,56 @@ module _ (tree : Tree) (p : Point) (small : p.tick < open_end) where
       ap₂ (plan_page 0) (gained_count p small (page_at tree.table page)) (gained_live_count p small (page_at tree.table page))
       ∙ sym (finish_is tree p.tick (unwritten tree) page (gain_rows p (rows_of (page_at tree.table page))))
 
-  leaf_is : (page : ℕ) → plan_met (λ (counts : Counts) (row : Row). plan_cut counts)
-      (met_survey p.tick (page_at tree.table page) (survey_of p.tick p.key (page_at tree.table page)))
-      ≡ outcome (finish_page tree p.tick (unwritten tree) page (leaf_rows p (rows_of (page_at tree.table page))))
+  leaf_is : (page : ℕ) → plan_met (λ (counts : Counts) (row : Row). Ok (plan_cut counts))
+      (Ok (met_survey p.tick (page_at tree.table page) (survey_of p.tick p.key (page_at tree.table page))))
+      ≡ Ok (outcome (finish_page tree p.tick (unwritten tree) page (leaf_rows p (rows_of (page_at tree.table page)))))
   leaf_is page = go (row_around p (rows_of (page_at tree.table page))) refl
     where
       go : (s : Search Placed) → row_around p (rows_of (page_at tree.table page)) ≡ s →
-          plan_met (λ (counts : Counts) (row : Row). plan_cut counts)
-          (met_around (page_at tree.table page) (the_counts p small (page_at tree.table page)) (place_found s))
-          ≡ outcome (finish_page tree p.tick (unwritten tree) page (leaf_rows p (rows_of (page_at tree.table page))))
+          plan_met (λ (counts : Counts) (row : Row). Ok (plan_cut counts))
+          (Ok (met_around (page_at tree.table page) (the_counts p small (page_at tree.table page)) (place_found s)))
+          ≡ Ok (outcome (finish_page tree p.tick (unwritten tree) page (leaf_rows p (rows_of (page_at tree.table page)))))
       go none e =
-          lowest_is page
-          ∙ ap (λ (rows : List Row). outcome (finish_page tree p.tick (unwritten tree) page rows))
+          ap Ok (lowest_is page)
+          ∙ ap (λ (rows : List Row). Ok (outcome (finish_page tree p.tick (unwritten tree) page rows)))
           (sym (leaf_lowest p small (rows_of (page_at tree.table page)) e))
       go (one x) e =
-          ap₂ (plan_page 0) (cut_count p small (page_at tree.table page) e) (cut_live_count p small (page_at tree.table page) e)
-          ∙ sym (finish_is tree p.tick (unwritten tree) page (leaf_rows p (rows_of (page_at tree.table page))))
+          ap Ok (ap₂ (plan_page 0) (cut_count p small (page_at tree.table page) e) (cut_live_count p small (page_at tree.table page) e)
+          ∙ sym (finish_is tree p.tick (unwritten tree) page (leaf_rows p (rows_of (page_at tree.table page)))))
 
   -- What the plan says of the page below a row
-  abbrev below : ℕ → Row → PagePlan
+  abbrev below : ℕ → Row → Result PagePlan SpoiledPage
   below l row = plan_from tree.table tree.used p.tick p.key l row.low row.high row.child
 
   abbrev IsPlan : ℕ → Type 0
   IsPlan l = (low high page : ℕ) →
       plan_from tree.table tree.used p.tick p.key l low high page
-      ≡ cond (descent_sound tree p l low high page) (outcome (enter_from tree p l page)) Spoiled
+      ≡ cond (descent_sound tree p l low high page) (Ok (outcome (enter_from tree p l page))) spoiled
 
   above_is : (l page : ℕ) → IsPlan l →
-      plan_met (λ (counts : Counts) (row : Row). plan_above counts (below l row))
-      (met_survey p.tick (page_at tree.table page) (survey_of p.tick p.key (page_at tree.table page)))
+      plan_met (λ (counts : Counts) (row : Row). plan_over counts (below l row))
+      (Ok (met_survey p.tick (page_at tree.table page) (survey_of p.tick p.key (page_at tree.table page))))
       ≡ cond
       (sound_below (λ (row : Row). descent_sound tree p l row.low row.high row.child)
       (row_around p (rows_of (page_at tree.table page))))
-      (outcome (enter_below tree p page (λ (child : ℕ). enter_from tree p l child) (row_around p (rows_of (page_at tree.table page)))))
-      Spoiled
+      (Ok (outcome (enter_below tree p page (λ (child : ℕ). enter_from tree p l child) (row_around p (rows_of (page_at tree.table page))))))
+      spoiled
   above_is l page ih = go (row_around p (rows_of (page_at tree.table page))) refl
     where
       go : (s : Search Placed) → row_around p (rows_of (page_at tree.table page)) ≡ s →
-          plan_met (λ (counts : Counts) (row : Row). plan_above counts (below l row))
-          (met_around (page_at tree.table page) (the_counts p small (page_at tree.table page)) (place_found s))
+          plan_met (λ (counts : Counts) (row : Row). plan_over counts (below l row))
+          (Ok (met_around (page_at tree.table page) (the_counts p small (page_at tree.table page)) (place_found s)))
           ≡ cond (sound_below (λ (row : Row). descent_sound tree p l row.low row.high row.child) s)
-          (outcome (enter_below tree p page (λ (child : ℕ). enter_from tree p l child) s)) Spoiled
-      go none e = lowest_is page
+          (Ok (outcome (enter_below tree p page (λ (child : ℕ). enter_from tree p l child) s))) spoiled
+      go none e = ap Ok (lowest_is page)
       go (one x) e =
           let counts : Counts = the_counts p small (page_at tree.table page) in
           let so : Written = enter_from tree p l x.row.child in
           let sound : Bool = descent_sound tree p l x.row.low x.row.high x.row.child in
-          ap (λ (row : Row). plan_above counts (below l row)) (sym (found_seated p.tick (page_at tree.table page) _ e).same)
-          ∙ ap (plan_above counts) (ih x.row.low x.row.high x.row.child)
+          ap (λ (row : Row). plan_over counts (below l row)) (sym (found_seated p.tick (page_at tree.table page) _ e).same)
+          ∙ ap (plan_over counts) (ih x.row.low x.row.high x.row.child)
           ∙ above_test counts sound (outcome so)
-          ∙ ap (λ (y : PagePlan). cond sound y Spoiled)
+          ∙ ap (λ (y : PagePlan). cond sound (Ok y) spoiled)
           (relink_is p small (page_at tree.table page) e so.made so.became
           ∙ sym (finish_is tree p.tick so page (relink_row p.tick x so.became (gain_rows p (rows_of (page_at tree.table page))))))
 
@@ -210,13 +210,13 @@ module _ (tree : Tree) (p : Point) (small : p.tick < open_end) where
   pub plan_from_is : (level : ℕ) → IsPlan level
   unfolding plan_from met_page met_words descent_sound enter_from
   plan_from_is zero low high page =
-      met_tests (λ (counts : Counts) (row : Row). plan_cut counts) (in_use tree.used page)
+      met_tests (λ (counts : Counts) (row : Row). Ok (plan_cut counts)) (in_use tree.used page)
       (sound_at p.tick 0 low high (page_at tree.table page))
       (met_survey p.tick (page_at tree.table page) (survey_of p.tick p.key (page_at tree.table page)))
-      ∙ ap (λ (y : PagePlan). cond (met_at tree p.tick 0 low high page) y Spoiled) (leaf_is page)
+      ∙ ap (λ (y : Result PagePlan SpoiledPage). cond (met_at tree p.tick 0 low high page) y spoiled) (leaf_is page)
   plan_from_is (suc l) low high page =
-      met_tests (λ (counts : Counts) (row : Row). plan_above counts (below l row)) (in_use tree.used page)
+      met_tests (λ (counts : Counts) (row : Row). plan_over counts (below l row)) (in_use tree.used page)
       (sound_at p.tick (suc l) low high (page_at tree.table page))
       (met_survey p.tick (page_at tree.table page) (survey_of p.tick p.key (page_at tree.table page)))
-      ∙ ap (λ (y : PagePlan). cond (met_at tree p.tick (suc l) low high page) y Spoiled) (above_is l page (plan_from_is l))
-      ∙ join_tests (met_at tree p.tick (suc l) low high page) _ _ Spoiled
+      ∙ ap (λ (y : Result PagePlan SpoiledPage). cond (met_at tree p.tick (suc l) low high page) y spoiled) (above_is l page (plan_from_is l))
+      ∙ join_tests (met_at tree p.tick (suc l) low high page) _ _ spoiled

@@ -7,12 +7,12 @@ use mathlib.Core.List.{List}
 use lib.ListN.{length}
 use borrow.Author.Tests.{eq-eqb, ne_eqb}
 use Rattle.tree.specs.declared.types.Row.{Row}
-use Rattle.tree.specs.declared.types.TreeUse.{TreeUse}
-use Rattle.ranges.specs.declared.search.Place.{Place}
-use Rattle.ranges.specs.declared.search.Place.TheVariants as place
+use Rattle.tree.specs.declared.pages.TreePages.{TreePages}
+use Rattle.tree.specs.declared.pages.ExpectedPage.{ExpectedPage}
+use Rattle.std.specs.Prelude.{Option, Some, Result, Ok, Err}
+use Rattle.tree.specs.declared.types.SpoiledPage.{SpoiledPage}
+use Rattle.tree.specs.Spoiled.{spoiled}
 use Rattle.live.specs.declared.survey.Survey.{Survey}
-use Rattle.live.specs.declared.survey.Surveyed.{Surveyed}
-use Rattle.live.specs.declared.survey.Surveyed.TheVariants as surveyed
 use Rattle.tree.specs.Row.{word, row_at, row_start, row_words, rows_of, row_limit, page_words}
 use Rattle.tree.specs.KeyOrder.{Placed, key_order}
 use Rattle.tree.specs.TrueValue.{Search, none, one, first}
@@ -21,19 +21,20 @@ use Rattle.ranges.specs.Nearest.{place_found}
 use Rattle.live.specs.Survey.{starts_from, is_around, survey_of}
 use Rattle.tree.specs.Tree.{page_at, met_at}
 use Rattle.tree.specs.Use.{in_use}
-use Rattle.tree.specs.Taking.{rootless}
+use Rattle.tree.specs.Taking.{tree_of_pages}
+use Rattle.tree.proofs.Answered.{not_spoiled, same_answer}
 use Rattle.tree.proofs.TableLaws.{page_length}
 use Rattle.live.proofs.LiveReadings.{met_inside, met_few}
-use Rattle.plan.specs.declared.planning.Met.TheVariants as met
+use Rattle.plan.specs.declared.planning.Met.{Met}
 use Rattle.plan.specs.PlanSteps.{InWords, appended, met_survey, met_words, met_page}
 use Rattle.plan.proofs.PlanLaws.{found_seated}
 
 module _ (t : ℕ) (words : List ℕ) where
-  pub in_words : {pl : Place} {p : ℕ} → pl ≡ place.At p → InWords words pl → row_start p + row_words ≤ length words
-  in_words e h = subst (λ (q : Place). InWords words q) e h
+  pub in_words : {pl : Option ℕ} {p : ℕ} → pl ≡ Some p → InWords words pl → row_start p + row_words ≤ length words
+  in_words e h = subst (λ (q : Option ℕ). InWords words q) e h
 
   -- What replacing a row costs, from the row itself
-  module _ {pl : Place} {p : ℕ} {r : Row} (at : pl ≡ place.At p) (is : r ≡ row_at words (row_start p)) where
+  module _ {pl : Option ℕ} {p : ℕ} {r : Row} (at : pl ≡ Some p) (is : r ≡ row_at words (row_start p)) where
     pub altered : r.birth ≡ t → appended t words pl ≡ 0
     altered e =
         let birth : (row_at words (row_start p)).birth ≡ t = ap (λ (s : Row). s.birth) (sym is) ∙ e in
@@ -53,48 +54,55 @@ module _ (t : ℕ) (words : List ℕ) where
       go (one x) e = omega (arith, (found_seated t words test e).within)
 
 -- The answer of a survey in the table, taken apart
-module _ (table : List ℕ) (used : TreeUse) (t k level low high page : ℕ) where
+module _ (pages : TreePages) (t k : ℕ) (e : ExpectedPage) where
   abbrev words : List ℕ
-  words = page_at table page
+  words = page_at pages.table.now e.page
 
-  abbrev met_by : Bool → Surveyed
-  met_by b = cond b (surveyed.Sound (survey_of t k words)) surveyed.Spoiled
+  abbrev meets : Bool
+  meets = met_at (tree_of_pages pages) t e.level e.low e.high e.page
 
-  pub met_spoiled : met_by (met_at (rootless table used) t level low high page) ≡ surveyed.Spoiled → met_page table used t k level low high page ≡ met.Spoiled
+  abbrev sound : Bool
+  sound = sound_at t e.level e.low e.high words
+
+  abbrev met_here : Result Met SpoiledPage
+  met_here = met_page pages.table.now pages.used t k e.level e.low e.high e.page
+
+  abbrev met_by : Bool → Result Survey SpoiledPage
+  met_by b = cond b (Ok (survey_of t k words)) spoiled
+
+  pub met_spoiled : {error : SpoiledPage} → Err error ≡ met_by meets → Err error ≡ met_here
   unfolding met_page met_words
-  met_spoiled e = go (in_use used page) (sound_at t level low high words) e
+  met_spoiled {error} f = go (in_use pages.used e.page) sound f
     where
-      go : (a b : Bool) → met_by (a && b) ≡ surveyed.Spoiled → cond a (cond b (met_survey t words (survey_of t k words)) met.Spoiled) met.Spoiled ≡ met.Spoiled
-      go true true f = let z : ◌≡◌ {A = ℕ} 0 1 = cc in absurd (omega arith)
-      go true false f = refl
-      go false b f = refl
+      go : (a b : Bool) → Err error ≡ met_by (a && b) → Err error ≡ cond a (cond b (Ok (met_survey t words (survey_of t k words))) spoiled) spoiled
+      go true true g = not_spoiled g
+      go true false g = refl
+      go false b g = refl
 
-  module _ {s : Survey} (e : met_by (met_at (rootless table used) t level low high page) ≡ surveyed.Sound s) where
-    sound_of : (met_at (rootless table used) t level low high page ≡ true) × (survey_of t k words ≡ s)
-    sound_of = go (met_at (rootless table used) t level low high page) refl e
+  module _ {s : Survey} (is : Ok s ≡ met_by meets) where
+    sound_of : (meets ≡ true) × (survey_of t k words ≡ s)
+    sound_of = go meets refl is
       where
-        go : (b : Bool) → met_at (rootless table used) t level low high page ≡ b → met_by b ≡ surveyed.Sound s
-            → (met_at (rootless table used) t level low high page ≡ true) × (survey_of t k words ≡ s)
-        go true f g = (f, cc)
-        go false f g = let z : ◌≡◌ {A = ℕ} 0 1 = cc in absurd (omega arith)
+        go : (b : Bool) → meets ≡ b → Ok s ≡ met_by b → (meets ≡ true) × (survey_of t k words ≡ s)
+        go true f g = (f, sym (same_answer g))
+        go false f g = not_spoiled (sym g)
 
-    pub met_sound : met_survey t words s ≡ met_page table used t k level low high page
+    pub met_sound : Ok (met_survey t words s) ≡ met_here
     unfolding met_page met_words
     met_sound =
         let f = sound_of in
-        let tests = (and-eq-true_iff (in_use used page) (sound_at t level low high words)).0 f.0 in
-        ap (met_survey t words) (sym f.1) ∙ rw (tests.0, tests.1)
+        let tests = (and-eq-true_iff (in_use pages.used e.page) sound).0 f.0 in
+        ap (λ (q : Survey). Ok (met_survey t words q)) (sym f.1) ∙ rw (tests.0, tests.1)
 
     -- The page lies in the table, and the rows that were found lie in the page
-    module _ (in_table : used.pages * page_words ≤ length table) where
-      pub sound_inside : page * page_words + page_words ≤ length table
-      sound_inside = met_inside table used t level low high page in_table sound_of.0
+    pub sound_inside : e.page * page_words + page_words ≤ length pages.table.now
+    sound_inside = met_inside pages t e sound_of.0
 
-      found_inside : (test : Placed → Bool) → InWords words (place_found (first test (key_order t (rows_of words))))
-      found_inside = found_in_lem t words (met_few table used t level low high page in_table sound_of.0) (page_length table page sound_inside)
+    found_inside : (test : Placed → Bool) → InWords words (place_found (first test (key_order t (rows_of words))))
+    found_inside = found_in_lem t words (met_few pages t e sound_of.0) (page_length pages.table.now e.page sound_inside)
 
-      pub gain_in_lem : InWords words s.gain
-      gain_in_lem = subst (λ (q : Survey). InWords words q.gain) sound_of.1 (found_inside (starts_from k))
+    pub gain_in_lem : InWords words s.gain
+    gain_in_lem = subst (λ (q : Survey). InWords words q.gain) sound_of.1 (found_inside (starts_from k))
 
-      pub inner_in : InWords words s.inner
-      inner_in = subst (λ (q : Survey). InWords words q.inner) sound_of.1 (found_inside (is_around k))
+    pub inner_in : InWords words s.inner
+    inner_in = subst (λ (q : Survey). InWords words q.inner) sound_of.1 (found_inside (is_around k))

@@ -8,7 +8,6 @@ use lib.ListN.{length, get_or, set, length-map}
 use Rattle.tree.specs.declared.types.Row.{Row}
 use Rattle.tree.specs.Row.{row_words, rows_from, live}
 use Rattle.tree.specs.KeyOrder.{Placed, key_order}
-use Rattle.tree.specs.TrueValue.{one, first}
 use Rattle.tree.specs.Edit.{born_at}
 use Rattle.tree.proofs.Lists.{sum_by, sum_append, one_if, count}
 use Rattle.tree.proofs.Places.{order_sum}

@@ -1,21 +1,20 @@
 // The plan of an entry, made before anything is written: whether a spoiled page is met, how many pages the entry makes, and what it
 // does to the root list. Only counts of rows decide that, so the plan reads each page once and copies no row.
-ghost use Rattle.std.specs.Prelude.{◌≡◌, cond, ◌+◌, ◌-◌, ◌*◌, ◌≤◌, ◌<◌, length, eqb};
+ghost use Rattle.std.specs.Prelude.{◌≡◌, cond, ◌+◌, ◌-◌, ◌≤◌, ◌<◌, length, eqb};
 ghost use Rattle.words.specs.declared.value.Value.{Value};
 ghost use Rattle.words.specs.Words.{open_end, root_birth};
-ghost use Rattle.tree.specs.Row.{page_words};
 ghost use Rattle.tree.specs.declared.types.RootChange.TheVariants as change;
 ghost use Rattle.tree.specs.Tree.{top_level};
+ghost use Rattle.tree.specs.Taking.{tree_with};
 ghost use Rattle.tree.specs.Plan.{plan};
 ghost use Rattle.tree.specs.Limits.{most_made};
 ghost use Rattle.plan.specs.PlanSteps.{InWords, appended, met_survey, met_page, Few, FewParts};
 ghost use Rattle.plan.specs.PlanSteps.{parts_of, plan_page, plan_above, plan_from, plan_top};
 
-use live::{Survey, Surveyed};
+use live::Survey;
 use page::Page;
-use ranges::Place;
-use roots::{Top, find_root, find_top};
-use tree::{Plan, RootChange, Row, TreeUse};
+use roots::{find_root, find_top};
+use tree::{ExpectedPage, Plan, RootChange, Row, SpoiledPage, TreePages, TreeUse};
 
 // The rows of a page before the entry: how many, how many live, and how many rows are appended where the row that gains the point,
 // or the row around the key, is replaced: 0 for a row that is altered where it is, else 1.
@@ -27,28 +26,27 @@ pub struct Counts {
     pub inner: usize,
 }
 
-// What step 1 meets: a spoiled page, a page without a row around the key, or one with such a row.
+// What step 1 meets in a sound page: its counts, and the row around the key if there is one.
 #[derive(Clone, Copy)]
-pub enum Met {
-    Spoiled,
-    Lowest(Counts),
-    Around { counts: Counts, row: Row },
+pub struct Met {
+    pub counts: Counts,
+    pub around: Option<Row>,
 }
 
-// What the entry does from a page down: it meets a spoiled page, or makes so many pages, of which the last `parts` take the rows of the page
-// itself: 0 where the page keeps its rows.
+// What the entry does from a page down: it makes so many pages, of which the last `parts` take the rows of the page itself: 0 where the page
+// keeps its rows.
 #[derive(Clone, Copy)]
-pub enum PagePlan {
-    Spoiled,
-    Made { made: u32, parts: u32 },
+pub struct PagePlan {
+    pub made: u32,
+    pub parts: u32,
 }
 
 // How many rows are appended where the row at a place is replaced at t.
-fn appended_for(words: &[u64], place: Place, t: u32) -> usize
+fn appended_for(words: &[u64], place: Option<usize>, t: u32) -> usize
     requires { InWords words.now place }
     ensures { result ≡ appended t words.now place }
 {
-    let Place::At(at) = place else {
+    let Some(at) = place else {
         return 0;
     };
     let row = rows::row_at(words, at);
@@ -64,43 +62,22 @@ fn meet_words(words: &[u64], survey: Survey, t: u32) -> Met
     requires in_words_2 { InWords words.now survey.inner }
     ensures { result ≡ met_survey t words.now survey }
 {
-    let gain = survey.gain;
-    let inner = survey.inner;
     let counts = Counts {
         rows: survey.rows,
         live: survey.live,
-        gain: appended_for(words, gain, t),
-        inner: appended_for(words, inner, t),
+        gain: appended_for(words, survey.gain, t),
+        inner: appended_for(words, survey.inner, t),
     };
-    match inner {
-        Place::Missing => Met::Lowest(counts),
-        Place::At(at) => {
-            let row = rows::row_at(words, at);
-            Met::Around { counts, row }
-        }
-    }
+    let around = survey.inner.map(|place| rows::row_at(words, place));
+    Met { counts, around }
 }
 
 // One page of the descent, as one of this level and key range.
-fn meet_page(
-    table: &[u64],
-    used: TreeUse,
-    page: u32,
-    level: u64,
-    low: u16,
-    high: u16,
-    t: u32,
-    k: u16,
-) -> Met
-    requires page_words_in_bounds { used.pages * page_words ≤ length table.now }
-    requires low_lt_high { low < high }
-    ensures { result ≡ met_page table.now used t k level low high page }
+fn meet_page(tree: TreePages, expected: ExpectedPage, t: u32, k: u16) -> Result<Met, SpoiledPage>
+    ensures { result ≡ met_page tree.entry.table.now tree.entry.used t k expected.level expected.low expected.high expected.page }
 {
-    let surveyed = live::survey_sound(table, used, page, level, low, high, t, k);
-    let Surveyed::Sound(survey) = surveyed else {
-        return Met::Spoiled;
-    };
-    meet_words(rows::page_at(table, page), survey, t)
+    let survey = live::survey_sound(tree, expected, t, k)?;
+    Ok(meet_words(rows::page_at(tree.table, expected.page), survey, t))
 }
 
 // How many pages take the rows of a page that has so many rows, and so many live ones, after the steps.
@@ -122,7 +99,7 @@ fn plan_page(made: u32, rows: usize, live: usize) -> PagePlan
     ensures { result ≡ plan_page made rows live }
 {
     let parts = parts_of(rows, live);
-    PagePlan::Made {
+    PagePlan {
         made: made + parts,
         parts,
     }
@@ -134,45 +111,40 @@ fn plan_above(counts: Counts, below: PagePlan) -> PagePlan
     requires few_parts { FewParts (most_made - 1) below }
     ensures { result ≡ plan_above counts below }
 {
-    let PagePlan::Made { made, parts } = below else {
-        return PagePlan::Spoiled;
-    };
     let rows = counts.rows + counts.gain;
-    if parts == 0 {
-        return plan_page(made, rows, counts.live);
+    if below.parts == 0 {
+        return plan_page(below.made, rows, counts.live);
     }
-    let more = parts as usize - 1;
-    plan_page(made, rows + counts.inner + more, counts.live + more)
+    let more = below.parts as usize - 1;
+    plan_page(below.made, rows + counts.inner + more, counts.live + more)
 }
 
 // What the entry does from a page of a level down: steps 1 to 7.
 fn plan_from(
-    table: &[u64],
-    used: TreeUse,
-    page: u32,
-    level: u64,
-    low: u16,
-    high: u16,
+    tree: TreePages,
+    expected: ExpectedPage,
     t: u32,
     k: u16,
-) -> PagePlan
-    requires page_words_in_bounds { used.pages * page_words ≤ length table.now }
-    requires level_le_top_level { level ≤ top_level }
-    requires low_lt_high { low < high }
-    ensures { result ≡ plan_from table.now used t k level low high page }
+) -> Result<PagePlan, SpoiledPage>
+    requires { expected.level ≤ top_level }
+    ensures { result ≡ plan_from tree.entry.table.now tree.entry.used t k expected.level expected.low expected.high expected.page }
 {
-    let met = meet_page(table, used, page, level, low, high, t, k);
-    match met {
-        Met::Spoiled => PagePlan::Spoiled,
-        Met::Lowest(counts) => plan_page(0, counts.rows + counts.gain, counts.live),
-        Met::Around { counts, row } => {
-            if level == 0 {
-                return plan_page(0, counts.rows + counts.inner + 1, counts.live + 1);
-            }
-            let below = plan_from(table, used, row.child, level - 1, row.low, row.high, t, k);
-            plan_above(counts, below)
-        }
+    let met = meet_page(tree, expected, t, k)?;
+    let counts = met.counts;
+    let Some(row) = met.around else {
+        return Ok(plan_page(0, counts.rows + counts.gain, counts.live));
+    };
+    if expected.level == 0 {
+        return Ok(plan_page(0, counts.rows + counts.inner + 1, counts.live + 1));
     }
+    let child = ExpectedPage {
+        page: row.child,
+        level: expected.level - 1,
+        low: row.low,
+        high: row.high,
+    };
+    let below = plan_from(tree, child, t, k)?;
+    Ok(plan_above(counts, below))
 }
 
 // What a new root does to the root list, whose last entry is `last`: it adds an entry, or replaces the last one if that was born at t.
@@ -187,45 +159,45 @@ fn root_change(last: u64, t: u32) -> RootChange
 
 // Step 8, for a root of level `top`: two halves get a new root, unless the root is at the top level already. Such a root would make a page more
 // than an entry may.
-fn plan_top(made: u32, parts: u32, top: u64, last: u64, t: u32) -> Plan
-    requires { made ≤ most_made + 1 }
-    ensures { result ≡ plan_top made parts top last t }
+fn plan_top(planned: PagePlan, top: u64, last: u64, t: u32) -> Result<Plan, SpoiledPage>
+    requires { planned.made ≤ most_made + 1 }
+    ensures { result ≡ plan_top planned.made planned.parts top last t }
 {
-    if parts == 0 {
-        return Plan::Ready {
+    let made = planned.made;
+    if planned.parts == 0 {
+        return Ok(Plan {
             made,
             root: RootChange::Kept,
-        };
+        });
     }
     let root = root_change(last, t);
-    if parts == 1 {
-        return Plan::Ready { made, root };
+    if planned.parts == 1 {
+        return Ok(Plan { made, root });
     }
     if top == TreeUse::TOP_LEVEL {
-        return Plan::Spoiled;
+        return Err(SpoiledPage);
     }
-    Plan::Ready {
+    Ok(Plan {
         made: made + 1,
         root,
-    }
+    })
 }
 
 // What entering a point of any value at tick t and key k would do. Nothing is written.
-pub fn plan(table: &[u64], roots: &[u64], used: TreeUse, t: u32, k: u16) -> Plan
-    requires page_words_in_bounds { used.pages * page_words ≤ length table.now }
-    requires roots_in_bounds { used.roots ≤ length roots.now }
+pub fn plan(tree: TreePages, roots: &[u64], t: u32, k: u16) -> Result<Plan, SpoiledPage>
+    requires roots_in_bounds { tree.used.roots ≤ length roots.now }
     requires t_lt_open_end { t < open_end }
-    ensures { (v : Value) → result ≡ plan (record { table = table.entry.now; roots = roots.now; used = used }) (record { tick = t; key = k; value = v }) }
+    ensures { (v : Value) → result ≡ plan (tree_with tree.entry roots.now) (record { tick = t; key = k; value = v }) }
 {
-    let root = find_root(roots, used.roots as usize, t);
-    let top = find_top(table, used, root);
-    let Top::At { page, level } = top else {
-        return Plan::Spoiled;
+    let root = find_root(roots, tree.used.roots as usize, t);
+    let top = find_top(tree, root)?;
+    let first = ExpectedPage {
+        page: top.page,
+        level: top.level,
+        low: 0,
+        high: words::KEY_LIMIT,
     };
-    let planned = plan_from(table, used, page, level, 0, words::KEY_LIMIT, t, k);
-    let PagePlan::Made { made, parts } = planned else {
-        return Plan::Spoiled;
-    };
-    let last = roots[used.roots as usize - 1];
-    plan_top(made, parts, level, last, t)
+    let planned = plan_from(tree, first, t, k)?;
+    let last = roots[tree.used.roots as usize - 1];
+    plan_top(planned, top.level, last, t)
 }

@@ -1,14 +1,15 @@
 -- What a question and bat-time answer that are not refused for their arguments or their head.
-use Prim.Native.Nat.{ℕ, ◌*◌, ◌-◌, ◌≤◌, ◌<◌}
+use Prim.Native.Nat.{ℕ, ◌-◌, ◌≤◌, ◌<◌}
 use native.Mathlib.Omega.{arith}
 use mathlib.Core.Path.{◌≡◌, refl, ap, ap₂, sym, ◌∙◌}
 use mathlib.Core.Bool.{Bool, true, false}
-use lib.ListN.{length}
+use Rattle.std.specs.Prelude.{Result}
 use Rattle.words.specs.Words.{key_limit}
-use Rattle.tree.specs.Row.{page_words}
 use Rattle.tree.specs.declared.types.Lookup.{Lookup}
+use Rattle.tree.specs.declared.types.SpoiledPage.{SpoiledPage}
 use Rattle.store.specs.declared.types.Answer.{Answer}
 use Rattle.store.specs.declared.types.Answer.TheVariants.{Refused, BatTime}
+use Rattle.tree.proofs.Main.{UseFits}
 use Rattle.store.specs.declared.types.TreeName.{TreeName}
 use Rattle.store.specs.declared.types.TreeName.TheVariants.{Starts, Ends, Time}
 use Rattle.store.specs.Trees.{Store, tree_in}
@@ -19,7 +20,6 @@ use Rattle.store.specs.Reading.{bat_time_total}
 use Rattle.store.specs.Performing.{totals, page_grounds, served, perform}
 use Rattle.store.proofs.ArgumentFacts.{Asked, asked}
 use Rattle.refusals.specs.Grounds.{earlier, head_grounds}
-use Rattle.refusals.proofs.HeadFacts.{use_words}
 use Rattle.refusals.proofs.RefusalParts.{arguments_pass, head_passes}
 use Rattle.bands.specs.Bands.{without, in_band, band_before}
 use Rattle.bands.proofs.BandLookups.{Bands, later_spoiled, earlier_spoiled, both_found, bands}
@@ -45,15 +45,17 @@ module _ (s : Store) (k1 k2 t1 t2 : ℕ) {input head : ℕ} (of_input : input �
   pub some_ticks : t1 < t2
   some_ticks = ask.ticks
 
-  -- What the lookups of a tree ask
-  pub may_look_up : (name : TreeName)
-      → ((tree_in s name).used.pages * page_words ≤ length (tree_in s name).table)
-      × (((tree_in s name).used.roots ≤ length (tree_in s name).roots) × ((k1 < k2) × (k2 ≤ key_limit)))
-  may_look_up name =
-      let fit = (head_passes s (question k1 k2 t1 t2) refl of_input of_head none).trees name in
-      (use_words fit, (fit.roots_listed, (ask.band, ask.high)))
+  -- The band has a key, and the use of each tree fits what is lent of it
+  pub some_keys : k1 < k2
+  some_keys = ask.band
 
-  abbrev answer_by : Lookup → Lookup → Answer
+  pub keys_bound : k2 ≤ key_limit
+  keys_bound = ask.high
+
+  pub use_fits : (name : TreeName) → UseFits (tree_in s name)
+  use_fits = (head_passes s (question k1 k2 t1 t2) refl of_input of_head none).trees
+
+  abbrev answer_by : Result Lookup SpoiledPage → Result Lookup SpoiledPage → Answer
   answer_by starts ends = answer_of (without starts ends)
 
   pub question_answered : answer_by (in_band (tree_in s Starts) (t2 - 1) k1 k2) (band_before (tree_in s Ends) t1 k1 k2) ≡ (perform s (question k1 k2 t1 t2)).answer
@@ -65,12 +67,12 @@ module _ (s : Store) (k1 k2 t1 t2 : ℕ) {input head : ℕ} (of_input : input �
 
       go : Bands s Starts Ends k1 k2 t1 t2 ask
           → answer_by (in_band (tree_in s Starts) (t2 - 1) k1 k2) (band_before (tree_in s Ends) t1 k1 k2) ≡ (perform s (question k1 k2 t1 t2)).answer
-      go (later_spoiled met is) = ap (λ (x : Lookup). answer_by x (band_before (tree_in s Ends) t1 k1 k2)) is ∙ refused met (λ f. omega (arith, f))
+      go (later_spoiled met is) = ap (λ (x : Result Lookup SpoiledPage). answer_by x (band_before (tree_in s Ends) t1 k1 k2)) is ∙ refused met (λ f. omega (arith, f))
       go (earlier_spoiled v m met is spoiled) = ap₂ answer_by is spoiled ∙ refused met (λ f. omega (arith, f))
       go (both_found v w m n met is found pages values lines) =
           ap₂ answer_by is found ∙ ap₂ totals values pages ∙ pages_answer s (question k1 k2 t1 t2) refl of_input of_head none refl met
 
-  abbrev time_by : Lookup → Lookup → Answer
+  abbrev time_by : Result Lookup SpoiledPage → Result Lookup SpoiledPage → Answer
   time_by until before = time_of until t2 before t1
 
   pub bat_time_answered : time_by (in_band (tree_in s Time) (t2 - 1) k1 k2) (band_before (tree_in s Time) t1 k1 k2) ≡ (perform s (bat_time k1 k2 t1 t2)).answer
@@ -82,7 +84,7 @@ module _ (s : Store) (k1 k2 t1 t2 : ℕ) {input head : ℕ} (of_input : input �
 
       go : Bands s Time Time k1 k2 t1 t2 ask
           → time_by (in_band (tree_in s Time) (t2 - 1) k1 k2) (band_before (tree_in s Time) t1 k1 k2) ≡ (perform s (bat_time k1 k2 t1 t2)).answer
-      go (later_spoiled met is) = ap (λ (x : Lookup). time_by x (band_before (tree_in s Time) t1 k1 k2)) is ∙ refused met (λ f. omega (arith, f))
+      go (later_spoiled met is) = ap (λ (x : Result Lookup SpoiledPage). time_by x (band_before (tree_in s Time) t1 k1 k2)) is ∙ refused met (λ f. omega (arith, f))
       go (earlier_spoiled v m met is spoiled) = ap₂ time_by is spoiled ∙ refused met (λ f. omega (arith, f))
       go (both_found v w m n met is found pages values lines) =
           ap₂ time_by is found ∙ ap₂ BatTime (lines (t2 - 1) (t1 - 1)) pages ∙ pages_answer s (bat_time k1 k2 t1 t2) refl of_input of_head none refl met

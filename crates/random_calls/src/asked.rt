@@ -1,7 +1,7 @@
 // What is asked: one of the trees, and a question or bat-time over the same operands.
 use crate::random::{draw, one_in};
 use pass_book::Call;
-use pass_list::Asked;
+use pass_list::{Asked, Window};
 use store::TreeName;
 
 pub fn drawn_tree(random: &mut u64) -> TreeName {
@@ -12,9 +12,9 @@ pub fn drawn_tree(random: &mut u64) -> TreeName {
     }
 }
 
-pub fn band_call(random: &mut u64, k1: u32, k2: u32, t1: u32, t2: u32) -> Call {
+pub fn band_call(random: &mut u64, window: Window) -> Call {
     if one_in(random, 2) {
-        return Call::Ask(Asked::BatTime { k1, k2, t1, t2 });
+        return Call::Ask(Asked::BatTime(window));
     }
-    Call::Ask(Asked::Question { k1, k2, t1, t2 })
+    Call::Ask(Asked::Question(window))
 }

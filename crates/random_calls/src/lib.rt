@@ -8,7 +8,7 @@ mod random;
 mod refused_calls;
 mod shape;
 
-pub use list::{NUMBERS, PASSES};
+pub use list::PASSES;
 pub use next::next_call;
 pub use random::draw;
 pub use shape::{Keys, Pace, Shape};

@@ -2,12 +2,12 @@
 ghost use Rattle.std.specs.Prelude.{◌<◌, ◌≤◌};
 
 use crate::asked::{band_call, drawn_tree};
-use crate::list::{NUMBERS, PASSES, open_number};
+use crate::list::{PASSES, open_number};
 use crate::random::{draw, one_in};
 use crate::refused_calls::odd_call;
 use crate::shape::{Shape, key, tick};
 use pass_book::Call;
-use pass_list::{Asked, PassBook, higher, lower, open_count, pass_at};
+use pass_list::{Asked, ListedPass, PassBook, Window, open_count};
 
 fn start_call(random: &mut u64, shape: Shape, book: PassBook) -> Call {
     let keys = shape.keys;
@@ -22,7 +22,7 @@ fn start_call(random: &mut u64, shape: Shape, book: PassBook) -> Call {
 }
 
 // An open pass ends, most often one of the oldest.
-fn old_end(random: &mut u64, shape: Shape, passes: &[u32; NUMBERS], book: PassBook) -> Call
+fn old_end(random: &mut u64, shape: Shape, passes: &[ListedPass; PASSES], book: PassBook) -> Call
     requires { book.started ≤ 2000 }
 {
     let pace = shape.pace;
@@ -37,17 +37,17 @@ fn old_end(random: &mut u64, shape: Shape, passes: &[u32; NUMBERS], book: PassBo
 }
 
 // The newest open pass ends at the last tick. Most likely it started there, and is a click.
-fn click_end(passes: &[u32; NUMBERS], book: PassBook) -> Call
+fn click_end(passes: &[ListedPass; PASSES], book: PassBook) -> Call
     requires { book.started ≤ 2000 }
 {
     let open = open_count(passes, book.started);
     Call::End {
         tick: book.last,
-        number: open_number(passes, book.started, std::num::wrapping_sub_u32(open, 1)),
+        number: open_number(passes, book.started, open.wrapping_sub(1)),
     }
 }
 
-fn end_call(random: &mut u64, shape: Shape, passes: &[u32; NUMBERS], book: PassBook) -> Call
+fn end_call(random: &mut u64, shape: Shape, passes: &[ListedPass; PASSES], book: PassBook) -> Call
     requires { book.started ≤ 2000 }
 {
     if one_in(random, 4) {
@@ -65,8 +65,7 @@ fn asked_key(random: &mut u64, shape: Shape, book: PassBook) -> u32
     match draw(random, 8) {
         0 => 0,
         1 => 29999,
-        2 => draw(random, 30000),
-        3 => draw(random, 30000),
+        2..=3 => draw(random, 30000),
         4 => 1,
         _ => key(random, keys, number),
     }
@@ -78,38 +77,46 @@ fn asked_tick(random: &mut u64, last: u32) -> u32 {
         0 => 0,
         1 => 4294967295 - draw(random, 3),
         2 => last,
-        3 => std::num::wrapping_add_u32(last, draw(random, 100)),
-        4 => std::num::wrapping_sub_u32(last, draw(random, 100)),
+        3 => last.wrapping_add(draw(random, 100)),
+        4 => last.wrapping_sub(draw(random, 100)),
         _ => draw(random, last % 4294967295 + 1),
     }
 }
 
 // The first tick of a question: the one that was drawn, or the end tick of a pass, at which it is still counted, or the tick after it, from which on
 // it is not.
-fn first_tick(random: &mut u64, passes: &[u32; NUMBERS], book: PassBook, tick: u32) -> u32
+fn first_tick(random: &mut u64, passes: &[ListedPass; PASSES], book: PassBook, tick: u32) -> u32
     requires { book.started ≤ 2000 }
 {
     let number = draw(random, 1 + book.started % 2000);
     match draw(random, 4) {
-        0 => pass_at(passes, number).end,
-        1 => std::num::wrapping_add_u32(pass_at(passes, number).end, 1),
+        0 => passes[number as usize].end,
+        1 => passes[number as usize].end.wrapping_add(1),
         _ => tick,
     }
 }
 
 // A question or bat-time.
-fn question_call(random: &mut u64, shape: Shape, passes: &[u32; NUMBERS], book: PassBook) -> Call
+fn question_call(
+    random: &mut u64,
+    shape: Shape,
+    passes: &[ListedPass; PASSES],
+    book: PassBook,
+) -> Call
     requires { book.started ≤ 2000 }
 {
     let one_key = asked_key(random, shape, book);
     let other_key = asked_key(random, shape, book);
     let one_tick = asked_tick(random, book.last);
     let other_tick = asked_tick(random, book.last);
-    let first = first_tick(random, passes, book, lower(one_tick, other_tick));
-    let k1 = lower(one_key, other_key);
-    let k2 = std::num::wrapping_add_u32(higher(one_key, other_key), 1);
-    let t2 = std::num::wrapping_add_u32(higher(higher(one_tick, other_tick), first), 1);
-    band_call(random, k1, k2, first, t2)
+    let first = first_tick(random, passes, book, one_tick.min(other_tick));
+    let window = Window {
+        k1: one_key.min(other_key),
+        k2: one_key.max(other_key).wrapping_add(1),
+        t1: first,
+        t2: one_tick.max(other_tick).max(first).wrapping_add(1),
+    };
+    band_call(random, window)
 }
 
 fn lookup_call(random: &mut u64, shape: Shape, book: PassBook) -> Call {
@@ -125,15 +132,12 @@ pub fn next_call(
     random: &mut u64,
     shape: Shape,
     anew: u32,
-    passes: &[u32; NUMBERS],
+    passes: &[ListedPass; PASSES],
     book: PassBook,
 ) -> Call
     requires { 1 ≤ anew }
 {
-    if PASSES <= book.started {
-        return Call::Open;
-    }
-    if one_in(random, anew) {
+    if PASSES <= book.started as usize || one_in(random, anew) {
         return Call::Open;
     }
     match draw(random, 100) {

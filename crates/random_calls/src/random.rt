@@ -1,14 +1,6 @@
 // Numbers that look random: a linear congruential generator, which gives the same ones on every run.
 ghost use Rattle.std.specs.Prelude.{◌<◌, ◌≤◌};
 
-// What is left of a number when a limit is taken away as often as it goes.
-fn rest(number: u64, limit: u32) -> u64
-    requires { 1 ≤ limit }
-    ensures { result < limit }
-{
-    number % limit as u64
-}
-
 // The next number below a limit.
 pub fn draw(random: &mut u64, limit: u32) -> u32
     requires { 1 ≤ limit }
@@ -16,7 +8,7 @@ pub fn draw(random: &mut u64, limit: u32) -> u32
 {
     let next = (*random % 2147483647 * 48271 + 12345) % 2147483647;
     *random = next;
-    rest(next / 8, limit) as u32
+    (next / 8 % limit as u64) as u32
 }
 
 // True once in so many times.

@@ -2,7 +2,7 @@
 use crate::asked::{band_call, drawn_tree};
 use crate::random::draw;
 use pass_book::Call;
-use pass_list::{Asked, PassBook};
+use pass_list::{Asked, PassBook, Window};
 
 fn odd_key(random: &mut u64) -> u32 {
     match draw(random, 6) {
@@ -28,7 +28,7 @@ fn odd_weight(random: &mut u64) -> u32 {
 fn odd_tick(random: &mut u64, last: u32) -> u32 {
     match draw(random, 5) {
         0 => 0,
-        1 => std::num::wrapping_sub_u32(last, 1),
+        1 => last.wrapping_sub(1),
         2 => 4294967295,
         _ => last,
     }
@@ -36,11 +36,13 @@ fn odd_tick(random: &mut u64, last: u32) -> u32 {
 
 // A question or bat-time.
 fn odd_question(random: &mut u64, last: u32) -> Call {
-    let k1 = odd_key(random);
-    let k2 = odd_key(random);
-    let t1 = odd_tick(random, last);
-    let t2 = odd_tick(random, last);
-    band_call(random, k1, k2, t1, t2)
+    let window = Window {
+        k1: odd_key(random),
+        k2: odd_key(random),
+        t1: odd_tick(random, last),
+        t2: odd_tick(random, last),
+    };
+    band_call(random, window)
 }
 
 pub fn odd_call(random: &mut u64, book: PassBook) -> Call {

@@ -88,9 +88,9 @@ fn late_tick(random: &mut u64, last: u32) -> u32 {
 // The next tick. One that wraps is too early, and refused.
 pub fn tick(random: &mut u64, pace: Pace, last: u32) -> u32 {
     match pace {
-        Pace::Slow => std::num::wrapping_add_u32(last, draw(random, 2)),
-        Pace::Swarms => std::num::wrapping_add_u32(last, swarm_step(random)),
-        Pace::Jumps => std::num::wrapping_add_u32(last, draw(random, 65536)),
+        Pace::Slow => last.wrapping_add(draw(random, 2)),
+        Pace::Swarms => last.wrapping_add(swarm_step(random)),
+        Pace::Jumps => last.wrapping_add(draw(random, 65536)),
         Pace::Late => late_tick(random, last),
     }
 }

@@ -9,7 +9,7 @@ use mathlib.Core.List.{List, [], ◌∷◌}
 use lib.ListN.{length, get_or, drop}
 use borrow.Author.Tests.{le-leb, lt-leb, lt-ltb, le-ltb}
 use Rattle.tree.specs.Row.{row_limit}
-use Rattle.ranges.specs.declared.search.Place.TheVariants.{At}
+use Rattle.std.specs.declared.option.Option.TheVariants.{Some}
 use Rattle.ranges.specs.KeyRanges.{range_low, range_high, lesser, holds_key}
 use Rattle.ranges.specs.Nearest.{no_range, fits, candidate, least, place_at, holder, holder_sum}
 use Rattle.words.proofs.LoopLaws.{drop_here, drop_none}
@@ -99,7 +99,7 @@ holder_small key at e h = go (holds_key key e)
 
 -- The place that the sum tells
 pub holder_place : (key : ℕ) (ranges places : List ℕ) → length ranges ≤ 256 → holder_sum key 0 ranges / 256 ≡ 1
-    → place_at places (least 0 (key + 1) (key + 1) 0 ranges) ≡ At (get_or places (holder_sum key 0 ranges % 256) 0)
+    → place_at places (least 0 (key + 1) (key + 1) 0 ranges) ≡ Some (get_or places (holder_sum key 0 ranges % 256) 0)
 holder_place key ranges places small is =
     let found = one_holder key 0 ranges (omega arith) (omega arith) (omega arith) in
-    rw (lt-leb no_range (least 0 (key + 1) (key + 1) 0 ranges) found.0) (ap (λ (n : ℕ). At (get_or places n 0)) found.1)
+    rw (lt-leb no_range (least 0 (key + 1) (key + 1) 0 ranges) found.0) (ap (λ (n : ℕ). Some (get_or places n 0)) found.1)

@@ -1,11 +1,18 @@
 -- The lesser of two numbers.
-use Prim.Native.Nat.{ℕ, ◌≤◌}
+use Prim.Native.Nat.{ℕ, ◌≤◌, min}
 use native.Mathlib.Omega.{arith}
 use mathlib.Core.Path.{◌≡◌, refl, sym, ◌∙◌}
 use mathlib.Core.Bool.{Bool, true, false, cond}
 use lib.Dec.{ltb}
 use borrow.Author.Tests.{ltb-true, ltb-false, le-ltb}
 use Rattle.ranges.specs.KeyRanges.{lesser}
+
+pub min_is_lesser : (a b : ℕ) → min a b ≡ lesser a b
+min_is_lesser a b = go (ltb a b) refl
+  where
+    go : (c : Bool) → ltb a b ≡ c → min a b ≡ cond c a b
+    go true e = omega (arith, ltb-true a b e)
+    go false e = omega (arith, ltb-false a b e)
 
 pub lesser_first : (a b : ℕ) → a ≤ b → lesser a b ≡ a
 lesser_first a b h = go (ltb a b) refl

@@ -10,7 +10,7 @@ use lib.ListN.{length, get_or, drop}
 use borrow.Author.Tests.{leb-true, leb-false, ltb-false, le-leb, lt-leb}
 use Rattle.tree.specs.KeyOrder.{Placed, placed_low, placed_high, insert_by, sort_by}
 use Rattle.tree.specs.TrueValue.{Search, none, one, first}
-use Rattle.ranges.specs.declared.search.Place.TheVariants.{At}
+use Rattle.std.specs.declared.option.Option.TheVariants.{Some}
 use Rattle.ranges.specs.KeyRanges.{range_of, range_low, range_high, place_in, lesser}
 use Rattle.ranges.specs.Nearest.{no_range, fits, candidate, least, place_at, place_found}
 use Rattle.tree.proofs.Lists.{All}
@@ -176,4 +176,4 @@ module _ (from below above : ℕ) where
       go none n f = rw (le-leb no_range n (omega arith))
       go (one y) n f =
           let i : n % 256 ≡ f.index = omega (arith, f.number_is, f.inside) in
-          rw (lt-leb no_range n (omega (arith, f.number_is, f.inside, f.low_short)), i) (ap At f.place_is)
+          rw (lt-leb no_range n (omega (arith, f.number_is, f.inside, f.low_short)), i) (ap Some f.place_is)

@@ -1,9 +1,7 @@
 -- The first row in key order that fits, among rows in the order of their places: the least number made of low key and position.
-use Rattle.std.specs.Prelude.{ℕ, suc, ◌+◌, ◌*◌, ◌%◌, List, [], ◌∷◌, Bool, cond, ◌&&◌, leb, ltb, get_or}
+use Rattle.std.specs.Prelude.{ℕ, suc, ◌+◌, ◌*◌, ◌%◌, List, [], ◌∷◌, Bool, cond, ◌&&◌, leb, ltb, get_or, Option, Some, None}
 use Rattle.tree.specs.KeyOrder.{Placed}
 use Rattle.tree.specs.TrueValue.{Search, none, one}
-use Rattle.ranges.specs.declared.search.Place.{Place}
-use Rattle.ranges.specs.declared.search.Place.TheVariants.{At, Missing}
 use Rattle.ranges.specs.KeyRanges.{range_low, range_high, holds_key, lesser}
 
 -- The number of no range: above those of all that fit
@@ -24,13 +22,13 @@ module _ (from below above : ℕ) where
   least at (e ∷ es) = lesser (candidate at e) (least (suc at) es)
 
 -- The place at the position that a number has
-abbrev pub place_at : List ℕ → ℕ → Place
-place_at places best = cond (leb no_range best) Missing (At (get_or places (best % 256) 0))
+abbrev pub place_at : List ℕ → ℕ → Option ℕ
+place_at places best = cond (leb no_range best) None (Some (get_or places (best % 256) 0))
 
 -- The place of the row that a search in key order found
-abbrev pub place_found : Search Placed → Place
-place_found none = Missing
-place_found (one x) = At x.place
+abbrev pub place_found : Search Placed → Option ℕ
+place_found none = None
+place_found (one x) = Some x.place
 
 -- 256 + its position for a range that holds a key, and these numbers added up over the ranges, the first of which is at position `at`
 module _ (key : ℕ) where

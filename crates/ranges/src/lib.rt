@@ -4,5 +4,5 @@
 mod range;
 mod search;
 
-pub use range::{holds_key, lesser, range_high, range_low, range_of};
-pub use search::{Place, find_holder, find_place};
+pub use range::{holds_key, range_high, range_low, range_of};
+pub use search::{find_holder, find_place};

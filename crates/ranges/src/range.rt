@@ -1,7 +1,7 @@
 // A key range as one number: low key + 65,536 × high key.
 ghost use Rattle.std.specs.Prelude.{◌≡◌};
 ghost use Rattle.words.specs.Words.{low_key, high_key, key_range};
-ghost use Rattle.ranges.specs.KeyRanges.{range_low, range_high, holds_key, lesser};
+ghost use Rattle.ranges.specs.KeyRanges.{range_low, range_high, holds_key};
 
 // The key range in word 0 of a row.
 pub fn range_of(keys: u64) -> u32
@@ -26,13 +26,4 @@ pub fn holds_key(range: u32, key: u32) -> bool
     ensures { result ≡ holds_key key range }
 {
     range_low(range) <= key && key < range_high(range)
-}
-
-pub fn lesser(a: u32, b: u32) -> u32
-    ensures { result ≡ lesser a b }
-{
-    if a < b {
-        return a;
-    }
-    b
 }

@@ -3,17 +3,10 @@ ghost use Rattle.std.specs.Prelude.{◌≡◌, ◌&&◌, ◌+◌, ◌≤◌, ◌
 ghost use Rattle.tree.specs.Row.{row_limit};
 ghost use Rattle.ranges.specs.Nearest.{fits, candidate, least, no_range, place_at, holder, holder_sum};
 
-use crate::range::{holds_key, lesser, range_high, range_low};
+use crate::range::{holds_key, range_high, range_low};
 
 // The number of no range: above those of all that fit.
 const NO_RANGE: u32 = 16777216;
-
-// Where a search ends: at the row of a place, or nowhere.
-#[derive(Clone, Copy)]
-pub enum Place {
-    At(usize),
-    Missing,
-}
 
 // Whether the range starts from `from` on but below `below`, and does not stop below `above`.
 fn range_fits(range: u32, from: u32, below: u32, above: u32) -> bool
@@ -45,25 +38,23 @@ fn least_candidate(ranges: &[u32], from: u32, below: u32, above: u32) -> u32
     ensures { result ≡ least from below above 0 ranges.now }
 {
     let mut best: u32 = NO_RANGE;
-    let mut at: usize = 0;
-    while at < ranges.len() {
-        best = lesser(best, candidate(ranges[at], at, from, below, above));
-        at += 1;
+    for (at, range) in ranges.iter().enumerate() {
+        best = best.min(candidate(*range, at, from, below, above));
     }
     best
 }
 
 // The place of the first row in key order whose range starts from `from` on but below `below`, and does not stop below `above`.
-pub fn find_place(ranges: &[u32], places: &[u8], from: u32, below: u32, above: u32) -> Place
+pub fn find_place(ranges: &[u32], places: &[u8], from: u32, below: u32, above: u32) -> Option<usize>
     requires ranges_len_bound { length ranges.now ≤ row_limit }
     requires places_len { length places.now ≡ length ranges.now }
     ensures { result ≡ place_at places.now (least from below above 0 ranges.now) }
 {
     let best = least_candidate(ranges, from, below, above);
     if NO_RANGE <= best {
-        return Place::Missing;
+        return None;
     }
-    Place::At(places[best as usize % 256] as usize)
+    Some(places[best as usize % 256] as usize)
 }
 
 // 256 + where it is for a range that holds the key, else 0.
@@ -83,16 +74,14 @@ fn holder_sum(ranges: &[u32], key: u32) -> u32
     ensures { result ≡ holder_sum key 0 ranges.now }
 {
     let mut sum: u32 = 0;
-    let mut at: usize = 0;
-    while at < ranges.len() {
-        sum += holder(ranges[at], at, key);
-        at += 1;
+    for (at, range) in ranges.iter().enumerate() {
+        sum += holder(*range, at, key);
     }
     sum
 }
 
 // The place of the first row in key order that holds the key. In a tested page one row does, and needs no comparison with others.
-pub fn find_holder(ranges: &[u32], places: &[u8], key: u32) -> Place
+pub fn find_holder(ranges: &[u32], places: &[u8], key: u32) -> Option<usize>
     requires ranges_len_bound { length ranges.now ≤ row_limit }
     requires places_len { length places.now ≡ length ranges.now }
     requires key_bound { key < 65536 }
@@ -100,7 +89,7 @@ pub fn find_holder(ranges: &[u32], places: &[u8], key: u32) -> Place
 {
     let sum = holder_sum(ranges, key);
     if sum / 256 == 1 {
-        return Place::At(places[sum as usize % 256] as usize);
+        return Some(places[sum as usize % 256] as usize);
     }
     find_place(ranges, places, 0, key + 1, key + 1)
 }

@@ -1,9 +1,9 @@
 -- The refusal of any call but opening, one law for each part that the code tests, and what it knows before the next part.
-use Prim.Native.Nat.{ℕ, zero, suc, ◌≤◌}
+use Prim.Native.Nat.{ℕ, zero, suc}
 use native.Mathlib.Omega.{arith}
-use mathlib.Core.Path.{◌≡◌, refl, ap, ap₂, sym, ◌∙◌}
+use mathlib.Core.Path.{◌≡◌, refl, ap, sym, ◌∙◌}
 use mathlib.Core.Bool.{Bool, false, ◌&&◌, not}
-use mathlib.Core.List.{List, [], ◌∷◌, ◌++◌}
+use mathlib.Core.List.{List, ◌∷◌, ◌++◌}
 use Rattle.store.specs.Trees.{Store}
 use Rattle.store.specs.Head.{head_fits}
 use Rattle.store.specs.Calls.{Call, is_opening}
@@ -78,3 +78,21 @@ module _ (s : Store) (c : Call) (other : is_opening c ≡ false) where
 
         pub by_pages : {pages : ℕ} → state ≡ 0 → pages ≡ first_met (page_grounds s c) → pages ≡ refusal s c
         by_pages fine e = by_second is none (by_second of_state fine e) ∙ sym refusal_parts
+
+  -- The same where each refusal is told at once and no later part is looked at: n is what the part says that calls for one
+  pub by_arguments : {n : ℕ} → n ≡ first_met (argument_grounds c) → (n ≡ 0 → ⊥) → n ≡ refusal s c
+  by_arguments is some = by_head is (by_first _ refl some) some
+
+  module _ (passed : 0 ≡ first_met (argument_grounds c)) where
+    pub by_fit : {n : ℕ} → n ≡ first_met (head_grounds s) → (n ≡ 0 → ⊥) → n ≡ refusal s c
+    by_fit is some = by_head passed is some
+
+    module _ (fits : 0 ≡ first_met (head_grounds s)) where
+      pub known_head : HeadFacts s
+      known_head = head_passes passed fits refl
+
+      pub by_known : {n : ℕ} → n ≡ first_met head_state → (n ≡ 0 → ⊥) → n ≡ refusal s c
+      by_known is some = by_state passed fits refl is some
+
+      pub by_entries : {n : ℕ} → 0 ≡ first_met head_state → n ≡ first_met (page_grounds s c) → n ≡ refusal s c
+      by_entries fine is = by_pages passed fits refl fine refl is

@@ -1,6 +1,6 @@
-// The refusal lists of the calls: the number of the first ground that is met, or 0.
+// The refusal lists of the calls: the first ground that is met.
 #![tactic(auto)]
 
 mod refusals;
 
-pub use refusals::{end_refusal, head_refusal, opening_refusal, start_refusal};
+pub use refusals::{end_refusal, opening_refusal, reading_refusal, start_refusal};

@@ -1,4 +1,4 @@
-// The refusal lists: the number of the first ground that is met, or 0. What a ground reads is looked at only where no earlier one is met,
+// The refusal lists: the first ground that is met. What a ground reads is looked at only where no earlier one is met,
 // since only then may it be trusted: the head after 20, the open passes and the trees after that. The plan, which opens pages, comes last.
 ghost use Rattle.std.specs.Prelude.{◌≡◌, ℕ, ◌<◌};
 ghost use Rattle.words.specs.Words.{open_end};
@@ -7,7 +7,9 @@ ghost use Rattle.tree.specs.Tree.{Tree};
 ghost use Rattle.tree.specs.Plan.{plan};
 ghost use Rattle.tree.proofs.Main.{UseFits};
 ghost use Rattle.room.specs.PlanGrounds.{plan_grounds};
-ghost use Rattle.store.specs.Trees.{Lent, lent_of, Store, store_of};
+ghost use Rattle.store.specs.Trees.{Lent};
+ghost use Rattle.store.specs.Lending.{words_in, tree_of, lent_to_trees, store_seen};
+ghost use Rattle.store.specs.Refused.{told};
 ghost use Rattle.store.specs.declared.types.Head.{Head};
 ghost use Rattle.store.specs.Head.{pass_of};
 ghost use Rattle.store.specs.Calls.{opening, start, end};
@@ -18,173 +20,102 @@ ghost use Rattle.refusals.specs.Grounds.{earlier, head_grounds, lower_of};
 use grounds::{end_input, end_state, start_input, start_state};
 use head::head_fits;
 use room::{entry_refusal, too_small};
-use store::{FoundPass, Head};
-use tree::TreeUse;
+use store::{FoundPass, Refusal, StoreView, TreeView};
+use tree::{TreePages, TreeUse};
 
 // The refusal of an opening, which sees no head. Each tree is tested before one is written.
-pub fn opening_refusal(
-    start_table: &[u64],
-    start_roots: &[u64],
-    end_table: &[u64],
-    end_roots: &[u64],
-    time_table: &[u64],
-    time_roots: &[u64],
-) -> u8
-    ensures { let lent : Lent = lent_of start_table.now start_roots.now end_table.now end_roots.now time_table.now time_roots.now in
-        ((head : Head) → result ≡ refusal (record { head = head; lent = lent }) opening) }
+pub fn opening_refusal(starts: TreeView, ends: TreeView, time: TreeView) -> Result<(), Refusal>
+    ensures { let lent : Lent = lent_to_trees (words_in starts.entry) (words_in ends.entry) (words_in time.entry) in
+        ((head : Head) → told result ≡ refusal (record { head = head; lent = lent }) opening) }
 {
-    if too_small(start_table, start_roots) {
-        return 8;
+    if too_small(starts) {
+        return Err(Refusal::TooSmall);
     }
-    if too_small(end_table, end_roots) {
-        return 8;
+    if too_small(ends) {
+        return Err(Refusal::TooSmall);
     }
-    if too_small(time_table, time_roots) {
-        return 8;
+    if too_small(time) {
+        return Err(Refusal::TooSmall);
     }
-    0
+    Ok(())
 }
 
-// 20, unless the input calls for a refusal already.
-pub fn head_refusal(
-    head: Head,
-    start_table: &[u64],
-    start_roots: &[u64],
-    end_table: &[u64],
-    end_roots: &[u64],
-    time_table: &[u64],
-    time_roots: &[u64],
-    input: u8,
-) -> u8
-    ensures { let s : Store = store_of head start_table.now start_roots.now end_table.now end_roots.now time_table.now time_roots.now in
-        result ≡ earlier input (first_met (head_grounds s)) }
+// 20, of every call but an opening, once its input calls for no refusal.
+fn head_refusal(store: &StoreView) -> Result<(), Refusal>
+    ensures { told result ≡ first_met (head_grounds (store_seen store.now)) }
 {
-    if input != 0 {
-        return input;
+    if head_fits(store) {
+        return Ok(());
     }
-    if head_fits(
-        head,
-        start_table,
-        start_roots,
-        end_table,
-        end_roots,
-        time_table,
-        time_roots,
-    ) {
-        return 0;
-    }
-    20
+    Err(Refusal::HeadMisfits)
+}
+
+// The refusals of a call that only reads, before it opens a page: those of its input, and then 20.
+pub fn reading_refusal(store: &StoreView, input: Result<(), Refusal>) -> Result<(), Refusal>
+    ensures { told result ≡ earlier (told input) (first_met (head_grounds (store_seen store.now))) }
+{
+    input?;
+    head_refusal(store)
 }
 
 // 26, 27 and 28 of a point of any value that is to be entered into a tree. Nothing is written.
-fn planned_refusal(table: &[u64], roots: &[u64], used: TreeUse, tick: u32, key: u16) -> u8
-    requires use_fits { UseFits (record { table = table.now; roots = roots.now; used = used }) }
+fn planned_refusal(lent: TreeView, used: TreeUse, tick: u32, key: u16) -> Result<(), Refusal>
+    requires use_fits { UseFits (tree_of (words_in lent) used) }
     requires tick_lt_open_end { tick < open_end }
-    ensures { let tree : Tree = record { table = table.entry.now; roots = roots.now; used = used } in
-        ((value : Value) → result ≡ first_met (plan_grounds tree (plan tree (record { tick = tick; key = key; value = value })))) }
+    ensures { let tree : Tree = tree_of (words_in lent.entry) used in
+        ((value : Value) → told result ≡ first_met (plan_grounds tree (plan tree (record { tick = tick; key = key; value = value })))) }
 {
-    let plan = plan::plan(table, roots, used, tick, key);
-    entry_refusal(table, roots, used, plan)
+    let tree = TreePages {
+        table: lent.table,
+        used,
+    };
+    let plan = plan::plan(tree, lent.roots, tick, key)?;
+    entry_refusal(lent, used, plan)
 }
 
-// The refusal of a call that enters two points, from that of each: 26 of either comes before 27 of either, and that before 28 of either. 0 is none.
-fn lower_refusal(one: u8, other: u8) -> u8
-    ensures { result ≡ lower_of one other }
+// The refusal of a call that enters two points, from that of each: 26 of either comes before 27 of either, and that before 28 of either.
+fn lower_refusal(one: Result<(), Refusal>, other: Result<(), Refusal>) -> Result<(), Refusal>
+    ensures { told result ≡ lower_of (told one) (told other) }
 {
-    if one == 0 {
+    let Err(first) = one else {
         return other;
-    }
-    if other == 0 {
+    };
+    let Err(second) = other else {
         return one;
-    }
-    if other < one {
+    };
+    if second.number() < first.number() {
         return other;
     }
     one
 }
 
 // The refusal of a start.
-pub fn start_refusal(
-    head: Head,
-    start_table: &[u64],
-    start_roots: &[u64],
-    end_table: &[u64],
-    end_roots: &[u64],
-    time_table: &[u64],
-    time_roots: &[u64],
-    tick: u32,
-    key: u32,
-    weight: u32,
-) -> u8
-    ensures { let s : Store = store_of head start_table.now start_roots.now end_table.now end_roots.now time_table.now time_roots.now in
-        result ≡ refusal s (start tick key weight) }
+pub fn start_refusal(store: &StoreView, tick: u32, key: u32, weight: u32) -> Result<(), Refusal>
+    ensures { told result ≡ refusal (store_seen store.now) (start tick key weight) }
 {
-    let input = start_input(tick, key, weight);
-    let early = head_refusal(
-        head,
-        start_table,
-        start_roots,
-        end_table,
-        end_roots,
-        time_table,
-        time_roots,
-        input,
-    );
-    if early != 0 {
-        return early;
-    }
-    let state = start_state(head.last, head.count, head.started, tick);
-    if state != 0 {
-        return state;
-    }
-    let starts = head.starts;
-    let one = planned_refusal(start_table, start_roots, starts, tick, key as u16);
-    let time = head.time;
-    let other = planned_refusal(time_table, time_roots, time, tick, key as u16);
+    start_input(tick, key, weight)?;
+    head_refusal(store)?;
+    let head = store.head;
+    start_state(head.last, head.count, head.started, tick)?;
+    let one = planned_refusal(store.starts, head.starts, tick, key as u16);
+    let other = planned_refusal(store.time, head.time, tick, key as u16);
     lower_refusal(one, other)
 }
 
 // The refusal of an end, from where the pass of its number was found. The pass gives the key of the points to plan.
-pub fn end_refusal(
-    head: Head,
-    start_table: &[u64],
-    start_roots: &[u64],
-    end_table: &[u64],
-    end_roots: &[u64],
-    time_table: &[u64],
-    time_roots: &[u64],
-    tick: u32,
-    found: FoundPass,
-) -> u8
-    requires { (number : ℕ) × (found ≡ pass_of head number) }
-    ensures { let s : Store = store_of head start_table.now start_roots.now end_table.now end_roots.now time_table.now time_roots.now in
-        ((number : ℕ) → found ≡ pass_of head number → result ≡ refusal s (end tick number)) }
+pub fn end_refusal(store: &StoreView, tick: u32, found: Option<FoundPass>) -> Result<(), Refusal>
+    requires { (number : ℕ) × (found ≡ pass_of store.now.head.now number) }
+    ensures { (number : ℕ) → found ≡ pass_of store.now.head.now number → told result ≡ refusal (store_seen store.now) (end tick number) }
 {
-    let input = end_input(tick);
-    let early = head_refusal(
-        head,
-        start_table,
-        start_roots,
-        end_table,
-        end_roots,
-        time_table,
-        time_roots,
-        input,
-    );
-    if early != 0 {
-        return early;
-    }
-    let state = end_state(head.last, tick, found);
-    if state != 0 {
-        return state;
-    }
-    let FoundPass::At { place: _, pass } = found else {
-        // 22 came for it
-        return 22;
+    end_input(tick)?;
+    head_refusal(store)?;
+    let head = store.head;
+    end_state(head.last, tick, found)?;
+    let Some(found) = found else {
+        // It was refused by then
+        return Err(Refusal::NotOpen);
     };
-    let ends = head.ends;
-    let one = planned_refusal(end_table, end_roots, ends, tick, pass.key as u16);
-    let time = head.time;
-    let other = planned_refusal(time_table, time_roots, time, tick, pass.key as u16);
+    let one = planned_refusal(store.ends, head.ends, tick, found.pass.key as u16);
+    let other = planned_refusal(store.time, head.time, tick, found.pass.key as u16);
     lower_refusal(one, other)
 }

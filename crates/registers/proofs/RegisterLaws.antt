@@ -1,28 +1,15 @@
 -- What the code of the registers tests and writes.
-use Prim.Native.Nat.{ℕ, zero, suc, ◌+◌, ◌-◌, ◌≤◌}
+use Prim.Native.Nat.{ℕ, zero, suc, ◌-◌, ◌≤◌}
 use native.Mathlib.Nat.{zero-add}
 use native.Mathlib.Omega.{arith}
-use mathlib.Core.Path.{◌≡◌, refl, ap, ap₂, sym, ◌∙◌}
+use mathlib.Core.Path.{◌≡◌, ap, ap₂, ◌∙◌}
 use mathlib.Core.List.{List, [], ◌∷◌, ◌++◌}
 use lib.ListN.{length, get_or, set, take, drop, replicate, length-append, length-replicate}
 use lib.Seq.{take_all}
 use Rattle.words.specs.Overwrite.{overwrite}
-use Rattle.words.proofs.OverwriteLaws.{overwrite_all}
-use Rattle.codec.specs.Bytes.{bytes_of}
-use Rattle.codec.proofs.ByteLaws.{bytes_length}
 use Rattle.command.specs.Stream.{longest_answer}
-use Rattle.register_block.specs.Block.{Block, block_bytes, command_at, status_at, flags_at, mask_at, result_at, result_count, flag_byte, clear_block, flags_shown, status_shown, zero_filled, result_shown, marked, showing}
+use Rattle.register_block.specs.Block.{Block, command_at, status_at, flags_at, result_at, result_count, flag_byte, flags_shown, status_shown, zero_filled, result_shown, marked, showing}
 use Rattle.register_block.proofs.BlockBytes.{filled_byte}
-
--- The bytes of the number 0 are zeros
-zero_bytes : (n : ℕ) → bytes_of n 0 ≡ replicate n 0
-unfolding bytes_of
-zero_bytes zero = refl
-zero_bytes (suc n) = ap (◌∷◌ 0) (zero_bytes n)
-
-pub all_cleared : (b : Block) (mask : ℕ) → length b ≡ block_bytes → {b' : Block} → b' ≡ overwrite b 0 (bytes_of block_bytes 0) → set b' mask_at mask ≡ clear_block mask
-all_cleared b mask long e =
-    ap (λ (x : Block). set x mask_at mask) (e ∙ overwrite_all b (bytes_of block_bytes 0) (bytes_length block_bytes 0 ∙ sym long) ∙ zero_bytes block_bytes)
 
 -- Bytes at the front of zeros are bytes that are zero filled
 fewer_zeros : (n k : ℕ) → drop {A = ℕ} k (replicate n 0) ≡ replicate (n - k) 0

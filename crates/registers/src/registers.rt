@@ -3,14 +3,13 @@ ghost use Rattle.std.specs.Prelude.{◌≡◌};
 ghost use Rattle.register_block.specs.Block.{clear_block, read_block, line_high, register_written};
 
 use crate::layout::{BLOCK_BYTES, COMMAND, FLAGS, MASK, REGISTERS_END, STATUS};
-use codec::put_number;
 use flag_bits::{any_of_both, cleared, flag_byte, flags_in};
 
 // "Reset clears the block": all zero but the mask.
 pub fn reset(block: &mut [u8; BLOCK_BYTES], mask: u8)
     ensures { block.new ≡ clear_block mask }
 {
-    put_number(block, 0, BLOCK_BYTES, 0);
+    *block = [0; BLOCK_BYTES];
     block[MASK] = mask;
 }
 
@@ -46,10 +45,7 @@ pub fn write_register(block: &mut [u8; BLOCK_BYTES], offset: usize, value: u8)
         block[MASK] = value;
         return;
     }
-    if offset <= COMMAND {
-        return;
-    }
-    if offset < STATUS {
+    if COMMAND < offset && offset < STATUS {
         block[offset] = value;
     }
 }

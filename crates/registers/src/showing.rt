@@ -1,5 +1,5 @@
 // What a command leaves in the block.
-ghost use Rattle.std.specs.Prelude.{◌≡◌, not, ℕ, ◌+◌, ◌≤◌, get_or, set, take, drop, eqb};
+ghost use Rattle.std.specs.Prelude.{◌≡◌, ℕ, ◌+◌, ◌≤◌, get_or, set, take, drop};
 ghost use Rattle.words.specs.Overwrite.{overwrite};
 ghost use Rattle.command.specs.Stream.{kind_of, operand_bytes};
 ghost use Rattle.register_block.specs.Block.{command_at, operands_end, status_at, flags_at, result_at, result_count, flag_byte, flags_shown};
@@ -11,31 +11,15 @@ use framing::{LONGEST_ANSWER, operand_count};
 use register_block::Flags;
 use store::Head;
 
-// Bit 1, "refused".
-fn is_refused(status: u8) -> bool
-    ensures { result ≡ not (eqb status 0) }
-{
-    match status {
-        0 => false,
-        _ => true,
-    }
-}
-
+// "each command sets all three anew".
 fn flags_after(status: u8, open_count: u32) -> u8
     ensures { result ≡ flag_byte (flags_shown status open_count) }
 {
     flag_byte(Flags {
         done: true,
-        refused: is_refused(status),
+        refused: status != 0,
         full: open_count == Head::OPEN_LIMIT,
     })
-}
-
-// "each command sets all three anew".
-fn put_flags(block: &mut [u8; BLOCK_BYTES], status: u8, open_count: u32)
-    ensures { block.new ≡ set block.old flags_at (flag_byte (flags_shown status open_count)) }
-{
-    block[FLAGS] = flags_after(status, open_count);
 }
 
 // Stores a command byte and returns how many bytes at the front of the block are its command, as in the stream: its own and its operands.
@@ -56,7 +40,6 @@ pub fn show_answer(block: &mut [u8; BLOCK_BYTES], answer: &[u8; LONGEST_ANSWER],
 {
     let status = answer[0];
     block[STATUS] = status;
-    put_flags(block, status, open_count);
-    let bytes = &answer[..];
-    put_bytes(block, RESULT, &bytes[1..LONGEST_ANSWER]);
+    block[FLAGS] = flags_after(status, open_count);
+    put_bytes(block, RESULT, &answer[1..]);
 }

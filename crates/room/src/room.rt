@@ -1,22 +1,22 @@
 // What the slices that are lent to a tree have room for: 8, a tree's part of 20, and 26 to 28 of an entry that is planned.
-ghost use Rattle.std.specs.Prelude.{◌≡◌, [], ◌∷◌, leb, ◌≤◌};
+ghost use Rattle.std.specs.Prelude.{Ok, ◌≡◌, [], ◌∷◌, leb, ◌≤◌};
 ghost use Rattle.tree.specs.Taking.{Takes};
 ghost use Rattle.tree.specs.Tree.{whole_pages, pages_left};
 ghost use Rattle.store.specs.Head.{use_fits_in};
+ghost use Rattle.store.specs.Refused.{told};
+ghost use Rattle.store.specs.Lending.{words_in, tree_of};
 ghost use Rattle.store.specs.Refusals.{◌gives◌, first_met};
 ghost use Rattle.store.specs.Writing.{too_small};
 ghost use Rattle.room.specs.PlanGrounds.{plan_grounds};
 
+use store::{Refusal, TreeView};
 use tree::{Plan, RootChange, TreeUse};
 
 // Whether a table has no room for a page, or a list none for a root.
-pub fn too_small(table: &[u64], roots: &[u64]) -> bool
-    ensures { result ≡ too_small (record { table = table.entry.now; roots = roots.now }) }
+pub fn too_small(lent: TreeView) -> bool
+    ensures { result ≡ too_small (words_in lent.entry) }
 {
-    if table.len() < tree::PAGE_WORDS {
-        return true;
-    }
-    roots.len() < 1
+    lent.table.len() < tree::PAGE_WORDS || lent.roots.len() < 1
 }
 
 // Whether a tree's use fits its table of so many words and its list of so many roots.
@@ -56,30 +56,27 @@ fn pages_left(table: &[u64], used: TreeUse) -> usize
 }
 
 // 28, for an entry that adds a root to a list of so many places.
-fn list_refusal(places: usize, used: u32) -> u8
-    ensures { result ≡ first_met (leb places used gives 28 ∷ []) }
+fn list_refusal(places: usize, used: u32) -> Result<(), Refusal>
+    ensures { told result ≡ first_met (leb places used gives 28 ∷ []) }
 {
     if places <= used as usize {
-        return 28;
+        return Err(Refusal::LacksRoot);
     }
-    0
+    Ok(())
 }
 
-// 26, 27 and 28: what the plan of an entry says of the pages met, of the pages left and of the root list.
-pub fn entry_refusal(table: &[u64], roots: &[u64], used: TreeUse, plan: Plan) -> u8
-    requires pages_bound { used.pages ≤ whole_pages table.now }
+// 27 and 28: what the plan of an entry says of the pages left and of the root list.
+pub fn entry_refusal(lent: TreeView, used: TreeUse, plan: Plan) -> Result<(), Refusal>
+    requires pages_bound { used.pages ≤ whole_pages lent.table.now }
     requires takes { Takes used }
-    ensures { result ≡ first_met (plan_grounds (record { table = table.entry.now; roots = roots.now; used = used }) plan) }
+    ensures { told result ≡ first_met (plan_grounds (tree_of (words_in lent.entry) used) (Ok plan)) }
 {
-    let Plan::Ready { made, root } = plan else {
-        return 26;
-    };
-    if pages_left(table, used) < made as usize {
-        return 27;
+    if pages_left(lent.table, used) < plan.made as usize {
+        return Err(Refusal::LacksPages);
     }
-    match root {
-        RootChange::Kept => 0,
-        RootChange::Added => list_refusal(roots.len(), used.roots),
-        RootChange::Replaced => 0,
+    match plan.root {
+        RootChange::Kept => Ok(()),
+        RootChange::Added => list_refusal(lent.roots.len(), used.roots),
+        RootChange::Replaced => Ok(()),
     }
 }

@@ -1,33 +1,32 @@
 // The test of a root: whether a descent may start at its page.
-ghost use Rattle.std.specs.Prelude.{◌≡◌, [], ◌*◌, ◌≤◌, length};
-ghost use Rattle.tree.specs.Row.{page_words};
+ghost use Rattle.std.specs.Prelude.{◌≡◌};
+ghost use Rattle.tree.specs.Taking.{tree_of_pages};
 ghost use Rattle.roots.specs.TopPage.{top_of};
 
 use rows::{in_use, page_at};
-use tree::{Root, TreeUse};
+use tree::{SpoiledPage, TreePages, TreeUse};
 
-// Where a lookup or an entry starts: the page of a root and its level, or no page that can be one.
+// Where a lookup or an entry starts: the page of a root and its level.
 #[derive(Clone, Copy)]
-pub enum Top {
-    At { page: u32, level: u64 },
-    Missing,
+pub struct Top {
+    pub page: u32,
+    pub level: u64,
 }
 
 // The page of a root and its level, if the page is in use and its level is one that a root may have.
-pub fn find_top(table: &[u64], used: TreeUse, root: Root) -> Top
-    requires { used.pages * page_words ≤ length table.now }
-    ensures { result ≡ top_of (record { table = table.entry.now; roots = []; used = used }) root }
+pub fn find_top(tree: TreePages, root: Option<u32>) -> Result<Top, SpoiledPage>
+    ensures { result ≡ top_of (tree_of_pages tree.entry) root }
 {
-    let Root::At(page) = root else {
-        return Top::Missing;
+    let Some(page) = root else {
+        return Err(SpoiledPage);
     };
-    if !in_use(used, page) {
-        return Top::Missing;
+    if !in_use(tree.used, page) {
+        return Err(SpoiledPage);
     }
-    let words = page_at(table, page);
+    let words = page_at(tree.table, page);
     let level = words[0];
     if TreeUse::TOP_LEVEL < level {
-        return Top::Missing;
+        return Err(SpoiledPage);
     }
-    Top::At { page, level }
+    Ok(Top { page, level })
 }

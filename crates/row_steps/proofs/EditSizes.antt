@@ -16,8 +16,8 @@ use Rattle.tree.proofs.PageCodec.{put_length, put_before}
 use Rattle.words.specs.declared.value.Value.{Value}
 use Rattle.words.specs.Value.{zero}
 use Rattle.tree.specs.Fresh.{new_row}
-use Rattle.ranges.specs.declared.search.Place.{Place}
-use Rattle.ranges.specs.declared.search.Place.TheVariants.{At, Missing}
+use Rattle.std.specs.declared.option.Option.{Option}
+use Rattle.std.specs.declared.option.Option.TheVariants.{Some, None}
 use Rattle.tree.specs.RowSteps.{gained, cut_at, linked_to}
 use Rattle.tree.specs.declared.types.Became.{Became}
 use Rattle.tree.specs.declared.types.Became.TheVariants.{Stays, Copied, Halved}
@@ -105,17 +105,17 @@ module _ (page : List ℕ) (place : ℕ) (inside : place < word page 1) (room : 
   link_grown t old (Halved c d) = replace_and_more t old (linked_to c old) (new_row t d.low d.high d.page zero)
 
 -- Step 3 adds at most one row
-pub gain_grown : (t : ℕ) (v : Value) (page : List ℕ) (gain : Place) → Within (word page 1) gain → row_start (word page 1 + 1) ≤ length page →
+pub gain_grown : (t : ℕ) (v : Value) (page : List ℕ) (gain : Option ℕ) → Within (word page 1) gain → row_start (word page 1 + 1) ≤ length page →
     Grown 1 page (gain_words t v page gain)
-gain_grown t v page Missing inside room = grown_not 1 page
-gain_grown t v page (At place) inside room = replace_grown page place inside room t (row_in page place) (gained v (row_in page place))
+gain_grown t v page None inside room = grown_not 1 page
+gain_grown t v page (Some place) inside room = replace_grown page place inside room t (row_in page place) (gained v (row_in page place))
 
 -- An entry adds at most three rows to a page
 pub change_grown : (t : ℕ) (v : Value) (page : List ℕ) (change : Change) → ChangeWithin (word page 1) change → row_start (word page 1 + most_appended) ≤ length page →
     Grown most_appended page (change_words t v page change)
-change_grown t v page (Leaf Missing gain k) inside room =
+change_grown t v page (Leaf None gain k) inside room =
     grown_further 1 0 most_appended page _ _ (gain_grown t v page gain inside.1 (omega arith)) (grown_not 0 _) (omega arith)
-change_grown t v page (Leaf (At place) gain k) inside room =
+change_grown t v page (Leaf (Some place) gain k) inside room =
     let row : Row = row_in page place in
     grown_further 2 0 most_appended page _ _ (replace_and_more page place inside.0 (omega arith) t row (cut_at k row) (new_row t k row.high 0 v)) (grown_not 0 _) (omega arith)
 change_grown t v page (Lowest gain) inside room =

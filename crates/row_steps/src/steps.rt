@@ -5,7 +5,6 @@ ghost use Rattle.tree.specs.Limits.{most_appended};
 ghost use Rattle.tree.specs.RowSteps.{cut_at, linked_to};
 ghost use Rattle.row_steps.specs.PageEdits.{replace_words, gain_words, cut_words, leaf_words, link_words, change_words, Within, ChangeWithin};
 
-use ranges::Place;
 use rows::{born_at, gained_row};
 use tree::{Became, Child, Row};
 use words::Value;
@@ -15,14 +14,14 @@ use words::Value;
 #[derive(Clone, Copy)]
 pub enum Change {
     Leaf {
-        inner: Place,
-        gain: Place,
+        inner: Option<usize>,
+        gain: Option<usize>,
         key: u16,
     },
-    Lowest(Place),
+    Lowest(Option<usize>),
     Above {
         place: usize,
-        gain: Place,
+        gain: Option<usize>,
         became: Became,
     },
 }
@@ -31,29 +30,18 @@ pub enum Change {
 fn cut_row(row: Row, k: u16) -> Row
     ensures { result ≡ cut_at k row }
 {
-    let value = row.value;
-    Row {
-        low: row.low,
-        high: k,
-        child: row.child,
-        birth: row.birth,
-        end: row.end,
-        value,
-    }
+    Row { high: k, ..row }
 }
 
 // The row over another child page.
 fn linked_row(row: Row, child: Child) -> Row
     ensures { result ≡ linked_to child row }
 {
-    let value = row.value;
     Row {
         low: child.low,
         high: child.high,
         child: child.page,
-        birth: row.birth,
-        end: row.end,
-        value,
+        ..row
     }
 }
 
@@ -75,19 +63,19 @@ fn replace_row(page: &mut [u64], place: usize, old: Row, new: Row, t: u32)
 fn gain_at(page: &mut [u64], place: usize, value: Value, t: u32)
     requires place_bound { place < word page.old 1 }
     requires page_in_bounds { row_start (word page.old 1 + 1) ≤ length page.old }
-    ensures { page.new ≡ gain_words t value page.old (Place.At place) }
+    ensures { page.new ≡ gain_words t value page.old (Some place) }
 {
     let old = rows::row_at(page, place);
     replace_row(page, place, old, gained_row(old, value), t);
 }
 
 // The first row from the key on gains the point, if there is one.
-fn gain_row(page: &mut [u64], gain: Place, value: Value, t: u32)
+fn gain_row(page: &mut [u64], gain: Option<usize>, value: Value, t: u32)
     requires within { Within (word page.old 1) gain }
     requires page_in_bounds { row_start (word page.old 1 + 1) ≤ length page.old }
     ensures { page.new ≡ gain_words t value page.old gain }
 {
-    if let Place::At(place) = gain {
+    if let Some(place) = gain {
         gain_at(page, place, value, t);
     }
 }
@@ -104,15 +92,22 @@ fn cut_at(page: &mut [u64], place: usize, k: u16, value: Value, t: u32)
 }
 
 // A leaf takes the point.
-fn edit_leaf(page: &mut [u64], inner: Place, gain: Place, k: u16, value: Value, t: u32)
+fn edit_leaf(
+    page: &mut [u64],
+    inner: Option<usize>,
+    gain: Option<usize>,
+    k: u16,
+    value: Value,
+    t: u32,
+)
     requires within { Within (word page.old 1) inner }
     requires within_2 { Within (word page.old 1) gain }
     requires page_in_bounds { row_start (word page.old 1 + 2) ≤ length page.old }
     ensures { page.new ≡ leaf_words t k value page.old inner gain }
 {
     match inner {
-        Place::At(place) => cut_at(page, place, k, value, t),
-        Place::Missing => gain_row(page, gain, value, t),
+        Some(place) => cut_at(page, place, k, value, t),
+        None => gain_row(page, gain, value, t),
     }
 }
 
@@ -143,7 +138,14 @@ fn link_row(page: &mut [u64], place: usize, old: Row, became: Became, t: u32)
 }
 
 // A page above the lowest one: the row is read before it may gain, since the definition links the row that stood there.
-fn gain_and_link(page: &mut [u64], place: usize, gain: Place, became: Became, value: Value, t: u32)
+fn gain_and_link(
+    page: &mut [u64],
+    place: usize,
+    gain: Option<usize>,
+    became: Became,
+    value: Value,
+    t: u32,
+)
     requires change_within { ChangeWithin (word page.old 1) (Change.Above place gain became) }
     requires most_appended_in_bounds { row_start (word page.old 1 + most_appended) ≤ length page.old }
     ensures { page.new ≡ change_words t value page.old (Change.Above place gain became) }

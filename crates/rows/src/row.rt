@@ -67,13 +67,8 @@ pub fn born_at(row: Row, t: u32) -> Row
 pub fn gained_row(row: Row, value: Value) -> Row
     ensures { result ≡ gained value row }
 {
-    let own = row.value;
     Row {
-        low: row.low,
-        high: row.high,
-        child: row.child,
-        birth: row.birth,
-        end: row.end,
-        value: own.plus(value),
+        value: row.value.plus(value),
+        ..row
     }
 }

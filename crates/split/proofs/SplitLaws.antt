@@ -1,13 +1,11 @@
 -- The pages of an overflow, built row by row from the entries of a key order.
-use Prim.Native.Nat.{ℕ, zero, suc, ◌+◌, ◌-◌, ◌^◌, ◌≤◌, ◌<◌}
+use Prim.Native.Nat.{ℕ, zero, suc, ◌+◌, ◌^◌, ◌≤◌, ◌<◌}
 use native.Mathlib.Numerals.{add-one}
 use native.Mathlib.Omega.{arith}
-use mathlib.Core.Path.{◌≡◌, refl, ap, ap₂, sym, ◌∙◌}
+use mathlib.Core.Path.{◌≡◌, refl, ap, sym, ◌∙◌}
 use mathlib.Core.List.{List, [], ◌∷◌, ◌++◌, map, append_assoc, append-nil}
 use lib.ListN.{length, get_or, take, drop, set, length-set}
 use lib.Seq.{take-suc-set}
-use borrow.Rule.Slice.PartMut.{put_mid, Post-is}
-use Rattle.words.specs.Overwrite.{overwrite}
 use Rattle.words.specs.declared.value.Value.{Value}
 use Rattle.words.specs.Value.{plus}
 use Rattle.words.specs.Value as value
@@ -19,43 +17,33 @@ use Rattle.tree.specs.TrueValue.{total_where}
 use Rattle.tree.specs.Fresh.{fresh_page}
 use Rattle.key_order.specs.Entries.{entry_place}
 use Rattle.page.specs.PageValue.{page_rows, encode_page, empty_page, with_row, no_rows}
-use Rattle.words.proofs.LoopLaws.{drop_here}
+use Rattle.words.proofs.LoopLaws.{drop_here, drop_none}
 use Rattle.tree.proofs.OrderTotals.{total_stored}
 use Rattle.tree.specs.RowSteps.{gained}
 use Rattle.tree.specs.Overflow.{gain_first, total_of}
-use Rattle.split.specs.SplitWords.{between, entry_row, copy_of, fill_page, add_rows, gain_page}
+use Rattle.split.specs.SplitWords.{entry_row, copy_of, fill_page, add_rows, gain_page}
 
--- One law for each way through a loop over the entries up to a place
-module _ (order : List ℕ) (at to : ℕ) where
-  pub between_more : at < to → to ≤ length order → between at to order ≡ get_or order at 0 ∷ between (at + 1) to order
-  between_more h l =
-      let n : to - at ≡ suc (to - (at + 1)) = omega arith in
-      ap₂ take n (drop_here order at (omega arith))
-
-  pub between_none : to ≤ at → between at to order ≡ []
-  between_none h = let n : to - at ≡ 0 = omega arith in ap (λ (m : ℕ). take m (drop at order)) n
-
+-- One law for each way through a loop over entries
+module _ (entries : List ℕ) (at : ℕ) where
   module _ (words : List ℕ) (t : ℕ) (page : Page) where
-    pub fill_more : at < to → to ≤ length order →
-        fill_page words t page (between at to order)
-        ≡ fill_page words t (with_row page (copy_of words t (get_or order at 0))) (between (at + 1) to order)
+    pub fill_more : at < length entries →
+        fill_page words t page (drop at entries) ≡ fill_page words t (with_row page (copy_of words t (get_or entries at 0))) (drop (at + 1) entries)
     unfolding fill_page
-    fill_more h l = ap (fill_page words t page) (between_more h l)
+    fill_more h = ap (fill_page words t page) (drop_here entries at h)
 
-    pub fill_none : to ≤ at → fill_page words t page (between at to order) ≡ page
+    pub fill_none : length entries ≤ at → fill_page words t page (drop at entries) ≡ page
     unfolding fill_page
-    fill_none h = ap (fill_page words t page) (between_none h)
+    fill_none h = ap (fill_page words t page) (drop_none entries at h)
 
   module _ (words : List ℕ) (total : Value) where
-    pub add_more : at < to → to ≤ length order →
-        add_rows words total (between at to order)
-        ≡ add_rows words (plus total (entry_row words (get_or order at 0)).value) (between (at + 1) to order)
+    pub add_more : at < length entries →
+        add_rows words total (drop at entries) ≡ add_rows words (plus total (entry_row words (get_or entries at 0)).value) (drop (at + 1) entries)
     unfolding add_rows
-    add_more h l = ap (add_rows words total) (between_more h l)
+    add_more h = ap (add_rows words total) (drop_here entries at h)
 
-    pub add_none : to ≤ at → add_rows words total (between at to order) ≡ total
+    pub add_none : length entries ≤ at → add_rows words total (drop at entries) ≡ total
     unfolding add_rows
-    add_none h = ap (add_rows words total) (between_none h)
+    add_none h = ap (add_rows words total) (drop_none entries at h)
 
 -- The page that the loop builds: its header, and the rows that it had with the copies behind them, whatever is then made of those
 pub filled_words : (f : List Row → List Row) (words : List ℕ) (t : ℕ) (p : Page) (es : List ℕ) →
@@ -125,11 +113,3 @@ added_total words t total (e ∷ es) st =
 pub added_from_zero : (words : List ℕ) (t : ℕ) (es : List ℕ) → add_rows words value.zero es ≡ total_of (map (copy_of words t) es)
 added_from_zero words t es =
     added_total words t value.zero es (omega arith) ∙ zero_plus _ (total_stored _ _ (map (copy_of words t) es))
-
--- A part of the table that was lent comes back with other words, as many as before: they were written over it
-pub put_part : (xs : List ℕ) (a e : ℕ) {back : List ℕ} (new : List ℕ) → a ≤ e → a + length new ≡ e → back ≡ new →
-    put_mid a (e - a) xs back ≡ overwrite xs a new
-unfolding overwrite
-put_part xs a e {back} new h long same =
-    ap₂ (λ (ys zs : List ℕ). take a xs ++ (ys ++ zs)) same (Post-is a e xs h ∙ ap (λ (n : ℕ). drop n xs) (sym long))
-    ∙ sym (append_assoc (take a xs) new (drop (a + length new) xs))

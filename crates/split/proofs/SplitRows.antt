@@ -16,7 +16,7 @@ use Rattle.tree.specs.RowEdits.{row_in}
 use Rattle.tree.specs.KeyOrder.{Placed, key_order}
 use Rattle.tree.specs.Edit.{born_at}
 use Rattle.tree.specs.Fresh.{fresh_page}
-use Rattle.tree.proofs.Lists.{all_drop, map_take, map_drop}
+use Rattle.tree.proofs.Lists.{all_take, all_drop, map_take, map_drop}
 use Rattle.page.specs.PageValue.{encode_page, empty_page}
 use Rattle.key_order.specs.Entries.{entry_of, entry_place, InPage}
 use Rattle.rows.proofs.SeatedRows.{Seated, order_seated}
@@ -60,6 +60,9 @@ module _ (t : ℕ) (words order : List ℕ) (start : ℕ) (from : Sourced t word
   pub in_words_from : (n : ℕ) → start ≤ n → InPage words (drop n order)
   in_words_from n h =
       rw (drop_from n h) (all_drop (λ (e : ℕ). row_start (entry_place e) + row_words ≤ length words) (n - start) (drop start order) in_words)
+
+  pub in_words_between : (n m : ℕ) → start ≤ n → InPage words (between n m order)
+  in_words_between n m h = all_take (λ (e : ℕ). row_start (entry_place e) + row_words ≤ length words) (m - n) (drop n order) (in_words_from n h)
 
   between_all : (n : ℕ) → between n most_rows order ≡ drop n order
   between_all n = take_all (most_rows - n) (drop n order) (omega (arith, length-drop n order))

@@ -1,5 +1,5 @@
 // The pages that an overflow makes. The rows of the page that overflowed are copied in key order from its words, of which `order` has the entries.
-ghost use Rattle.std.specs.Prelude.{◌≡◌, ◌+◌, ◌*◌, ◌-◌, ◌≤◌, ◌<◌, length, drop};
+ghost use Rattle.std.specs.Prelude.{◌≡◌, ◌+◌, ◌*◌, ◌-◌, ◌≤◌, ◌<◌, length};
 ghost use Rattle.words.specs.Value as value;
 ghost use Rattle.tree.specs.Row.{word, header_words, page_words, row_limit, copy_limit};
 ghost use Rattle.tree.specs.Limits.{most_rows, most_made};
@@ -9,7 +9,7 @@ ghost use Rattle.tree.specs.Use.{taken_page};
 ghost use Rattle.tree.specs.Taking.{HasPages, Takes};
 ghost use Rattle.tree.specs.Tree.{put_page};
 ghost use Rattle.tree.specs.Overflow.{lower_half};
-ghost use Rattle.split.specs.SplitWords.{scratch_words, Sourced, between, fill_page, add_rows, gain_page, copied_table, middle_key, halved_table, split_words};
+ghost use Rattle.split.specs.SplitWords.{scratch_words, Sourced, fill_page, add_rows, gain_page, copied_table, middle_key, halved_table, split_words};
 
 use crate::done::Done;
 use page::Page;
@@ -17,55 +17,35 @@ use rows::{born_at, gained_row};
 use tree::{Became, Child, TreeUse};
 use words::Value;
 
-// A new page of the old page's level, with the rows of the entries from one place of the order up to another, each born at t and open, and a
-// value added to the first of them. All is stored here, and not by functions that take and give a page, which would copy it for each row.
-fn filled(
-    words: &[u64],
-    order: &[u64],
-    from: usize,
-    to: usize,
-    low: u16,
-    high: u16,
-    gain: Value,
-    t: u32,
-) -> Page
+// A new page of the old page's level, with the rows of some entries of the order, each born at t and open, and a value added to the first of
+// them. All is stored here, and not by functions that take and give a page, which would copy it for each row.
+fn filled(words: &[u64], entries: &[u64], low: u16, high: u16, gain: Value, t: u32) -> Page
     requires header_words_in_bounds { header_words ≤ length words.now }
-    requires order_len { length order.now ≡ most_rows }
-    requires from_le_to { from ≤ to }
-    requires to_le_most_rows { to ≤ most_rows }
-    requires from_bound { to - from ≤ row_limit }
-    requires in_page { InPage words.now (drop from order.now) }
-    ensures { let page : Page = fill_page words.now t (empty_page (word words.now 0) low high t) (between from to order.now) in
-        result ≡ gain_page gain page }
+    requires entries_fit { length entries.now ≤ row_limit }
+    requires in_page { InPage words.now entries.now }
+    ensures { result ≡ gain_page gain (fill_page words.now t (empty_page (word words.now 0) low high t) entries.now) }
 {
     let mut page = Page::empty(words[0], low, high, t);
-    let mut at = from;
-    while at < to {
-        let row = rows::row_at(words, key_order::entry_place(order[at]));
+    for entry in entries {
+        let row = rows::row_at(words, key_order::entry_place(*entry));
         let place = page.count;
         page.rows[place] = born_at(row, t);
         page.count = place + 1;
-        at += 1;
     }
     let first = page.rows[0];
     page.rows[0] = gained_row(first, gain);
     page
 }
 
-// The total of the rows of the entries from one place of the order up to another.
-fn total_of(words: &[u64], order: &[u64], from: usize, to: usize) -> Value
-    requires order_len { length order.now ≡ most_rows }
-    requires from_le_to { from ≤ to }
-    requires to_le_most_rows { to ≤ most_rows }
-    requires in_page { InPage words.now (drop from order.now) }
-    ensures { result ≡ add_rows words.now value.zero (between from to order.now) }
+// The total of the rows of some entries of the order.
+fn total_of(words: &[u64], entries: &[u64]) -> Value
+    requires { InPage words.now entries.now }
+    ensures { result ≡ add_rows words.now value.zero entries.now }
 {
     let mut total = Value::zero();
-    let mut at = from;
-    while at < to {
-        let row = rows::row_at(words, key_order::entry_place(order[at]));
+    for entry in entries {
+        let row = rows::row_at(words, key_order::entry_place(*entry));
         total = total.plus(row.value);
-        at += 1;
     }
     total
 }
@@ -81,60 +61,51 @@ pub fn put_page(table: &mut [u64], number: u32, page: Page)
     page.write(&mut table[from..to]);
 }
 
-// Writes a new page with the rows of such entries, the first of them with a value added. The pages of a split are all made here, one after
+// Writes a new page, of a number and a key range, with the rows of such entries, the first of them with a value added. The pages of a split are all made here, one after
 // the other, so that they use the same stack.
-fn put_rows(
-    table: &mut [u64],
-    number: u32,
-    words: &[u64],
-    order: &[u64],
-    from: usize,
-    to: usize,
-    low: u16,
-    high: u16,
-    gain: Value,
-    t: u32,
-)
+fn put_rows(table: &mut [u64], child: Child, words: &[u64], entries: &[u64], gain: Value, t: u32)
     requires header_words_in_bounds { header_words ≤ length words.now }
-    requires order_len { length order.now ≡ most_rows }
-    requires from_le_to { from ≤ to }
-    requires to_le_most_rows { to ≤ most_rows }
-    requires from_bound { to - from ≤ row_limit }
-    requires in_page { InPage words.now (drop from order.now) }
-    requires page_words_in_bounds { (number + 1) * page_words ≤ length table.old }
-    ensures { let page : Page = fill_page words.now t (empty_page (word words.now 0) low high t) (between from to order.now) in
-        table.new ≡ put_page table.old number (encode_page (gain_page gain page)) }
+    requires entries_fit { length entries.now ≤ row_limit }
+    requires in_page { InPage words.now entries.now }
+    requires page_words_in_bounds { (child.page + 1) * page_words ≤ length table.old }
+    ensures { table.new ≡ put_page table.old child.page (encode_page (gain_page gain (fill_page words.now t (empty_page (word words.now 0) child.low child.high t) entries.now))) }
 {
     put_page(
         table,
-        number,
-        filled(words, order, from, to, low, high, gain, t),
+        child.page,
+        filled(words, entries, child.low, child.high, gain, t),
     );
 }
 
+// What the live rows of a page that overflowed are taken from: its words, and the entries of its live rows at t in key order, from `start` on.
+#[derive(Clone, Copy)]
+struct Source<'a> {
+    words: &'a [u64],
+    order: &'a [u64; Page::MOST_ROWS],
+    start: usize,
+    t: u32,
+}
+
 // All live rows go to one new page of the old page's level and key range.
-fn copy_rows(table: &mut [u64], number: u32, words: &[u64], order: &[u64], start: usize, t: u32)
-    requires sourced { Sourced t words.now order.now start }
-    requires most_rows_bound { most_rows ≤ start + copy_limit }
+fn copy_rows(table: &mut [u64], number: u32, source: Source<'_>)
+    requires sourced { Sourced source.t source.words.now source.order.now source.start }
+    requires most_rows_bound { most_rows ≤ source.start + copy_limit }
     requires page_words_in_bounds { (number + 1) * page_words ≤ length table.old }
-    ensures { table.new ≡ copied_table table.old number words.now t }
+    ensures { table.new ≡ copied_table table.old number source.entry.words.now source.entry.t }
 {
-    let range = words[2];
-    let low = words::low_key(range);
-    let high = words::high_key(range);
-    let nothing = Value::zero();
-    put_rows(
-        table,
-        number,
+    let Source {
         words,
         order,
         start,
-        Page::MOST_ROWS,
-        low,
-        high,
-        nothing,
         t,
-    );
+    } = source;
+    let range = words[2];
+    let copy = Child {
+        page: number,
+        low: words::low_key(range),
+        high: words::high_key(range),
+    };
+    put_rows(table, copy, words, &order[start..], Value::zero(), t);
 }
 
 // Where the lower page's rows stop in an order that starts at `start`: it takes the larger half.
@@ -146,44 +117,36 @@ fn lower_end(start: usize) -> usize
 }
 
 // The live rows go to two new pages, which are cut at the low key of the upper page's first row: that key is the result.
-fn halve_rows(
-    table: &mut [u64],
-    first: u32,
-    second: u32,
-    words: &[u64],
-    order: &[u64],
-    start: usize,
-    t: u32,
-) -> u16
-    requires sourced { Sourced t words.now order.now start }
-    requires copy_limit_bound { start + copy_limit < most_rows }
+fn halve_rows(table: &mut [u64], first: u32, second: u32, source: Source<'_>) -> u16
+    requires sourced { Sourced source.t source.words.now source.order.now source.start }
+    requires copy_limit_bound { source.start + copy_limit < most_rows }
     requires page_words_in_bounds { (first + 1) * page_words ≤ length table.old }
     requires page_words_in_bounds_2 { (second + 1) * page_words ≤ length table.old }
-    ensures value { result ≡ middle_key words.now t }
-    ensures table_after { table.new ≡ halved_table table.old first second words.now t }
+    ensures value { result ≡ middle_key source.entry.words.now source.entry.t }
+    ensures table_after { table.new ≡ halved_table table.old first second source.entry.words.now source.entry.t }
 {
-    let cut = lower_end(start);
-    let range = words[2];
-    let low = words::low_key(range);
-    let high = words::high_key(range);
-    let middle = rows::row_at(words, key_order::entry_place(order[cut])).low;
-    let below = total_of(words, order, start, cut);
-    let nothing = Value::zero();
-    put_rows(
-        table, first, words, order, start, cut, low, middle, nothing, t,
-    );
-    put_rows(
-        table,
-        second,
+    let Source {
         words,
         order,
-        cut,
-        Page::MOST_ROWS,
-        middle,
-        high,
-        below,
+        start,
         t,
-    );
+    } = source;
+    let cut = lower_end(start);
+    let range = words[2];
+    let middle = rows::row_at(words, key_order::entry_place(order[cut])).low;
+    let lower = Child {
+        page: first,
+        low: words::low_key(range),
+        high: middle,
+    };
+    let upper = Child {
+        page: second,
+        low: middle,
+        high: words::high_key(range),
+    };
+    let below = total_of(words, &order[start..cut]);
+    put_rows(table, lower, words, &order[start..cut], Value::zero(), t);
+    put_rows(table, upper, words, &order[cut..], below, t);
     middle
 }
 
@@ -209,12 +172,18 @@ pub fn split_page(table: &mut [u64], used: TreeUse, made: u32, words: &[u64], t:
 {
     let mut order = [0u64; Page::MOST_ROWS];
     let start = key_order::key_order(words, words[1] as usize, t, &mut order);
+    let source = Source {
+        words,
+        order: &order,
+        start,
+        t,
+    };
     let number = taken_page(used, made);
     let range = words[2];
     let low = words::low_key(range);
     let high = words::high_key(range);
     if Page::MOST_ROWS - start <= Page::COPIED {
-        copy_rows(table, number, words, &order, start, t);
+        copy_rows(table, number, source);
         let copy = Child {
             page: number,
             low,
@@ -226,7 +195,7 @@ pub fn split_page(table: &mut [u64], used: TreeUse, made: u32, words: &[u64], t:
         };
     }
     let second = taken_page(used, made + 1);
-    let middle = halve_rows(table, number, second, words, &order, start, t);
+    let middle = halve_rows(table, number, second, source);
     let lower = Child {
         page: number,
         low,

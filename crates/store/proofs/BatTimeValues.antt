@@ -6,12 +6,14 @@ use mathlib.Core.Path.{◌≡◌, ap, sym, ◌∙◌}
 use mathlib.Core.Bool.{cond, ◌||◌}
 use lib.Dec.{leb, ltb, eqb}
 use borrow.Author.Tests.{eq-eqb, ne_eqb}
+use Rattle.std.specs.Prelude.{Result}
 use Rattle.words.specs.Lists.{All}
 use Rattle.words.specs.Words.{open_end}
 use Rattle.words.specs.Value as value
 use Rattle.words.specs.Value.{add_words, subtract_words, line_at}
 use Rattle.words.proofs.LineLaws.{line_words, line_zero}
 use Rattle.tree.specs.declared.types.Lookup.{Lookup}
+use Rattle.tree.specs.declared.types.SpoiledPage.{SpoiledPage}
 use Rattle.tree.proofs.Lists.{all_map}
 use Rattle.store.specs.declared.types.TreeName.TheVariants.{Time}
 use Rattle.store.specs.Trees.{Store}
@@ -43,7 +45,7 @@ module _ (s : Store) (b : Book) (a : Agrees s b) (k1 k2 t1 t2 : ℕ) (wide : t2 
   -- A lookup that is made
   one_made : (t k : ℕ) → 1 ≤ t → 1 ≤ k → t ≤ t2 → k ≤ k2 → line_at (value_of (found_in s (points_before Time t k))) (t - 1) ≡ lived_below t k b.passes
   one_made t k tick key early low =
-      ap (λ (x : Lookup). line_at (value_of x) (t - 1)) (found_as_book s b a (points_before Time t k) (before_in k1 k2 t1 t2 wide ask Time t k early low))
+      ap (λ (x : Result Lookup SpoiledPage). line_at (value_of x) (t - 1)) (found_as_book s b a (points_before Time t k) (before_in k1 k2 t1 t2 wide ask Time t k early low))
       ∙ line_words (lookup_count (t - 1) (k - 1) (points_of Time b.passes)) (lookup_sum (t - 1) (k - 1) (points_of Time b.passes)) (t - 1)
       ∙ time_lived (t - 1) (k - 1) b.passes begun
       ∙ ap (λ (n : ℕ). sum_where (lived n) (λ (p : Pass). leb p.key (k - 1)) b.passes % 2 ^ 64) again

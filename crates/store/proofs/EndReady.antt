@@ -5,6 +5,7 @@ use mathlib.Core.Path.{◌≡◌, refl, ap, ap₂, sym, subst, ◌∙◌}
 use mathlib.Core.Bool.{Bool, true, cond, false≢true}
 use mathlib.Core.List.{List, [], ◌∷◌, ◌++◌}
 use lib.ListN.{length, get_or, take, drop, length-append, length-take, length-drop}
+use Rattle.std.specs.Prelude.{Option}
 use Rattle.words.specs.Lists.{All}
 use Rattle.words.specs.Words.{open_end}
 use Rattle.tree.specs.RowSteps.{Point}
@@ -12,11 +13,10 @@ use Rattle.tree.specs.Grown.{InTime, Room}
 use Rattle.tree.proofs.Lists.{all_at}
 use Rattle.store.specs.declared.types.OpenPass.{OpenPass}
 use Rattle.store.specs.declared.types.FoundPass.{FoundPass}
-use Rattle.store.specs.declared.types.FoundPass.TheVariants.{At}
 use Rattle.store.specs.declared.types.TreeName.{TreeName}
 use Rattle.store.specs.declared.types.TreeName.TheVariants.{Starts, Ends, Time}
 use Rattle.store.specs.Trees.{Store, tree_in}
-use Rattle.store.specs.Head.{find_pass, pass_of}
+use Rattle.store.specs.Head.{found_at, find_pass, pass_of}
 use Rattle.store.specs.Calls.{end}
 use Rattle.store.specs.Writing.{point_of, time_at_start, time_at_end, Entry, end_entries, enter_all, closed_up, ended_head}
 use Rattle.store.specs.Performing.{served}
@@ -58,8 +58,8 @@ module _ (s : Store) (b : Book) (a : Agrees s b) (tick number : ℕ) (tick_fits 
   abbrev place : ℕ
   place = 0 + at.at
 
-  abbrev found : FoundPass
-  found = At place (open_pass (0 + number) pass)
+  abbrev found : Option FoundPass
+  found = found_at place (open_pass (0 + number) pass)
 
   here : pass_of s.head number ≡ found
   here = ap₂ (λ (n : ℕ) (os : List OpenPass). find_pass n 0 os) (omega arith) a.listed ∙ at.found
@@ -104,7 +104,7 @@ module _ (s : Store) (b : Book) (a : Agrees s b) (tick number : ℕ) (tick_fits 
       ∙ sym at.closes
 
   -- The store that an end of the pass that was found leaves
-  abbrev store_after : FoundPass → Store
+  abbrev store_after : Option FoundPass → Store
   store_after f =
       record { head = ended_head (enter_all s (end_entries tick f)).head tick f; lent = (enter_all s (end_entries tick f)).lent }
 
@@ -157,12 +157,12 @@ module _ (s : Store) (b : Book) (a : Agrees s b) (tick number : ℕ) (tick_fits 
   end_ready =
       record {
         lookups = tt;
-        entries = subst (λ (f : FoundPass). All (λ (e : Entry). InTime b.last e.point) (end_entries tick f)) (sym here) (in_time, (line_in_time, tt));
+        entries = subst (λ (f : Option FoundPass). All (λ (e : Entry). InTime b.last e.point) (end_entries tick f)) (sym here) (in_time, (line_in_time, tt));
         serves = λ rooms.
-            let room = subst (λ (f : FoundPass). All (HasRoom s) (end_entries tick f)) here rooms in
+            let room = subst (λ (f : Option FoundPass). All (HasRoom s) (end_entries tick f)) here rooms in
             record {
               answer = refl;
-              next = subst (λ (f : FoundPass). Agrees (store_after f) after) (sym here) (ended_agrees room.0 room.1.0);
+              next = subst (λ (f : Option FoundPass). Agrees (store_after f) after) (sym here) (ended_agrees room.0 room.1.0);
               said = refl;
               most = omega arith;
             };

@@ -7,35 +7,36 @@ use mathlib.Core.List.{List, [], ◌∷◌, ◌++◌, append-nil}
 use mathlib.Core.Logic.{◌⊎◌, inl, inr}
 use lib.ListN.{length}
 use borrow.Author.Tests.{ltb-true, ltb-false, leb-true, leb-false}
+use Rattle.std.specs.Prelude.{Result, Ok, Err}
 use Rattle.words.specs.Lists.{All}
 use Rattle.tree.specs.declared.types.Plan.{Plan}
-use Rattle.tree.specs.declared.types.Plan.TheVariants.{Spoiled, Ready}
+use Rattle.tree.specs.declared.types.SpoiledPage.{SpoiledPage}
 use Rattle.tree.specs.declared.types.RootChange.{RootChange}
 use Rattle.tree.specs.declared.types.RootChange.TheVariants.{Kept, Added, Replaced}
 use Rattle.tree.specs.Tree.{Tree, pages_left}
-use Rattle.tree.specs.Plan.{plan}
+use Rattle.tree.specs.Plan.{ready, plan}
 use Rattle.tree.specs.RowSteps.{Point}
 use Rattle.tree.specs.Grown.{Room}
 use Rattle.store.specs.Trees.{Store, tree_in}
 use Rattle.store.specs.Refusals.{first_met}
-use Rattle.store.specs.Writing.{Entry, plan_of, plan_spoiled, lacks_pages, root_list_full, lacks_root, entry_grounds}
+use Rattle.store.specs.Writing.{Entry, plan_of, plan_spoiled, lacks_pages, root_list_full, lacks_place, lacks_root, entry_grounds}
 use Rattle.store.specs.Demand.{pages_made, new_root, PagesLack, ListFull}
 use Rattle.store.proofs.RefusalLaws.{each, each_none, EachCase, each_case, some_map, none_some}
 
 -- The tests of 27 and 28, in the plan's numbers
-abbrev Lacks : Tree → Plan → Type 0
+abbrev Lacks : Tree → Result Plan SpoiledPage → Type 0
 Lacks t p = pages_left t < pages_made p
 
-abbrev Full : Tree → Plan → Type 0
+abbrev Full : Tree → Result Plan SpoiledPage → Type 0
 Full t p = (new_root p ≡ Added) × (length t.roots ≤ t.used.roots)
 
-lacks : (t : Tree) (p : Plan) → lacks_pages t p ≡ true → Lacks t p
-lacks t Spoiled e = absurd (false≢true e)
-lacks t (Ready made root) e = ltb-true (pages_left t) made e
+lacks : (t : Tree) (p : Result Plan SpoiledPage) → lacks_pages t p ≡ true → Lacks t p
+lacks t (Err s) e = absurd (false≢true e)
+lacks t (Ok p) e = ltb-true (pages_left t) p.made e
 
-enough : (t : Tree) (p : Plan) → lacks_pages t p ≡ false → Lacks t p → ⊥
-enough t Spoiled e h = omega (arith, h)
-enough t (Ready made root) e h = omega (arith, h, ltb-false (pages_left t) made e)
+enough : (t : Tree) (p : Result Plan SpoiledPage) → lacks_pages t p ≡ false → Lacks t p → ⊥
+enough t (Err s) e h = omega (arith, h)
+enough t (Ok p) e h = omega (arith, h, ltb-false (pages_left t) p.made e)
 
 pub kept_not_added : Kept ≡ Added → ⊥
 kept_not_added e = subst pick e tt
@@ -53,20 +54,26 @@ replaced_not_added e = subst pick e tt
     pick Added = ⊥
     pick Replaced = Unit {0}
 
-full : (t : Tree) (p : Plan) → lacks_root t p ≡ true → Full t p
-full t Spoiled e = absurd (false≢true e)
-full t (Ready made Kept) e = absurd (false≢true e)
-full t (Ready made Added) e = (refl, leb-true (length t.roots) t.used.roots e)
-full t (Ready made Replaced) e = absurd (false≢true e)
+full : (t : Tree) (p : Result Plan SpoiledPage) → lacks_root t p ≡ true → Full t p
+full t (Err s) e = absurd (false≢true e)
+full t (Ok p) e = go p.root e
+  where
+    go : (r : RootChange) → lacks_place t r ≡ true → (r ≡ Added) × (length t.roots ≤ t.used.roots)
+    go Kept f = absurd (false≢true f)
+    go Added f = (refl, leb-true (length t.roots) t.used.roots f)
+    go Replaced f = absurd (false≢true f)
 
-placed : (t : Tree) (p : Plan) → lacks_root t p ≡ false → Full t p → ⊥
-placed t Spoiled e h = kept_not_added h.0
-placed t (Ready made Kept) e h = kept_not_added h.0
-placed t (Ready made Added) e h = omega (arith, h.1, leb-false (length t.roots) t.used.roots e)
-placed t (Ready made Replaced) e h = replaced_not_added h.0
+placed : (t : Tree) (p : Result Plan SpoiledPage) → lacks_root t p ≡ false → Full t p → ⊥
+placed t (Err s) e h = kept_not_added h.0
+placed t (Ok p) e h = go p.root e h
+  where
+    go : (r : RootChange) → lacks_place t r ≡ false → (r ≡ Added) × (length t.roots ≤ t.used.roots) → ⊥
+    go Kept f h = kept_not_added h.0
+    go Added f h = omega (arith, h.1, leb-false (length t.roots) t.used.roots f)
+    go Replaced f h = replaced_not_added h.0
 
 -- A plan that is ready and meets neither has room
-pub room_for : (t : Tree) (x : Point) (made : ℕ) (root : RootChange) → plan t x ≡ Ready made root
+pub room_for : (t : Tree) (x : Point) (made : ℕ) (root : RootChange) → plan t x ≡ ready made root
     → lacks_pages t (plan t x) ≡ false → lacks_root t (plan t x) ≡ false → Room t x
 room_for t x made root is pages place =
     record {
@@ -74,7 +81,7 @@ room_for t x made root is pages place =
       root = root;
       planned = is;
       pages = ltb-false (pages_left t) made (sym (ap (lacks_pages t) is) ∙ pages);
-      place = λ e. free (sym (ap (lacks_root t) (is ∙ ap (Ready made) e)) ∙ place);
+      place = λ e. free (sym (ap (lacks_root t) (is ∙ ap (ready made) e)) ∙ place);
     }
   where
     free : root_list_full t ≡ false → t.used.roots < length t.roots
@@ -82,7 +89,7 @@ room_for t x made root is pages place =
 
 module _ (s : Store) where
   abbrev pub PlanReady : Entry → Type 0
-  PlanReady e = (made : ℕ) × (root : RootChange) × (plan_of s e ≡ Ready made root)
+  PlanReady e = (made : ℕ) × (root : RootChange) × (plan_of s e ≡ ready made root)
 
   abbrev pub HasRoom : Entry → Type 0
   HasRoom e = Room (tree_in s e.tree) e.point

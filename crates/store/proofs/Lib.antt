@@ -1,5 +1,7 @@
 -- Demand 3: a store from its opening on answers as the pass book does.
 pub mod SumLaws
+pub mod RefusedNumbers
+pub mod Refusing
 pub mod RefusalLaws
 pub mod RefusedOrServed
 pub mod TreeLaws

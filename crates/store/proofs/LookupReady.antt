@@ -2,7 +2,9 @@
 use Prim.Native.Nat.{ℕ}
 use mathlib.Core.Path.{ap}
 use mathlib.Core.List.{[], ◌∷◌}
+use Rattle.std.specs.Prelude.{Result}
 use Rattle.tree.specs.declared.types.Lookup.{Lookup}
+use Rattle.tree.specs.declared.types.SpoiledPage.{SpoiledPage}
 use Rattle.store.specs.declared.types.TreeName.{TreeName}
 use Rattle.store.specs.Trees.{Store}
 use Rattle.store.specs.Calls.{lookup_in}
@@ -22,7 +24,7 @@ lookup_ready s b a tree t k bounds =
       entries = tt;
       serves = λ rooms.
           record {
-            answer = ap (λ (x : Lookup). book_part (totals (value_of x) (pages_in s (lookups_of (lookup_in tree t k))))) (found_as_book s b a l bounds);
+            answer = ap (λ (x : Result Lookup SpoiledPage). book_part (totals (value_of x) (pages_in s (lookups_of (lookup_in tree t k))))) (found_as_book s b a l bounds);
             next = a;
             said = pages_are s b a (l ∷ []) (bounds, tt);
             most = pages_few s b a (l ∷ []) (bounds, tt);

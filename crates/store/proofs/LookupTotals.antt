@@ -8,12 +8,11 @@ use lib.ListN.{length}
 use Rattle.words.specs.Lists.{All}
 use Rattle.words.specs.declared.value.Value.{Value}
 use Rattle.words.proofs.Measure.{Measure, count_of, sum_of, count_measure, sum_measure}
-use Rattle.tree.specs.declared.types.Lookup.TheVariants.{Found}
 use Rattle.tree.specs.Tree.{Tree}
 use Rattle.tree.specs.RowSteps.{Point}
 use Rattle.tree.specs.PointSums.{dominated}
 use Rattle.tree.specs.PointTotals.{point_value, sum_of_points}
-use Rattle.tree.specs.Lookup.{lookup}
+use Rattle.tree.specs.Lookup.{found, lookup}
 use Rattle.tree.specs.Path.{path}
 use Rattle.tree.specs.Grown.{grow}
 use Rattle.tree.proofs.Main.{lookup_adds}
@@ -55,13 +54,13 @@ module _ (points : List Point) (light : All Light points) (few : length points �
 
 -- Whatever points a tree took, its lookup gives their sums modulo 2^64
 sums_found : (points : List Point) (tree : Tree) (last : ℕ) → TreeTook tree last points → (t k : ℕ) → InBounds t k
-    → lookup tree t k ≡ Found (record { count = lookup_count t k points % 2 ^ 64; sum = lookup_sum t k points % 2 ^ 64 }) (length (path tree t k))
+    → lookup tree t k ≡ found (record { count = lookup_count t k points % 2 ^ 64; sum = lookup_sum t k points % 2 ^ 64 }) (length (path tree t k))
 sums_found points tree last took t k bounds =
     subst
-    (λ (x : Tree). lookup x t k ≡ Found (record { count = lookup_count t k points % 2 ^ 64; sum = lookup_sum t k points % 2 ^ 64 }) (length (path x t k)))
+    (λ (x : Tree). lookup x t k ≡ found (record { count = lookup_count t k points % 2 ^ 64; sum = lookup_sum t k points % 2 ^ 64 }) (length (path x t k)))
     (sym took.is)
     (lookup_adds took.table took.roots took.entered took.admitted t k bounds.tick bounds.key
-    ∙ ap (λ (v : Value). Found v (length (path (grow took.table took.roots took.entered) t k))) value)
+    ∙ ap (λ (v : Value). found v (length (path (grow took.table took.roots took.entered) t k))) value)
   where
     number : (measure : Value → ℕ) → Measure measure
         → measure (sum_of_points t k took.entered) ≡ sum_where (λ (p : Point). measure p.value) (dominated t k) points % 2 ^ 64
@@ -118,7 +117,7 @@ module _ (s : Store) (b : Book) (a : Agrees s b) where
   answered_value Ends t k = small_sums Ends tt t k
   answered_value Time t k = refl
 
-  pub found_as_book : (l : PointLookup) → InBounds l.tick l.key → found_in s l ≡ Found (book_value l) (path_length l)
+  pub found_as_book : (l : PointLookup) → InBounds l.tick l.key → found_in s l ≡ found (book_value l) (path_length l)
   found_as_book l bounds =
       sums_found (points_of l.tree b.passes) (tree_in s l.tree) b.last (a.trees l.tree) l.tick l.key bounds
-      ∙ ap (λ (v : Value). Found v (path_length l)) (answered_value l.tree l.tick l.key)
+      ∙ ap (λ (v : Value). found v (path_length l)) (answered_value l.tree l.tick l.key)

@@ -6,11 +6,11 @@ use mathlib.Core.Bool.{Bool, true, false, cond, false≢true}
 use mathlib.Core.List.{List, [], ◌∷◌, ◌++◌}
 use lib.ListN.{length, get_or, take, drop}
 use borrow.Author.Tests.{le-leb, lt-ltb, eq-eqb, ne_eqb}
+use Rattle.std.specs.Prelude.{None}
 use Rattle.words.specs.Lists.{All}
 use Rattle.words.specs.Words.{key_limit}
 use Rattle.store.specs.declared.types.OpenPass.{OpenPass}
-use Rattle.store.specs.declared.types.FoundPass.TheVariants.{Missing, At}
-use Rattle.store.specs.Head.{weight_limit, find_pass, passes_fit, rises_to, numbers_rise}
+use Rattle.store.specs.Head.{weight_limit, found_at, find_pass, passes_fit, rises_to, numbers_rise}
 use Rattle.store.specs.Passes.{End, still_open, ended_at, Pass, sum_where, count_where}
 use Rattle.store.specs.Book.{end_pass_at, not_ended, is_open, never_started}
 use Rattle.store.proofs.BookPasses.{PassKept}
@@ -52,38 +52,38 @@ open_more n (q ∷ ps) p e = go q.end (open_more (suc n) ps p e ∙ ap (λ (m : 
     go (ended_at y) ih = ih
 
 -- Numbers below the first are not found
-find_below : (number place n : ℕ) (ps : List Pass) → number < n → find_pass number place (open_of n ps) ≡ Missing
+find_below : (number place n : ℕ) (ps : List Pass) → number < n → find_pass number place (open_of n ps) ≡ None
 unfolding open_of find_pass
 find_below number place n [] h = refl
 find_below number place n (p ∷ ps) h = go p.end (λ place'. find_below number place' (suc n) ps (omega arith))
   where
-    go : (e : End) → ((place' : ℕ) → find_pass number place' (open_of (suc n) ps) ≡ Missing)
-        → find_pass number place (keep_open e (open_pass n p) (open_of (suc n) ps)) ≡ Missing
+    go : (e : End) → ((place' : ℕ) → find_pass number place' (open_of (suc n) ps) ≡ None)
+        → find_pass number place (keep_open e (open_pass n p) (open_of (suc n) ps)) ≡ None
     go still_open next = rw (ne_eqb n number (λ e. omega arith)) (next (place + 1))
     go (ended_at e) next = next place
 
 -- A pass that is not open is not found
-pub find_ended : (d place n : ℕ) (ps : List Pass) → is_open (get_or ps d never_started) ≡ false → find_pass (n + d) place (open_of n ps) ≡ Missing
+pub find_ended : (d place n : ℕ) (ps : List Pass) → is_open (get_or ps d never_started) ≡ false → find_pass (n + d) place (open_of n ps) ≡ None
 unfolding open_of find_pass
 find_ended d place n [] c = refl
 find_ended zero place n (p ∷ ps) c = go p.end c
   where
-    go : (e : End) → not_ended e ≡ false → find_pass (n + 0) place (keep_open e (open_pass n p) (open_of (suc n) ps)) ≡ Missing
+    go : (e : End) → not_ended e ≡ false → find_pass (n + 0) place (keep_open e (open_pass n p) (open_of (suc n) ps)) ≡ None
     go still_open c = absurd (false≢true (sym c))
     go (ended_at e) c = find_below (n + 0) place (suc n) ps (omega arith)
 find_ended (suc d) place n (p ∷ ps) c =
     let number : n + suc d ≡ suc n + d = omega arith in
     go p.end (λ place'. ap (λ (m : ℕ). find_pass m place' (open_of (suc n) ps)) number ∙ find_ended d place' (suc n) ps c)
   where
-    go : (e : End) → ((place' : ℕ) → find_pass (n + suc d) place' (open_of (suc n) ps) ≡ Missing)
-        → find_pass (n + suc d) place (keep_open e (open_pass n p) (open_of (suc n) ps)) ≡ Missing
+    go : (e : End) → ((place' : ℕ) → find_pass (n + suc d) place' (open_of (suc n) ps) ≡ None)
+        → find_pass (n + suc d) place (keep_open e (open_pass n p) (open_of (suc n) ps)) ≡ None
     go still_open next = rw (ne_eqb n (n + suc d) (λ e. omega arith)) (next (place + 1))
     go (ended_at e) next = next place
 
 -- An open pass is found, and ending it takes it out of the list
 pub record FoundAt (d tick place n : ℕ) (ps : List Pass) : Type 0 where
   pub at : ℕ
-  pub found : find_pass (n + d) place (open_of n ps) ≡ At (place + at) (open_pass (n + d) (get_or ps d never_started))
+  pub found : find_pass (n + d) place (open_of n ps) ≡ found_at (place + at) (open_pass (n + d) (get_or ps d never_started))
   pub inside : at < length (open_of n ps)
   pub closes : open_of n (end_pass_at d tick ps) ≡ take at (open_of n ps) ++ drop (suc at) (open_of n ps)
 
@@ -101,8 +101,8 @@ find_open zero tick place n (p ∷ ps) o = go p.end refl o
           at = 0;
           found =
               ap (find_pass (n + 0) place) here
-              ∙ ap (λ (b : Bool). cond b (At place (open_pass n p)) (find_pass (n + 0) (place + 1) (open_of (suc n) ps))) (eq-eqb n (n + 0) same)
-              ∙ ap₂ (λ (x m : ℕ). At x (open_pass m p)) (omega arith) same;
+              ∙ ap (λ (b : Bool). cond b (found_at place (open_pass n p)) (find_pass (n + 0) (place + 1) (open_of (suc n) ps))) (eq-eqb n (n + 0) same)
+              ∙ ap₂ (λ (x m : ℕ). found_at x (open_pass m p)) (omega arith) same;
           inside = rw here (omega arith);
           closes = sym (ap (drop 1) here);
         }
@@ -121,11 +121,11 @@ find_open (suc d) tick place n (p ∷ ps) o = go p.end refl (λ place'. find_ope
           at = suc ih.at;
           found =
               ap (find_pass (n + suc d) place) (here ps)
-              ∙ ap (λ (b : Bool). cond b (At place (open_pass n p)) (find_pass (n + suc d) (place + 1) (open_of (suc n) ps)))
+              ∙ ap (λ (b : Bool). cond b (found_at place (open_pass n p)) (find_pass (n + suc d) (place + 1) (open_of (suc n) ps)))
               (ne_eqb n (n + suc d) (λ e. omega arith))
               ∙ ap (λ (m : ℕ). find_pass m (place + 1) (open_of (suc n) ps)) number
               ∙ ih.found
-              ∙ ap₂ (λ (x m : ℕ). At x (open_pass m (get_or ps d never_started))) (omega arith) (sym number);
+              ∙ ap₂ (λ (x m : ℕ). found_at x (open_pass m (get_or ps d never_started))) (omega arith) (sym number);
           inside = rw (here ps) (omega (arith, ih.inside));
           closes = here (end_pass_at d tick ps) ∙ ap (◌∷◌ (open_pass n p)) ih.closes
               ∙ sym (ap (λ (l : List OpenPass). take (suc ih.at) l ++ drop (suc (suc ih.at)) l) (here ps));
@@ -140,7 +140,7 @@ find_open (suc d) tick place n (p ∷ ps) o = go p.end refl (λ place'. find_ope
               ap (find_pass (n + suc d) place) (here ps)
               ∙ ap (λ (m : ℕ). find_pass m place (open_of (suc n) ps)) number
               ∙ ih.found
-              ∙ ap (λ (m : ℕ). At (place + ih.at) (open_pass m (get_or ps d never_started))) (sym number);
+              ∙ ap (λ (m : ℕ). found_at (place + ih.at) (open_pass m (get_or ps d never_started))) (sym number);
           inside = rw (here ps) ih.inside;
           closes = here (end_pass_at d tick ps) ∙ ih.closes
               ∙ sym (ap (λ (l : List OpenPass). take ih.at l ++ drop (suc ih.at) l) (here ps));

@@ -7,6 +7,7 @@ use mathlib.Core.Bool.{Bool, cond, ◌||◌}
 use mathlib.Core.List.{List}
 use lib.Dec.{eqb}
 use borrow.Author.Tests.{eq-eqb, ne_eqb}
+use Rattle.std.specs.Prelude.{Result}
 use Rattle.words.specs.Lists.{All}
 use Rattle.words.specs.Words.{open_end}
 use Rattle.words.specs.declared.value.Value.{Value}
@@ -14,6 +15,7 @@ use Rattle.words.specs.Value as value
 use Rattle.words.specs.Value.{plus, minus}
 use Rattle.words.proofs.Measure.{count_of, sum_of}
 use Rattle.tree.specs.declared.types.Lookup.{Lookup}
+use Rattle.tree.specs.declared.types.SpoiledPage.{SpoiledPage}
 use Rattle.tree.specs.RowSteps.{Point}
 use Rattle.tree.specs.PointSums.{dominated}
 use Rattle.tree.proofs.Lists.{all_map}
@@ -93,7 +95,7 @@ module _ (s : Store) (b : Book) (a : Agrees s b) (k1 k2 t1 t2 : ℕ) (wide : t2 
             (z ∙ sym (ap (λ (n : ℕ). added_before measure t n (points tree)) f ∙ none_below measure t (points tree)))
         go (no e) (no f) =
             rw (ne_eqb t 0 e, ne_eqb k 0 f)
-            (ap (λ (x : Lookup). measure (value_of x)) (found_as_book s b a (points_before tree t k) (before_in k1 k2 t1 t2 wide ask tree t k early low))
+            (ap (λ (x : Result Lookup SpoiledPage). measure (value_of x)) (found_as_book s b a (points_before tree t k) (before_in k1 k2 t1 t2 wide ask tree t k early low))
             ∙ is tree counts (t - 1) (k - 1)
             ∙ up_to_before measure t k (some t e) (some k f) (points tree))
           where

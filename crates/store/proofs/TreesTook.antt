@@ -4,11 +4,10 @@ use native.Mathlib.Omega.{arith}
 use mathlib.Core.Path.{◌≡◌, ap, sym, subst, ◌∙◌}
 use mathlib.Core.Bool.{Bool, cond}
 use mathlib.Core.List.{List, ◌∷◌}
-use Rattle.tree.specs.declared.types.Plan.TheVariants.{Ready}
 use Rattle.tree.specs.declared.types.RootChange.{RootChange}
 use Rattle.tree.specs.Tree.{Tree}
 use Rattle.tree.specs.RowSteps.{Point}
-use Rattle.tree.specs.Plan.{plan, enter}
+use Rattle.tree.specs.Plan.{ready, plan, enter}
 use Rattle.tree.specs.Grown.{last_tick, InTime, Room}
 use Rattle.tree.proofs.Main.{grown_more, plan_never_spoiled}
 use Rattle.store.specs.Passes.{sum_where}
@@ -33,7 +32,7 @@ module _ {tree : Tree} {last : ℕ} {points : List Point} (took : TreeTook tree 
   in_time = record { later = omega (arith, took.time, timely.later); tick = timely.tick; key = timely.key }
 
   -- The plan of a point in time is never spoiled
-  pub planned : (made : ℕ) × (root : RootChange) × (plan tree p ≡ Ready made root)
+  pub planned : (made : ℕ) × (root : RootChange) × (plan tree p ≡ ready made root)
   planned =
       let found = plan_never_spoiled took.table took.roots took.entered took.admitted p in_time in
       (found.0, found.1, ap (λ (x : Tree). plan x p) took.is ∙ found.2)

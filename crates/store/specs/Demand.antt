@@ -1,8 +1,8 @@
 -- Demand 3: what is claimed of a whole list of calls, from a store just opened. `proofs/Main` proves it.
-use Rattle.std.specs.Prelude.{ℕ, ◌+◌, ◌-◌, ◌*◌, ◌/◌, ◌^◌, ◌≤◌, ◌<◌, ◌≡◌, ◌⊎◌, List, [], ◌∷◌, map, length}
+use Rattle.std.specs.Prelude.{ℕ, ◌+◌, ◌-◌, ◌*◌, ◌/◌, ◌^◌, ◌≤◌, ◌<◌, ◌≡◌, ◌⊎◌, List, [], ◌∷◌, map, length, Result, Ok, Err}
 use Rattle.words.specs.Lists.{All}
 use Rattle.tree.specs.declared.types.Plan.{Plan}
-use Rattle.tree.specs.declared.types.Plan.TheVariants.{Spoiled, Ready}
+use Rattle.tree.specs.declared.types.SpoiledPage.{SpoiledPage}
 use Rattle.tree.specs.declared.types.RootChange.{RootChange}
 use Rattle.tree.specs.declared.types.RootChange.TheVariants.{Kept, Added}
 use Rattle.tree.specs.Tree.{Tree, height, pages_left}
@@ -26,13 +26,13 @@ Some P [] = ⊥
 Some P (x ∷ xs) = P x ⊎ Some P xs
 
 -- "Splits are steps 5 and 8; the pages they make are counted as if table and root list had room."
-abbrev pub pages_made : Plan → ℕ
-pages_made Spoiled = 0
-pages_made (Ready made root) = made
+abbrev pub pages_made : Result Plan SpoiledPage → ℕ
+pages_made (Err e) = 0
+pages_made (Ok p) = p.made
 
-abbrev pub new_root : Plan → RootChange
-new_root Spoiled = Kept
-new_root (Ready made root) = root
+abbrev pub new_root : Result Plan SpoiledPage → RootChange
+new_root (Err e) = Kept
+new_root (Ok p) = p.root
 
 -- "Pages left are as in 27, each tree's splits against its own table; a call that writes several trees lacks pages if one of them does."
 abbrev pub PagesLack : Store → List Entry → Type 0

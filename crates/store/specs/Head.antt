@@ -1,5 +1,5 @@
 -- The head: its open passes, and refusal 20.
-use Rattle.std.specs.Prelude.{ℕ, ◌+◌, ◌/◌, List, [], ◌∷◌, Bool, true, cond, ◌&&◌, length, take, replicate, leb, ltb, eqb}
+use Rattle.std.specs.Prelude.{ℕ, ◌+◌, ◌/◌, List, [], ◌∷◌, Bool, true, cond, ◌&&◌, length, take, replicate, leb, ltb, eqb, Option, Some, None}
 use Rattle.words.specs.Words.{key_limit}
 use Rattle.tree.specs.declared.types.TreeUse.{TreeUse}
 use Rattle.tree.specs.Row.{page_words}
@@ -7,7 +7,6 @@ use Rattle.tree.specs.Use.{page_limit, opened_use}
 use Rattle.tree.specs.Tree.{Tree}
 use Rattle.store.specs.declared.types.OpenPass.{OpenPass}
 use Rattle.store.specs.declared.types.FoundPass.{FoundPass}
-use Rattle.store.specs.declared.types.FoundPass.TheVariants.{Missing, At}
 use Rattle.store.specs.declared.types.TreeName.{TreeName}
 use Rattle.store.specs.declared.types.Head.{Head}
 use Rattle.store.specs.Trees.{Store, tree_in, each_tree}
@@ -30,12 +29,16 @@ open_passes h = take h.count h.passes
 abbrev pub no_pass : OpenPass
 no_pass = record { number = 0; key = 0; weight = 0; start = 0 }
 
--- The open pass of a number, among passes of which the first has a place
-unfoldable pub find_pass : (number place : ℕ) → List OpenPass → FoundPass
-find_pass number place [] = Missing
-find_pass number place (p ∷ ps) = cond (eqb p.number number) (At place p) (find_pass number (place + 1) ps)
+-- An open pass that was found in a place
+abbrev pub found_at : ℕ → OpenPass → Option FoundPass
+found_at place pass = Some (record { place = place; pass = pass })
 
-abbrev pub pass_of : Head → ℕ → FoundPass
+-- The open pass of a number, among passes of which the first has a place
+unfoldable pub find_pass : (number place : ℕ) → List OpenPass → Option FoundPass
+find_pass number place [] = None
+find_pass number place (p ∷ ps) = cond (eqb p.number number) (found_at place p) (find_pass number (place + 1) ps)
+
+abbrev pub pass_of : Head → ℕ → Option FoundPass
 pass_of h number = find_pass number 0 (open_passes h)
 
 -- 20: "an open key or weight beyond its range", open numbers that "reach the number started", "an open start after the last tick"

@@ -1,8 +1,10 @@
 -- The store and its calls: document 01, "Two trees", "Pages and rows" (the head, opening) and the two refusal lists.
 pub mod Trees
+pub mod Lending
 pub mod Head
 pub mod Calls
 pub mod Refusals
+pub mod Refused
 pub mod Grounds
 pub mod Answers
 pub mod Writing

@@ -1,10 +1,9 @@
 -- Performing a call, and a list of calls one after the other.
-use Rattle.std.specs.Prelude.{ℕ, List, [], ◌∷◌, ◌++◌, Bool, true, false, ◌&&◌, not}
+use Rattle.std.specs.Prelude.{ℕ, List, [], ◌∷◌, ◌++◌, Bool, true, false, ◌&&◌, not, Option, Some, None}
 use Rattle.words.specs.declared.value.Value.{Value}
 use Rattle.store.specs.declared.types.Answer.{Answer}
 use Rattle.store.specs.declared.types.Answer.TheVariants.{Opened, Started, Ended, Totals, BatTime}
 use Rattle.store.specs.declared.types.FoundPass.{FoundPass}
-use Rattle.store.specs.declared.types.FoundPass.TheVariants.{Missing, At}
 use Rattle.store.specs.declared.types.Head.{Head}
 use Rattle.store.specs.Trees.{Store}
 use Rattle.store.specs.Head.{pass_of, head_fits}
@@ -16,9 +15,9 @@ use Rattle.store.specs.Writing.{lends_too_little, opened_store, entries_of, entr
 use Rattle.store.specs.Reading.{PointLookup, found_in, value_of, lookups_of, lookup_grounds, pages_in, question_value, bat_time_total}
 
 -- What a head knows
-abbrev pub is_found : FoundPass → Bool
-is_found Missing = false
-is_found (At place p) = true
+abbrev pub is_found : Option FoundPass → Bool
+is_found None = false
+is_found (Some found) = true
 
 abbrev pub head_knows : Head → Call → Known
 head_knows h c = record { last = h.last; count = h.count; started = h.started; found = sought_by c (λ (number : ℕ). is_found (pass_of h number)) }

@@ -1,9 +1,9 @@
 -- What a call that only reads gives: the lookup of each tree, and the question and bat-time, which are made of lookups.
-use Rattle.std.specs.Prelude.{ℕ, ◌+◌, ◌-◌, List, [], ◌∷◌, ◌++◌, map, Bool, true, false, cond, ◌||◌, eqb}
+use Rattle.std.specs.Prelude.{ℕ, ◌+◌, ◌-◌, List, [], ◌∷◌, ◌++◌, map, Bool, true, false, cond, ◌||◌, eqb, Result, Ok, Err}
 use Rattle.words.specs.declared.value.Value.{Value}
 use Rattle.words.specs.Value.{zero, plus, minus, add_words, subtract_words, line_at}
 use Rattle.tree.specs.declared.types.Lookup.{Lookup}
-use Rattle.tree.specs.declared.types.Lookup.TheVariants.{Spoiled, Found}
+use Rattle.tree.specs.declared.types.SpoiledPage.{SpoiledPage}
 use Rattle.tree.specs.Lookup.{lookup}
 use Rattle.store.specs.declared.types.TreeName.{TreeName}
 use Rattle.store.specs.declared.types.TreeName.TheVariants.{Starts, Ends, Time}
@@ -12,17 +12,17 @@ use Rattle.store.specs.Calls.{Call, opening, start, end, question, bat_time, loo
 use Rattle.store.specs.Refusals.{Ground, ◌gives◌}
 
 -- "26 spoiled page met"
-abbrev pub is_spoiled : Lookup → Bool
-is_spoiled Spoiled = true
-is_spoiled (Found v pages) = false
+abbrev pub is_spoiled : Result Lookup SpoiledPage → Bool
+is_spoiled (Err e) = true
+is_spoiled (Ok found) = false
 
-abbrev pub value_of : Lookup → Value
-value_of Spoiled = zero
-value_of (Found v pages) = v
+abbrev pub value_of : Result Lookup SpoiledPage → Value
+value_of (Err e) = zero
+value_of (Ok found) = found.value
 
-abbrev pub pages_of : Lookup → ℕ
-pages_of Spoiled = 0
-pages_of (Found v pages) = pages
+abbrev pub pages_of : Result Lookup SpoiledPage → ℕ
+pages_of (Err e) = 0
+pages_of (Ok found) = found.pages
 
 -- "Each tree has its own lookup: at (t, k)"
 pub record PointLookup : Type 0 where
@@ -30,7 +30,7 @@ pub record PointLookup : Type 0 where
   pub tick : ℕ
   pub key : ℕ
 
-abbrev pub found_in : Store → PointLookup → Lookup
+abbrev pub found_in : Store → PointLookup → Result Lookup SpoiledPage
 found_in s l = lookup (tree_in s l.tree) l.tick l.key
 
 -- The lookups of a question are of one kind: the points of a tree before tick t and below key k. "starts(t2 - 1, k2 - 1)", "ends are looked up at t1 - 1" (document 02,

@@ -1,9 +1,10 @@
 -- What a call that writes does: opening, and the points that a start or an end enters.
-use Rattle.std.specs.Prelude.{ℕ, ◌+◌, ◌*◌, ◌-◌, ◌%◌, ◌^◌, List, [], ◌∷◌, ◌++◌, map, Bool, true, false, ◌||◌, length, take, drop, set, leb, ltb}
+use Rattle.std.specs.Prelude.{ℕ, ◌+◌, ◌*◌, ◌-◌, ◌%◌, ◌^◌, List, [], ◌∷◌, ◌++◌, map, Bool, true, false, ◌||◌, length, take, drop, set, leb, ltb, Option, Some, None, Result, Ok, Err}
 use Rattle.words.specs.Value.{subtract_words, line}
 use Rattle.tree.specs.Row.{page_words}
 use Rattle.tree.specs.declared.types.Plan.{Plan}
-use Rattle.tree.specs.declared.types.Plan.TheVariants.{Spoiled, Ready}
+use Rattle.tree.specs.declared.types.SpoiledPage.{SpoiledPage}
+use Rattle.tree.specs.declared.types.RootChange.{RootChange}
 use Rattle.tree.specs.declared.types.RootChange.TheVariants.{Kept, Added, Replaced}
 use Rattle.tree.specs.Tree.{Tree, pages_left}
 use Rattle.tree.specs.RowSteps.{Point}
@@ -11,7 +12,6 @@ use Rattle.tree.specs.Plan.{plan, enter}
 use Rattle.tree.specs.Opened.{opened_tree}
 use Rattle.store.specs.declared.types.OpenPass.{OpenPass}
 use Rattle.store.specs.declared.types.FoundPass.{FoundPass}
-use Rattle.store.specs.declared.types.FoundPass.TheVariants.{Missing, At}
 use Rattle.store.specs.declared.types.TreeName.{TreeName}
 use Rattle.store.specs.declared.types.TreeName.TheVariants.{Starts, Ends, Time}
 use Rattle.store.specs.declared.types.Head.{Head}
@@ -51,10 +51,10 @@ pub record Entry : Type 0 where
   pub tree : TreeName
   pub point : Point
 
-abbrev pub end_entries : ℕ → FoundPass → List Entry
-end_entries tick Missing = []
-end_entries tick (At place p) =
-    record { tree = Ends; point = point_of tick p.key p.weight } ∷ (record { tree = Time; point = time_at_end tick p.key p.weight } ∷ [])
+abbrev pub end_entries : ℕ → Option FoundPass → List Entry
+end_entries tick None = []
+end_entries tick (Some found) =
+    record { tree = Ends; point = point_of tick found.pass.key found.pass.weight } ∷ (record { tree = Time; point = time_at_end tick found.pass.key found.pass.weight } ∷ [])
 
 -- "A pass is a point of the starts tree at its start and, once ended, a point of the ends tree at its end." The third tree "takes a point at every start and end" (Paper 4)
 abbrev pub entries_of : Head → Call → List Entry
@@ -68,28 +68,31 @@ entries_of h (lookup_in tree t k) = []
 
 -- What an entry would do, and the tree that it would do it to. "Starts and ends check all trees that they write before writing any" (Paper 4): each entry is planned of
 -- the store that the call found.
-abbrev pub plan_of : Store → Entry → Plan
+abbrev pub plan_of : Store → Entry → Result Plan SpoiledPage
 plan_of s e = plan (tree_in s e.tree) e.point
 
 -- "26 spoiled page met"
-abbrev pub plan_spoiled : Plan → Bool
-plan_spoiled Spoiled = true
-plan_spoiled (Ready made root) = false
+abbrev pub plan_spoiled : Result Plan SpoiledPage → Bool
+plan_spoiled (Err e) = true
+plan_spoiled (Ok p) = false
 
 -- "27 the pages this call makes outnumber those left"
-abbrev pub lacks_pages : Tree → Plan → Bool
-lacks_pages t Spoiled = false
-lacks_pages t (Ready made root) = ltb (pages_left t) made
+abbrev pub lacks_pages : Tree → Result Plan SpoiledPage → Bool
+lacks_pages t (Err e) = false
+lacks_pages t (Ok p) = ltb (pages_left t) p.made
 
 -- "28 a new root entry finds the list full."
 abbrev pub root_list_full : Tree → Bool
 root_list_full t = leb (length t.roots) t.used.roots
 
-abbrev pub lacks_root : Tree → Plan → Bool
-lacks_root t Spoiled = false
-lacks_root t (Ready made Kept) = false
-lacks_root t (Ready made Added) = root_list_full t
-lacks_root t (Ready made Replaced) = false
+abbrev pub lacks_place : Tree → RootChange → Bool
+lacks_place t Kept = false
+lacks_place t Added = root_list_full t
+lacks_place t Replaced = false
+
+abbrev pub lacks_root : Tree → Result Plan SpoiledPage → Bool
+lacks_root t (Err e) = false
+lacks_root t (Ok p) = lacks_place t p.root
 
 -- "each list in number order": 26 of any entry, then 27 of any, then 28 of any. "a call that writes several trees lacks pages if one of them does"
 abbrev pub entry_grounds : Store → List Entry → List Ground
@@ -119,12 +122,12 @@ started_head h tick key weight =
 abbrev pub closed_up : List OpenPass → (place count : ℕ) → List OpenPass
 closed_up passes place count = take place passes ++ (take (count - (place + 1)) (drop (place + 1) passes) ++ (no_pass ∷ drop count passes))
 
-abbrev pub passes_without : Head → FoundPass → List OpenPass
-passes_without h Missing = h.passes
-passes_without h (At place p) = closed_up h.passes place h.count
+abbrev pub passes_without : Head → Option FoundPass → List OpenPass
+passes_without h None = h.passes
+passes_without h (Some found) = closed_up h.passes found.place h.count
 
 -- The head after an end
-abbrev pub ended_head : Head → ℕ → FoundPass → Head
+abbrev pub ended_head : Head → ℕ → Option FoundPass → Head
 ended_head h tick found =
     record {
       last = tick;

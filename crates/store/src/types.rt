@@ -1,4 +1,10 @@
 // What the store's calls take and give.
+ghost use Rattle.std.specs.Prelude.{◌≡◌};
+ghost use Rattle.store.specs.Trees.{used_by};
+ghost use Rattle.store.specs.Refused.{number_of};
+ghost use Rattle.store.specs.declared.types.Answer.TheVariants.{Refused};
+
+use crate::refusal::Refusal;
 use tree::TreeUse;
 
 // The trees of a store, by name.
@@ -10,7 +16,7 @@ pub enum TreeName {
 }
 
 // A pass that has started and not ended.
-#[derive(Clone, Copy)]
+#[derive(Clone, Copy, Default, PartialEq, Eq)]
 pub struct OpenPass {
     pub number: u32,
     pub key: u32,
@@ -29,11 +35,11 @@ impl OpenPass {
     pub const NUMBERS: usize = 4;
 }
 
-// Where a search among the open passes ends: at the pass in a place of the head's list, or nowhere.
+// An open pass that was found, and its place in the head's list.
 #[derive(Clone, Copy)]
-pub enum FoundPass {
-    Missing,
-    At { place: usize, pass: OpenPass },
+pub struct FoundPass {
+    pub place: usize,
+    pub pass: OpenPass,
 }
 
 // The head: the last tick, the number of passes started, the open passes (the first `count` places), and what each tree uses.
@@ -64,10 +70,21 @@ impl Head {
 
     // So many may start.
     pub const PASS_LIMIT: u32 = 1000000;
+
+    // What a tree uses.
+    pub fn used_by(&self, tree: TreeName) -> TreeUse
+        ensures { result ≡ used_by self.now tree }
+    {
+        match tree {
+            TreeName::Starts => self.starts,
+            TreeName::Ends => self.ends,
+            TreeName::Time => self.time,
+        }
+    }
 }
 
 // What a call answers.
-#[derive(Clone, Copy)]
+#[derive(Clone, Copy, PartialEq, Eq)]
 pub enum Answer {
     Refused(u8),
     Opened,
@@ -75,4 +92,13 @@ pub enum Answer {
     Ended,
     Totals { count: u64, sum: u64, pages: u32 },
     BatTime { total: u64, pages: u32 },
+}
+
+// A refusal as an answer: its number, and no other field.
+impl From<Refusal> for Answer {
+    ghost from_gives = { λ refusal answer. answer ≡ Refused (number_of refusal) };
+
+    fn from(refusal: Refusal) -> Answer {
+        Answer::Refused(refusal.number())
+    }
 }

@@ -1,5 +1,5 @@
 -- The notes of the tile test: in every slot stands a key at which a range may stop.
-use Prim.Native.Nat.{ℕ, zero, suc, ◌+◌, ◌%◌, ◌<◌}
+use Prim.Native.Nat.{ℕ, zero, suc, ◌%◌, ◌<◌}
 use native.Mathlib.Omega.{arith}
 use mathlib.Core.Path.{◌≡◌, refl, sym, ap, ◌∙◌}
 use mathlib.Core.Bool.{Bool, true, false, ◌||◌}
@@ -10,8 +10,8 @@ use borrow.Author.Tests.{leb-false, ltb-true, eqb-true, le-leb, lt-ltb, eq-eqb, 
 use Rattle.tree.proofs.Lists.{All, all_at, count_at}
 use Rattle.words.specs.Sums.{count}
 use Rattle.ranges.specs.KeyRanges.{range_low, range_high, holds_key}
-use Rattle.tiles.specs.TileTest.{is_empty, goes_on, stops_well, slots, may_stop, Noted, Passed}
-use Rattle.tiles.proofs.TileLaws.{some_holder, every_on}
+use Rattle.tiles.specs.TileTest.{is_empty, goes_on, slots, may_stop, Noted}
+use Rattle.tiles.proofs.TileLaws.{some_holder}
 
 or_second : (a b : Bool) → b ≡ true → (a || b) ≡ true
 or_second true b e = refl
@@ -64,14 +64,3 @@ module _ (high : ℕ) (ranges : List ℕ) where
       → may_stop high ranges key ≡ true
   noted_may_stop noted key l all e =
       ap (may_stop high ranges) (sym e) ∙ all_at (λ (q : ℕ). may_stop high ranges q ≡ true) noted (key % slots) 0 all (omega arith)
-
--- Passing over a stop that is noted
-pub pass_none : (ranges noted : List ℕ) (from : ℕ) → Passed ranges noted from from
-pass_none ranges noted from low high all = refl
-
-pub pass_noted : (ranges noted : List ℕ) (from at : ℕ) → length noted ≡ slots → at < length ranges → Passed ranges noted from at
-    → get_or noted (range_high (get_or ranges at 0) % slots) 0 ≡ range_high (get_or ranges at 0) → Passed ranges noted from (at + 1)
-pass_noted ranges noted from at l inside passed here low high all =
-    let stop = range_high (get_or ranges at 0) in
-    passed low high all
-    ∙ every_on (stops_well low high ranges) ranges at inside (may_go_on high ranges low stop (noted_may_stop high ranges noted stop l all here))

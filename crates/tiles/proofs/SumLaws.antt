@@ -4,6 +4,7 @@ use native.Mathlib.Omega.{arith}
 use mathlib.Core.Path.{◌≡◌, refl, ap}
 use mathlib.Core.Bool.{Bool, true, false, cond}
 use mathlib.Core.List.{List}
+use mir.Val.{bool_byte}
 use lib.Dec.{eqb}
 use lib.ListN.{length, get_or, drop}
 use Rattle.words.specs.Sums.{sum_by}
@@ -18,6 +19,11 @@ module _ (f : ℕ → ℕ) (l : List ℕ) (at : ℕ) where
 
   pub sum_done : (sum : ℕ) → length l ≤ at → sum + sum_by f (drop at l) ≡ sum_by f l → sum ≡ sum_by f l
   sum_done sum h e = let none : sum_by f (drop at l) ≡ 0 = ap (sum_by f) (drop_none l at h) in omega arith
+
+-- A test as a number
+pub test_number : (b : Bool) → bool_byte b ≡ cond b 1 0
+test_number true = refl
+test_number false = refl
 
 -- What is added where a test passes is 1 at most
 pub one_small : (b : Bool) (n : ℕ) → n ≡ cond b 1 0 → n ≤ 1

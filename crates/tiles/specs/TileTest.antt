@@ -1,5 +1,5 @@
 -- "live rows that fail to hold each key of the page's range once, an empty live row": the test of refusal 26 on key ranges in any order.
-use Rattle.std.specs.Prelude.{ℕ, ◌-◌, ◌≡◌, List, [], ◌∷◌, Bool, true, cond, ◌&&◌, ◌||◌, leb, ltb, eqb, drop}
+use Rattle.std.specs.Prelude.{ℕ, ◌-◌, ◌≡◌, List, [], ◌∷◌, Bool, true, cond, ◌&&◌, ◌||◌, leb, ltb, eqb}
 use Rattle.words.specs.Lists.{All}
 use Rattle.words.specs.Sums.{sum_by, count}
 use Rattle.ranges.specs.KeyRanges.{range_low, range_high, holds_key, lesser}
@@ -49,10 +49,3 @@ may_stop high ranges q = eqb q high || ltb 0 (count (holds_key q) ranges)
 -- In every slot stands such a key
 abbrev pub Noted : ℕ → List ℕ → List ℕ → Type 0
 Noted high ranges noted = All (λ (q : ℕ). may_stop high ranges q ≡ true) noted
-
--- Stops that are noted may be passed over: whatever the page's range, if it has these notes, the ranges from one place on go on where those from
--- a later place do
-abbrev pub Passed : (ranges noted : List ℕ) → (from to : ℕ) → Type 0
-Passed ranges noted from to =
-    (low high : ℕ) → Noted high ranges noted
-    → every (stops_well low high ranges) (drop from ranges) ≡ every (stops_well low high ranges) (drop to ranges)

@@ -9,7 +9,7 @@ pub fn time_at_start(tick: u32, weight: u32) -> Value
     ensures { result ≡ (time_at_start tick 0 weight).value }
 {
     let w = weight as u64;
-    Value::line(w, std::num::wrapping_sub_u64(w, w * (tick as u64)))
+    Value::line(w, w.wrapping_sub(w * (tick as u64)))
 }
 
 // What an end adds to it: at a tick t from then on, the weight times the ticks that have gone by since is taken away, so that what the start added stays as it was at the
@@ -18,5 +18,5 @@ pub fn time_at_end(tick: u32, weight: u32) -> Value
     ensures { result ≡ (time_at_end tick 0 weight).value }
 {
     let w = weight as u64;
-    Value::line(std::num::wrapping_sub_u64(0, w), w * (tick as u64))
+    Value::line(0u64.wrapping_sub(w), w * (tick as u64))
 }

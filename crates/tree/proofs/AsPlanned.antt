@@ -1,16 +1,14 @@
 -- What the plan says is what the entry does: of every tree, a spoiled one too.
 use Prim.Native.Nat.{ℕ, ◌+◌}
-use native.Mathlib.Omega.{arith}
 use mathlib.Core.Path.{◌≡◌, refl, ap₂, ◌∙◌}
 use mathlib.Core.Bool.{Bool, true, false, cond, ◌&&◌, not}
 use mathlib.Core.List.{List}
 use lib.Dec.{eqb}
+use Rattle.std.specs.Prelude.{Option, Some, None}
 use Rattle.words.specs.Words.{root_birth, key_limit}
+use Rattle.tree.specs.Spoiled.{spoiled}
 use Rattle.tree.specs.Fresh.{fresh_page, two_rows}
-use Rattle.tree.specs.declared.types.Root.{Root}
-use Rattle.tree.specs.declared.types.Root.TheVariants.{At, Missing}
 use Rattle.tree.specs.declared.types.RootChange.{RootChange}
-use Rattle.tree.specs.declared.types.Plan.TheVariants.{Spoiled, Ready}
 use Rattle.tree.specs.Tree.{Tree, put_page, level_of, root_at, root_in_use, last_root}
 use Rattle.tree.specs.RowSteps.{Point}
 use Rattle.tree.specs.declared.types.Became.{Became}
@@ -18,7 +16,8 @@ use Rattle.tree.specs.declared.types.Became.TheVariants.{Stays, Copied, Halved}
 use Rattle.tree.specs.Use.{taken_page, use_after}
 use Rattle.tree.specs.Overflow.{Written}
 use Rattle.tree.specs.Enter.{Entered, enter_from, with_root, entered_as, enter_root}
-use Rattle.tree.specs.Plan.{descent_sound, top_must_split, plan_root, plan, entered_root, enter}
+use Rattle.tree.specs.Plan.{ready, descent_sound, top_must_split, plan_root, plan, entered_root, enter}
+use Rattle.tree.proofs.Answered.{not_spoiled, same_ready}
 use Rattle.tree.proofs.RootLaws.{root_replaced, root_added}
 
 -- The tree after an entry that makes so many pages and changes the root list so
@@ -52,25 +51,21 @@ root_done tree p page =
     entered_as_lem tree p.tick (level_of tree.table page) (enter_from tree p (level_of tree.table page) page)
     (enter_from tree p (level_of tree.table page) page).became
 
-pub spoiled_not_ready : {G : Type 0} {made : ℕ} {change : RootChange} → Spoiled ≡ Ready made change → G
-spoiled_not_ready e = let z : ◌≡◌ {A = ℕ} 0 1 = cc in absurd (omega arith)
-
-pub as_planned : (tree : Tree) (p : Point) {made : ℕ} {change : RootChange} → plan tree p ≡ Ready made change
+pub as_planned : (tree : Tree) (p : Point) {made : ℕ} {change : RootChange} → plan tree p ≡ ready made change
     → Does tree made change (enter tree p)
 unfolding plan enter
 as_planned tree p {made} {change} e = go (root_at tree p.tick) e
   where
-    at : (page : ℕ) (b : Bool) → cond b (Ready (enter_root tree p page).made (enter_root tree p page).root) Spoiled ≡ Ready made change
+    at : (page : ℕ) (b : Bool) → cond b (ready (enter_root tree p page).made (enter_root tree p page).root) spoiled ≡ ready made change
         → Does tree made change (enter_root tree p page).tree
-    at page false f = spoiled_not_ready f
+    at page false f = not_spoiled f
     at page true f =
-        let m : (enter_root tree p page).made ≡ made = cc in
-        let c : (enter_root tree p page).root ≡ change = cc in
+        let parts = same_ready f in
         let d = root_done tree p page in
-        record { used_is = d.used_is ∙ ap₂ (use_after tree.used) m c }
+        record { used_is = d.used_is ∙ ap₂ (use_after tree.used) parts.0 parts.1 }
 
-    go : (root : Root) → plan_root tree p root ≡ Ready made change → Does tree made change (entered_root tree p root)
-    go Missing f = spoiled_not_ready f
-    go (At page) f =
+    go : (root : Option ℕ) → plan_root tree p root ≡ ready made change → Does tree made change (entered_root tree p root)
+    go None f = not_spoiled f
+    go (Some page) f =
         at page
         (root_in_use tree page && (descent_sound tree p (level_of tree.table page) 0 key_limit page && not (top_must_split tree p page))) f

@@ -4,11 +4,11 @@ use native.Mathlib.Omega.{arith}
 use mathlib.Core.Path.{◌≡◌, ap, ◌∙◌}
 use mathlib.Core.List.{List, ◌∷◌}
 use lib.ListN.{length}
+use Rattle.std.specs.Prelude.{Some}
 use Rattle.words.specs.Words.{key_limit}
 use Rattle.words.specs.declared.value.Value.{Value}
 use Rattle.words.proofs.Measure.{count_of, count_measure}
 use Rattle.tree.specs.Fresh.{fresh_page, two_rows}
-use Rattle.tree.specs.declared.types.Root.TheVariants.{At}
 use Rattle.tree.specs.Use.{page_limit, taken_page, pages_after}
 use Rattle.tree.specs.Tree.{Tree, put_page, level_of, root_at, whole_pages}
 use Rattle.tree.specs.RowSteps.{Point}
@@ -52,7 +52,7 @@ module _ (measure : Value → ℕ) (tree : Tree) (t level : ℕ) (root : ℕ →
           )
 
 module _ (tree : Tree) (points : List Point) (p : Point) (words : WordsKept tree (last_tick points)) (tells : Tells count_of tree points)
-    (time : InTime (last_tick points) p) (page : ℕ) (is_root : root_at tree p.tick ≡ At page) where
+    (time : InTime (last_tick points) p) (page : ℕ) (is_root : root_at tree p.tick ≡ Some page) where
   abbrev level : ℕ
   level = level_of tree.table page
 

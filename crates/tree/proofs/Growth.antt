@@ -7,18 +7,18 @@ use mathlib.Core.List.{List, [], ◌∷◌}
 use lib.Dec.{leb, eqb}
 use lib.ListN.{length, take}
 use borrow.Author.Tests.{le-leb, eq-eqb, eqb-true}
+use Rattle.std.specs.Prelude.{Some}
 use Rattle.words.specs.Words.{key_limit, root_entry}
 use Rattle.words.specs.declared.value.Value.{Value}
 use Rattle.words.specs.Value as value
 use Rattle.words.proofs.OverwriteLaws.{overwrite_length}
 use Rattle.words.proofs.Measure.{Measure, count_of, count_measure}
+use Rattle.tree.specs.Spoiled.{spoiled}
 use Rattle.tree.specs.Row.{rows_of, row_limit, page_words}
 use Rattle.tree.specs.Fresh.{new_row}
 use Rattle.tree.proofs.Lists.{sum_by}
 use Rattle.tree.proofs.TrueValueSums.{number_if, total_measure}
-use Rattle.tree.specs.declared.types.Root.TheVariants.{At}
 use Rattle.tree.specs.declared.types.RootChange.TheVariants.{Added}
-use Rattle.tree.specs.declared.types.Plan.TheVariants.{Spoiled, Ready}
 use Rattle.tree.specs.Use.{taken_page, opened_use}
 use Rattle.tree.specs.Tree.{Tree, page_at, level_of, root_at, root_for, top_level, whole_pages, pages_left}
 use Rattle.tree.specs.RowSteps.{Point}
@@ -26,7 +26,7 @@ use Rattle.tree.specs.declared.types.Became.{Became}
 use Rattle.tree.specs.declared.types.Became.TheVariants.{Stays, Copied, Halved}
 use Rattle.tree.specs.declared.types.TreeUse.{TreeUse}
 use Rattle.tree.specs.Enter.{enter_from, enter_root}
-use Rattle.tree.specs.Plan.{is_halved, top_must_split, descent_sound, plan_root, plan, entered_root, enter}
+use Rattle.tree.specs.Plan.{ready, is_halved, top_must_split, descent_sound, plan_root, plan, entered_root, enter}
 use Rattle.tree.specs.Grown.{grow, last_tick, InTime, Room, Admitted}
 use Rattle.tree.specs.Opened.{first_page, opened_tree}
 use Rattle.tree.specs.PointSums.{dominated, is_taken}
@@ -47,6 +47,7 @@ use Rattle.tree.proofs.TreeViews.{page_of, roots_of, grown_of, WordsKept, model_
 use Rattle.tree.proofs.TreeViews.{entered_model}
 use Rattle.tree.proofs.Descent.{descent_sound_lem}
 use Rattle.tree.proofs.UseLaws.{used_allocates, left_has, left_takes, after_most, opened_in, in_opened, opened_takes, pages_at_most}
+use Rattle.tree.proofs.Answered.{same_ready}
 use Rattle.tree.proofs.TakenPages.{After}
 
 -- A key that is zero or that some point has: each leaf row starts at such a key
@@ -110,7 +111,7 @@ counts k = k.tells count_of count_measure
 -- An entry into a grown tree
 module _ (measure : Value → ℕ) (m : Measure measure) (tree : Tree) (points : List Point) (p : Point)
     (words : WordsKept tree (last_tick points)) (tells : Tells measure tree points) (time : InTime (last_tick points) p)
-    (page : ℕ) (is_root : root_at tree p.tick ≡ At page) where
+    (page : ℕ) (is_root : root_at tree p.tick ≡ Some page) where
   pub now_paid : Paid (Known points) (view_table measure tree.table) (InUse tree.used) tree.used.pages p.tick
       (λ k. numbers measure p.tick k points) page (72 + 8 * length points)
   now_paid =
@@ -204,11 +205,11 @@ module _ (measure : Value → ℕ) (m : Measure measure) (tree : Tree) (points :
           absurd (omega (arith, halved_low x.page y.page x.high (sym e), eqb-true (level_of tree.table page) top_level f))
 
   -- The plan is never spoiled
-  pub plan_ready : plan tree p ≡ Ready (enter_root tree p page).made (enter_root tree p page).root
+  pub plan_ready : plan tree p ≡ ready (enter_root tree p page).made (enter_root tree p page).root
   unfolding plan
   plan_ready =
       ap (plan_root tree p) is_root
-      ∙ ap (λ (b : Bool). cond b (Ready (enter_root tree p page).made (enter_root tree p page).root) Spoiled)
+      ∙ ap (λ (b : Bool). cond b (ready (enter_root tree p page).made (enter_root tree p page).root) spoiled)
       ((and-eq-true_iff _ _).1 (
         (and-eq-true_iff _ _).1 (is_in_use, le-leb (level_of tree.table page) top_level level_low),
         (and-eq-true_iff _ _).1 (descent, ap not no_split),
@@ -231,16 +232,10 @@ module _ (measure : Value → ℕ) (m : Measure measure) (tree : Tree) (points :
 
   module _ (room : Room tree p) where
     is_made : (enter_root tree p page).made ≡ room.made
-    is_made =
-        let e : Ready (enter_root tree p page).made (enter_root tree p page).root ≡ Ready room.made room.root =
-        sym plan_ready ∙ room.planned in
-        cc
+    is_made = (same_ready (sym plan_ready ∙ room.planned)).0
 
     is_change : (enter_root tree p page).root ≡ room.root
-    is_change =
-        let e : Ready (enter_root tree p page).made (enter_root tree p page).root ≡ Ready room.made room.root =
-        sym plan_ready ∙ room.planned in
-        cc
+    is_change = (same_ready (sym plan_ready ∙ room.planned)).1
 
     held : tree.used.pages ≤ whole_pages tree.table
     held = omega (arith, words.pages)
@@ -307,11 +302,11 @@ module _ (table roots : List ℕ) (room : page_words ≤ length table) (list : 1
   opened_entries : take 1 (opened_tree table roots).roots ≡ root_entry 0 0 ∷ []
   opened_entries = take_written roots 0 (root_entry 0 0) (omega arith)
 
-  opened_root : (w : ℕ) → root_at (opened_tree table roots) w ≡ At 0
+  opened_root : (w : ℕ) → root_at (opened_tree table roots) w ≡ Some 0
   opened_root w =
       ap (root_for w) opened_entries
       ∙ root_behind w (root_entry 0 0) []
-      ∙ ap (λ (b : Bool). cond b (At 0) (root_for w [])) (le-leb 0 w (omega arith))
+      ∙ ap (λ (b : Bool). cond b (Some 0) (root_for w [])) (le-leb 0 w (omega arith))
 
   pub opened_words : WordsKept (opened_tree table roots) 0
   opened_words =

@@ -5,11 +5,11 @@ use mathlib.Core.Path.{◌≡◌, sym, ap, ◌∙◌}
 use mathlib.Core.Bool.{Bool, true, false, cond, ◌&&◌}
 use mathlib.Core.List.{List, [], ◌∷◌}
 use lib.Dec.{leb, ltb}
+use Rattle.std.specs.Prelude.{Some}
 use Rattle.words.specs.Words.{key_limit, open_end}
 use Rattle.words.specs.declared.value.Value.{Value}
 use Rattle.words.specs.Lists.{All}
 use Rattle.words.proofs.Measure.{Measure}
-use Rattle.tree.specs.declared.types.Root.TheVariants.{At}
 use Rattle.tree.specs.Tree as ours
 use Rattle.tree.specs.Tree.{level_of, root_at}
 use Rattle.tree.specs.Path.{path_from, path_of_root, path}
@@ -20,8 +20,8 @@ use Rattle.tree.proofs.TreeViews.{page_of, WordsKept}
 use Rattle.tree.proofs.Reading.{reads, tree_path, slots_path}
 use Rattle.tree.proofs.ModelPages.{Page}
 
-pub found_root : (tree : ours.Tree) {last : ℕ} → WordsKept tree last → (t : ℕ) → root_at tree t ≡ At (page_of (root_at tree t))
-found_root tree kept t = let r = kept.roots.found t in r.1 ∙ ap At (sym (ap page_of r.1))
+pub found_root : (tree : ours.Tree) {last : ℕ} → WordsKept tree last → (t : ℕ) → root_at tree t ≡ Some (page_of (root_at tree t))
+found_root tree kept t = let r = kept.roots.found t in r.1 ∙ ap Some (sym (ap page_of r.1))
 
 pub held_path : (measure : Value → ℕ) → Measure measure → (tree : ours.Tree) {last : ℕ} → WordsKept tree last → (t k : ℕ) → t < open_end
     → k < key_limit → (n page : ℕ) (tr : Tree n) → page_of (root_at tree t) ≡ page → level_of tree.table page ≡ n

@@ -2,6 +2,7 @@
 -- in which they build on each other.
 
 -- What the definitions of a page and of a path mean
+pub mod Answered
 pub mod Lists
 pub mod Sorted
 pub mod KeyOrderLaws

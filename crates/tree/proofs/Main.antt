@@ -12,15 +12,13 @@ use Rattle.words.proofs.Measure.{count_of, count_measure}
 use Rattle.tree.specs.declared.types.Row.{Row}
 use Rattle.tree.specs.declared.types.RootChange.{RootChange}
 use Rattle.tree.specs.declared.types.RootChange.TheVariants.{Added}
-use Rattle.tree.specs.declared.types.Lookup.TheVariants.{Found}
-use Rattle.tree.specs.declared.types.Plan.TheVariants.{Ready}
 use Rattle.tree.specs.Row.{rows_of, word}
 use Rattle.tree.specs.Use.{page_limit}
 use Rattle.tree.specs.Tree.{Tree, page_at, height, whole_pages, top_level, pages_left}
 use Rattle.tree.specs.RowSteps.{Point}
-use Rattle.tree.specs.Lookup.{lookup}
+use Rattle.tree.specs.Lookup.{found, lookup}
 use Rattle.tree.specs.Path.{path}
-use Rattle.tree.specs.Plan.{plan, enter}
+use Rattle.tree.specs.Plan.{ready, plan, enter}
 use Rattle.tree.specs.Enter.{enter_root}
 use Rattle.tree.proofs.PathLength.{path_length_lem, pages_at_most_lem}
 use Rattle.tree.specs.Grown.{grow, last_tick, InTime, InOrder, Admitted}
@@ -54,10 +52,10 @@ grown_more table roots p points = refl
 -- 1. Sums. "at (t, k) it adds the points with tick ≤ t and key ≤ k, and gives count, weight sum and pages opened":
 -- of every grown tree, at ticks past, present and later than the last. 26 never comes, and at most 4 pages are opened.
 pub lookup_adds : (table roots : List ℕ) (points : List Point) → Admitted table roots points → (t k : ℕ) → t < open_end → k < key_limit
-    → lookup (grow table roots points) t k ≡ Found (sum_of_points t k points) (length (path (grow table roots points) t k))
+    → lookup (grow table roots points) t k ≡ found (sum_of_points t k points) (length (path (grow table roots points) t k))
 lookup_adds table roots points h t k tick key =
     let e = lookup_sum_lem (grow table roots points) points (kept table roots points h) t k tick key in
-    e ∙ ap (Found (sum_of_points t k points)) (path_length_lem (grow table roots points) t k e)
+    e ∙ ap (found (sum_of_points t k points)) (path_length_lem (grow table roots points) t k e)
 
 pub path_short : (table roots : List ℕ) (points : List Point) → Admitted table roots points → (t k : ℕ) → t < open_end → k < key_limit
     → length (path (grow table roots points) t k) ≤ top_level + 1
@@ -79,7 +77,7 @@ pub past_lookup_stays : (table roots : List ℕ) (p : Point) (points : List Poin
 past_lookup_stays table roots p points h t k early key =
     let tick : t < open_end = omega (arith, h.0.tick) in
     lookup_adds table roots (p ∷ points) h t k tick key
-    ∙ ap₂ Found (later_sum p points t k early) (ap length (past_path_stays table roots p points h t k early key))
+    ∙ ap₂ found (later_sum p points t k early) (ap length (past_path_stays table roots p points h t k early key))
     ∙ sym (lookup_adds table roots points h.2 t k tick key)
 
 -- The same for any number of later points
@@ -141,7 +139,7 @@ pages_at_most_used table roots points h =
 
 -- 5. Room. The plan for a point in time is never spoiled.
 pub plan_never_spoiled : (table roots : List ℕ) (points : List Point) → Admitted table roots points → (p : Point)
-    → InTime (last_tick points) p → (made : ℕ) × (root : RootChange) × (plan (grow table roots points) p ≡ Ready made root)
+    → InTime (last_tick points) p → (made : ℕ) × (root : RootChange) × (plan (grow table roots points) p ≡ ready made root)
 plan_never_spoiled table roots points h p time =
     let k = kept table roots points h in
     let root = k.words.roots.found p.tick in
@@ -152,7 +150,7 @@ plan_never_spoiled table roots points h p time =
     )
 
 -- What the plan says is what the entry does, of every tree: the pages used grow by the pages that the plan counts
-pub entry_does : (tree : Tree) (p : Point) {made : ℕ} {change : RootChange} → plan tree p ≡ Ready made change
+pub entry_does : (tree : Tree) (p : Point) {made : ℕ} {change : RootChange} → plan tree p ≡ ready made change
     → Does tree made change (enter tree p)
 entry_does = as_planned
 
@@ -183,7 +181,7 @@ use_fits_lem table roots points h =
 -- A root list of as many words as its tree has whole pages, at most 1,000,000, always has a place for a new root entry: of every tree whose use
 -- fits, a spoiled one too
 pub added_place : (tree : Tree) (p : Point) {made : ℕ} → UseFits tree → min (whole_pages tree.table) page_limit ≤ length tree.roots
-    → plan tree p ≡ Ready made Added → made ≤ pages_left tree → tree.used.roots < length tree.roots
+    → plan tree p ≡ ready made Added → made ≤ pages_left tree → tree.used.roots < length tree.roots
 added_place tree p {made} fit long e left =
     place_found_lem tree.used made (length tree.roots) fit.roots_pages (added_some tree p e)
     (omega (arith, left_after tree (fits_takes fit) fit.pages_held made left, long))

@@ -9,17 +9,16 @@ use mathlib.Core.List.{List}
 use lib.Dec.{leb, eqb}
 use lib.ListN.{length}
 use borrow.Author.Tests.{leb-true, eq-eqb}
+use Rattle.std.specs.Prelude.{Option, Some, None}
 use Rattle.words.specs.Words.{key_limit}
+use Rattle.tree.specs.Spoiled.{spoiled}
 use Rattle.tree.specs.declared.types.Row.{Row}
 use Rattle.tree.specs.Row.{rows_of, row_limit, copy_limit}
 use Rattle.tree.specs.KeyOrder.{Placed}
 use Rattle.tree.specs.TrueValue.{Search, none, one}
 use Rattle.tree.specs.Fresh.{fresh_page, two_rows}
-use Rattle.tree.specs.declared.types.Root.{Root}
-use Rattle.tree.specs.declared.types.Root.TheVariants.{At, Missing}
 use Rattle.tree.specs.declared.types.RootChange.{RootChange}
 use Rattle.tree.specs.declared.types.RootChange.TheVariants.{Added}
-use Rattle.tree.specs.declared.types.Plan.TheVariants.{Spoiled, Ready}
 use Rattle.tree.specs.Tree.{Tree, page_at, put_page, level_of, root_at, root_in_use, top_level}
 use Rattle.tree.specs.RowSteps.{Point, row_around, gain_rows, leaf_rows, relink_row}
 use Rattle.tree.specs.declared.types.Became.{Became}
@@ -27,10 +26,10 @@ use Rattle.tree.specs.declared.types.Became.TheVariants.{Stays, Copied, Halved}
 use Rattle.tree.specs.Use.{in_use, taken_page}
 use Rattle.tree.specs.Overflow.{Written, copied_rows, finish_page}
 use Rattle.tree.specs.Enter.{unwritten, enter_below, enter_from, entered_as, enter_root}
-use Rattle.tree.specs.Plan.{descent_sound, is_halved, top_must_split, plan_root, plan}
+use Rattle.tree.specs.Plan.{ready, descent_sound, is_halved, top_must_split, plan_root, plan}
 use Rattle.tree.specs.Limits.{most_made}
 use Rattle.tree.proofs.RootLaws.{root_made}
-use Rattle.tree.proofs.AsPlanned.{spoiled_not_ready}
+use Rattle.tree.proofs.Answered.{not_spoiled, same_ready}
 
 -- The new pages that take a page's rows
 abbrev pub new_pages : Became → ℕ
@@ -97,24 +96,23 @@ root_few tree p page low top =
     with_root_lem tree p.tick level so so.became (made_below tree p level page) low top
 
 -- No plan that is ready makes more
-pub made_at_most : (tree : Tree) (p : Point) {made : ℕ} {root : RootChange} → plan tree p ≡ Ready made root → made ≤ most_made
+pub made_at_most : (tree : Tree) (p : Point) {made : ℕ} {root : RootChange} → plan tree p ≡ ready made root → made ≤ most_made
 unfolding plan
 made_at_most tree p {made} {root} e = go (root_at tree p.tick) e
   where
     at : (page : ℕ) (b : Bool)
         → (root_in_use tree page && (descent_sound tree p (level_of tree.table page) 0 key_limit page && not (top_must_split tree p page))) ≡ b
-        → cond b (Ready (enter_root tree p page).made (enter_root tree p page).root) Spoiled ≡ Ready made root → made ≤ most_made
-    at page false b f = spoiled_not_ready f
+        → cond b (ready (enter_root tree p page).made (enter_root tree p page).root) spoiled ≡ ready made root → made ≤ most_made
+    at page false b f = not_spoiled f
     at page true b f =
         let is_in_use = (and-eq-true_iff (root_in_use tree page) _).0 b in
         let low = ((and-eq-true_iff (in_use tree.used page) _).0 is_in_use.0).1 in
         let sound = (and-eq-true_iff (descent_sound tree p (level_of tree.table page) 0 key_limit page) _).0 is_in_use.1 in
-        let is : (enter_root tree p page).made ≡ made = cc in
-        omega (arith, root_few tree p page (leb-true (level_of tree.table page) top_level low) sound.1, is)
+        omega (arith, root_few tree p page (leb-true (level_of tree.table page) top_level low) sound.1, (same_ready f).0)
 
-    go : (r : Root) → plan_root tree p r ≡ Ready made root → made ≤ most_made
-    go Missing f = spoiled_not_ready f
-    go (At page) f = at page _ refl f
+    go : (r : Option ℕ) → plan_root tree p r ≡ ready made root → made ≤ most_made
+    go None f = not_spoiled f
+    go (Some page) f = at page _ refl f
 
 -- The pages that took a page's rows are among those made
 made_least : (tree : Tree) (p : Point) (level page : ℕ) → new_pages (enter_from tree p level page).became ≤ (enter_from tree p level page).made
@@ -148,19 +146,18 @@ entered_some tree p page =
     let so : Written = enter_from tree p level page in
     root_some tree p.tick level so so.became (made_least tree p level page)
 
-pub added_some : (tree : Tree) (p : Point) {made : ℕ} → plan tree p ≡ Ready made Added → 1 ≤ made
+pub added_some : (tree : Tree) (p : Point) {made : ℕ} → plan tree p ≡ ready made Added → 1 ≤ made
 unfolding plan
 added_some tree p {made} e = go (root_at tree p.tick) e
   where
-    at : (page : ℕ) (b : Bool) → cond b (Ready (enter_root tree p page).made (enter_root tree p page).root) Spoiled ≡ Ready made Added → 1 ≤ made
-    at page false f = spoiled_not_ready f
+    at : (page : ℕ) (b : Bool) → cond b (ready (enter_root tree p page).made (enter_root tree p page).root) spoiled ≡ ready made Added → 1 ≤ made
+    at page false f = not_spoiled f
     at page true f =
-        let is : (enter_root tree p page).made ≡ made = cc in
-        let change : (enter_root tree p page).root ≡ Added = cc in
-        omega (arith, entered_some tree p page change, is)
+        let parts = same_ready f in
+        omega (arith, entered_some tree p page parts.1, parts.0)
 
-    go : (r : Root) → plan_root tree p r ≡ Ready made Added → 1 ≤ made
-    go Missing f = spoiled_not_ready f
-    go (At page) f =
+    go : (r : Option ℕ) → plan_root tree p r ≡ ready made Added → 1 ≤ made
+    go None f = not_spoiled f
+    go (Some page) f =
         at page
         (root_in_use tree page && (descent_sound tree p (level_of tree.table page) 0 key_limit page && not (top_must_split tree p page))) f

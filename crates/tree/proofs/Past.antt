@@ -7,6 +7,7 @@ use mathlib.Core.List.{List, ◌∷◌}
 use lib.Dec.{leb}
 use lib.ListN.{length}
 use borrow.Author.Tests.{lt-leb}
+use Rattle.std.specs.Prelude.{Some}
 use Rattle.words.specs.Words.{key_limit, open_end}
 use Rattle.words.specs.declared.value.Value.{Value}
 use Rattle.words.specs.Value.{zero, plus}
@@ -15,7 +16,6 @@ use Rattle.words.proofs.ValueLaws.{zero_plus}
 use Rattle.tree.specs.TrueValue.{total_where}
 use Rattle.tree.proofs.OrderTotals.{total_stored}
 use Rattle.tree.specs.Fresh.{fresh_page, two_rows}
-use Rattle.tree.specs.declared.types.Root.TheVariants.{At}
 use Rattle.tree.specs.Tree.{Tree, put_page, level_of, root_at}
 use Rattle.tree.specs.RowSteps.{Point}
 use Rattle.tree.specs.declared.types.Became.{Became}
@@ -61,7 +61,7 @@ root_made_more tree t level so (Halved c d) =
 
 module _ (measure : Value → ℕ) (m : Measure measure) (tree : Tree) (points : List Point) (p : Point)
     (words : WordsKept tree (last_tick points)) (tells : Tells measure tree points) (time : InTime (last_tick points) p)
-    (page : ℕ) (is_root : root_at tree p.tick ≡ At page) (room : Room tree p) where
+    (page : ℕ) (is_root : root_at tree p.tick ≡ Some page) (room : Room tree p) where
   abbrev store : ℕ → Page
   store = view_table measure tree.table
 

@@ -7,14 +7,15 @@ use mathlib.Core.Bool.{Bool, true, false, cond, ◌&&◌}
 use mathlib.Core.List.{List, [], ◌∷◌, ◌++◌}
 use lib.Dec.{leb, ltb}
 use lib.ListN.{length}
+use Rattle.std.specs.Prelude.{Result}
 use Rattle.words.specs.declared.value.Value.{Value}
 use Rattle.words.specs.Value as value
 use Rattle.words.specs.Value.{plus}
 use Rattle.words.proofs.Measure.{Measure}
 use Rattle.words.proofs.ValueLaws.{Stored, plus_stored}
 use Rattle.words.specs.Words.{open_end}
+use Rattle.tree.specs.Spoiled.{spoiled}
 use Rattle.tree.specs.declared.types.Row.{Row}
-use Rattle.tree.specs.declared.types.Held.TheVariants as found
 use Rattle.tree.specs.Row.{live, rows_of, row_limit}
 use Rattle.tree.specs.KeyOrder.{Placed}
 use Rattle.tree.specs.PageTest.{sound_at}
@@ -22,10 +23,10 @@ use Rattle.tree.specs.TrueValue.{Search, true_value, holding_row, held_as}
 use Rattle.tree.proofs.Lists.{sum_same}
 use Rattle.tree.proofs.TrueValueUpTo.{true_up_to}
 use Rattle.tree.specs.declared.types.Lookup.{Lookup}
-use Rattle.tree.specs.declared.types.Lookup.TheVariants.{Spoiled, Found}
+use Rattle.tree.specs.declared.types.SpoiledPage.{SpoiledPage}
 use Rattle.tree.specs.Tree as ours
 use Rattle.tree.specs.Tree.{page_at}
-use Rattle.tree.specs.Lookup.{plus_page, with_below, lookup_page, lookup_from}
+use Rattle.tree.specs.Lookup.{found, plus_page, with_below, lookup_page, lookup_from}
 use Rattle.tree.specs.Path.{path_below, path_from}
 use Rattle.tree.specs.Taking.{InUse}
 use Rattle.tree.proofs.ModelPages.{◌≈◌, Entry, Page, only_if}
@@ -88,7 +89,7 @@ add_sums v a b x y e f g = rest_of v (a + b) e ∙ both_sums a b x y (rest_of a 
 -- What a lookup from a page of level n on gives
 pub record Reads (measure : Value → ℕ) (tree : ours.Tree) (t k n lo hi page : ℕ) (tr : Tree n) : Type 0 where
   pub value : Value
-  pub is : lookup_from tree t k n lo hi page ≡ Found value (n + 1)
+  pub is : lookup_from tree t k n lo hi page ≡ found value (n + 1)
   pub sum : measure value ≈ lookup_tree n k tr
   pub stored : Stored value
   pub path : path_from tree.table t k n page ≡ tree_path n k page tr
@@ -132,15 +133,15 @@ module _ (measure : Value → ℕ) (m : Measure measure) (tree : ours.Tree)
         both true false v = refl
         both false b v = refl
 
-    page_read : (below : Row → Lookup)
+    page_read : (below : Row → Result Lookup SpoiledPage)
         → lookup_page tree t k n lo hi page below ≡ plus_page (true_value t (rows_at page) at_key.item.row) (below at_key.item.row)
     page_read below =
         ap
         (λ (b : Bool). cond b
         (with_below below (cond (sound_at t n lo hi (page_at tree.table page)) (held_as t (rows_at page) (holding_row t k (rows_at page)))
-        found.Spoiled)) Spoiled)
+        spoiled)) spoiled)
         held.is_in_use
-        ∙ ap₂ (λ (b : Bool) (s : Search Placed). with_below below (cond b (held_as t (rows_at page) s) found.Spoiled))
+        ∙ ap₂ (λ (b : Bool) (s : Search Placed). with_below below (cond b (held_as t (rows_at page) s) spoiled))
         (held_sound measure tree small P t n lo hi page (xs ++ (y ∷ ys)) held) at_key.is_found
 
   leaf_reads : (lo hi page : ℕ) (tr : Tree 0) → Cut Leaf lo hi k tr → Holds 0 store In t lo hi page tr
@@ -150,7 +151,7 @@ module _ (measure : Value → ℕ) (m : Measure measure) (tree : ours.Tree)
       let v = true_value t (rows_at page) (at_key Leaf 0 lo hi page xs y ys c i j w d h).item.row in
       record {
         value = plus v value.zero;
-        is = page_read Leaf 0 lo hi page xs y ys c i j w d h (λ (row : Row). Found value.zero 0);
+        is = page_read Leaf 0 lo hi page xs y ys c i j w d h (λ (row : Row). found value.zero 0);
         sum =
             omega (
               arith,
@@ -175,7 +176,7 @@ module _ (measure : Value → ℕ) (m : Measure measure) (tree : ours.Tree)
             page_read (Holds n store In t) (suc n) lo hi page xs y ys c i j w d h
             (λ (row : Row). lookup_from tree t k n row.low row.high row.child)
             ∙ ap (plus_page (true_value t (rows_at page) x.row)) onward
-            ∙ ap (Found (plus (true_value t (rows_at page) x.row) below.value)) (omega arith);
+            ∙ ap (found (plus (true_value t (rows_at page) x.row) below.value)) (omega arith);
         sum =
             add_sums (measure (plus (true_value t (rows_at page) x.row) below.value)) (measure (true_value t (rows_at page) x.row))
             (measure below.value) (sum_slots (λ e. only_if (leb e.low k) e.amount) (xs ++ (y ∷ ys))) (lookup_tree n k y.below)
@@ -200,7 +201,7 @@ module _ (measure : Value → ℕ) (m : Measure measure) (tree : ours.Tree)
       below : Reads measure tree t k n y.entry.low y.entry.high y.entry.page y.below
       below = ih y.entry.low y.entry.high y.entry.page y.below i j w
 
-      onward : lookup_from tree t k n r.item.row.low r.item.row.high r.item.row.child ≡ Found below.value (n + 1)
+      onward : lookup_from tree t k n r.item.row.low r.item.row.high r.item.row.child ≡ found below.value (n + 1)
       onward = ap (λ (e : Entry). lookup_from tree t k n e.low e.high e.page) r.entry ∙ below.is
 
   pub reads : (n lo hi page : ℕ) (tr : Tree n) → lo ≤ k → k < hi → Holds n store In t lo hi page tr

@@ -8,12 +8,11 @@ use lib.Dec.{leb, eqb}
 use lib.ListN.{length, take, drop, get_or, length-append}
 use lib.Seq.{take_at, take-suc, length-take-le}
 use borrow.Author.Tests.{eqb-true, le-leb}
+use Rattle.std.specs.Prelude.{Option, Some, None}
 use Rattle.words.specs.Words.{root_birth, root_page, root_entry}
 use Rattle.words.specs.Overwrite.{overwrite}
 use Rattle.words.proofs.OverwriteLaws.{overwrite_length, word_inside}
 use Rattle.tree.specs.Row.{word}
-use Rattle.tree.specs.declared.types.Root.{Root}
-use Rattle.tree.specs.declared.types.Root.TheVariants.{At, Missing}
 use Rattle.tree.specs.declared.types.RootChange.TheVariants.{Added, Replaced}
 use Rattle.tree.specs.Use.{pages_after, use_after}
 use Rattle.tree.specs.Tree.{Tree, in_higher_place, root_for, root_at, last_root}
@@ -22,15 +21,15 @@ use Rattle.tree.proofs.UseLaws.{after_least, place_found_lem}
 
 -- The entry in the highest place comes first
 pub root_behind : (w e : ℕ) (ws : List ℕ)
-    → root_for w (ws ++ (e ∷ [])) ≡ cond (leb (root_birth e) w) (At (root_page e)) (root_for w ws)
+    → root_for w (ws ++ (e ∷ [])) ≡ cond (leb (root_birth e) w) (Some (root_page e)) (root_for w ws)
 unfolding root_for
 root_behind w e [] = refl
 root_behind w e (v ∷ vs) =
-    ap (λ (r : Root). in_higher_place r (cond (leb (root_birth v) w) (At (root_page v)) Missing)) (root_behind w e vs) ∙ go (leb (root_birth e) w)
+    ap (λ (r : Option ℕ). in_higher_place r (cond (leb (root_birth v) w) (Some (root_page v)) None)) (root_behind w e vs) ∙ go (leb (root_birth e) w)
   where
     go : (b : Bool)
-        → in_higher_place (cond b (At (root_page e)) (root_for w vs)) (cond (leb (root_birth v) w) (At (root_page v)) Missing)
-        ≡ cond b (At (root_page e)) (in_higher_place (root_for w vs) (cond (leb (root_birth v) w) (At (root_page v)) Missing))
+        → in_higher_place (cond b (Some (root_page e)) (root_for w vs)) (cond (leb (root_birth v) w) (Some (root_page v)) None)
+        ≡ cond b (Some (root_page e)) (in_higher_place (root_for w vs) (cond (leb (root_birth v) w) (Some (root_page v)) None))
     go true = refl
     go false = refl
 
@@ -56,15 +55,15 @@ pub record RootsKept (tree : Tree) (last : ℕ) : Type 0 where
   pub listed : tree.used.roots ≤ length tree.roots
   pub fewer : tree.used.roots ≤ tree.used.pages
   pub born : root_birth (last_root tree) ≤ last
-  pub found : (w : ℕ) → (page : ℕ) × (root_at tree w ≡ At page)
+  pub found : (w : ℕ) → (page : ℕ) × (root_at tree w ≡ Some page)
 
 -- From the birth of the last root on it is the root
-pub root_now : (tree : Tree) (last w : ℕ) → RootsKept tree last → last ≤ w → root_at tree w ≡ At (root_page (last_root tree))
+pub root_now : (tree : Tree) (last w : ℕ) → RootsKept tree last → last ≤ w → root_at tree w ≡ Some (root_page (last_root tree))
 root_now tree last w kept l =
     let early : root_birth (last_root tree) ≤ w = omega (arith, kept.born) in
     ap (root_for w) (take_last tree.roots tree.used.roots kept.some kept.listed)
     ∙ root_behind w (last_root tree) (take (tree.used.roots - 1) tree.roots)
-    ∙ ap (λ (b : Bool). cond b (At (root_page (last_root tree))) (root_for w (take (tree.used.roots - 1) tree.roots))) (le-leb _ _ early)
+    ∙ ap (λ (b : Bool). cond b (Some (root_page (last_root tree))) (root_for w (take (tree.used.roots - 1) tree.roots))) (le-leb _ _ early)
 
 -- The two changes of step 8
 abbrev pub root_replaced : Tree → ℕ → ℕ → List ℕ → ℕ → Entered
@@ -105,7 +104,7 @@ root_made tree t page table made =
 
 -- A tree that has a new root from tick t on
 pub record Rooted (tree : Tree) (t page : ℕ) (words : List ℕ) (new : ℕ) (so : Entered) : Type 0 where
-  pub root : (w : ℕ) → root_at so.tree w ≡ cond (leb t w) (At page) (root_at tree w)
+  pub root : (w : ℕ) → root_at so.tree w ≡ cond (leb t w) (Some page) (root_at tree w)
   pub table : so.tree.table ≡ words
   pub pages : so.tree.used.pages ≡ pages_after tree.used new
   pub made : so.made ≡ new
@@ -120,13 +119,13 @@ module _ (tree : Tree) (last t page : ℕ) (table : List ℕ) (made : ℕ) (kept
   is_page : root_page (root_entry t page) ≡ page
   is_page = omega arith
 
-  new_root_lem : (w : ℕ) (ws : List ℕ) → root_for w (ws ++ (root_entry t page ∷ [])) ≡ cond (leb t w) (At page) (root_for w ws)
-  new_root_lem w ws = root_behind w (root_entry t page) ws ∙ ap₂ (λ (b p : ℕ). cond (leb b w) (At p) (root_for w ws)) is_birth is_page
+  new_root_lem : (w : ℕ) (ws : List ℕ) → root_for w (ws ++ (root_entry t page ∷ [])) ≡ cond (leb t w) (Some page) (root_for w ws)
+  new_root_lem w ws = root_behind w (root_entry t page) ws ∙ ap₂ (λ (b p : ℕ). cond (leb b w) (Some p) (root_for w ws)) is_birth is_page
 
-  found_new : (new : Tree) → ((w : ℕ) → root_at new w ≡ cond (leb t w) (At page) (root_at tree w)) → (w : ℕ) → (q : ℕ) × (root_at new w ≡ At q)
+  found_new : (new : Tree) → ((w : ℕ) → root_at new w ≡ cond (leb t w) (Some page) (root_at tree w)) → (w : ℕ) → (q : ℕ) × (root_at new w ≡ Some q)
   found_new new h w = go (leb t w) (h w)
     where
-      go : (b : Bool) → root_at new w ≡ cond b (At page) (root_at tree w) → (q : ℕ) × (root_at new w ≡ At q)
+      go : (b : Bool) → root_at new w ≡ cond b (Some page) (root_at tree w) → (q : ℕ) × (root_at new w ≡ Some q)
       go true e = (page, e)
       go false e = let f = kept.found w in (f.0, e ∙ f.1)
 
@@ -140,7 +139,7 @@ module _ (tree : Tree) (last t page : ℕ) (table : List ℕ) (made : ℕ) (kept
       added : Entered
       added = root_added tree t page table made
 
-      replaced_root : root_birth (last_root tree) ≡ t → (w : ℕ) → root_at replaced.tree w ≡ cond (leb t w) (At page) (root_at tree w)
+      replaced_root : root_birth (last_root tree) ≡ t → (w : ℕ) → root_at replaced.tree w ≡ cond (leb t w) (Some page) (root_at tree w)
       replaced_root e w =
           let n = tree.used.roots in
           let one : n ≡ n - 1 + 1 = omega (arith, kept.some) in
@@ -149,21 +148,21 @@ module _ (tree : Tree) (last t page : ℕ) (table : List ℕ) (made : ℕ) (kept
           ∙ new_root_lem w (take (n - 1) tree.roots)
           ∙ step (leb t w) refl
         where
-          old : root_at tree w ≡ cond (leb t w) (At (root_page (last_root tree))) (root_for w (take (tree.used.roots - 1) tree.roots))
+          old : root_at tree w ≡ cond (leb t w) (Some (root_page (last_root tree))) (root_for w (take (tree.used.roots - 1) tree.roots))
           old =
               ap (root_for w) (take_last tree.roots tree.used.roots kept.some kept.listed)
               ∙ root_behind w (last_root tree) (take (tree.used.roots - 1) tree.roots)
-              ∙ ap (λ (b : ℕ). cond (leb b w) (At (root_page (last_root tree))) (root_for w (take (tree.used.roots - 1) tree.roots))) e
+              ∙ ap (λ (b : ℕ). cond (leb b w) (Some (root_page (last_root tree))) (root_for w (take (tree.used.roots - 1) tree.roots))) e
 
           step : (b : Bool) → leb t w ≡ b
-              → cond b (At page) (root_for w (take (tree.used.roots - 1) tree.roots)) ≡ cond b (At page) (root_at tree w)
+              → cond b (Some page) (root_for w (take (tree.used.roots - 1) tree.roots)) ≡ cond b (Some page) (root_at tree w)
           step true f = refl
           step false f =
               sym
-              (old ∙ ap (λ (b : Bool). cond b (At (root_page (last_root tree))) (root_for w (take (tree.used.roots - 1) tree.roots)))
+              (old ∙ ap (λ (b : Bool). cond b (Some (root_page (last_root tree))) (root_for w (take (tree.used.roots - 1) tree.roots)))
               f)
 
-      added_root : tree.used.roots < length tree.roots → (w : ℕ) → root_at added.tree w ≡ cond (leb t w) (At page) (root_at tree w)
+      added_root : tree.used.roots < length tree.roots → (w : ℕ) → root_at added.tree w ≡ cond (leb t w) (Some page) (root_at tree w)
       added_root h w =
           ap (root_for w) (take_written tree.roots tree.used.roots (root_entry t page) h)
           ∙ new_root_lem w (take tree.used.roots tree.roots)

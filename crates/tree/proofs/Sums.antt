@@ -8,15 +8,16 @@ use borrow.Author.Tests.{le-leb}
 use Rattle.words.specs.Words.{key_limit, open_end}
 use Rattle.words.specs.declared.value.Value.{Value}
 use Rattle.words.proofs.Measure.{Measure, count_of, count_measure, by_measures}
+use Rattle.tree.specs.Spoiled.{spoiled}
 use Rattle.tree.proofs.OrderTotals.{total_stored}
-use Rattle.tree.specs.declared.types.Lookup.TheVariants.{Spoiled, Found}
 use Rattle.tree.specs.Tree.{Tree, level_of, root_at, top_level}
 use Rattle.tree.specs.RowSteps.{Point}
-use Rattle.tree.specs.Lookup.{lookup_from, lookup_root, lookup}
+use Rattle.tree.specs.Lookup.{found, lookup_from, lookup_root, lookup}
 use Rattle.tree.specs.Grown.{last_tick}
 use Rattle.tree.specs.PointSums.{dominated}
 use Rattle.tree.specs.PointTotals.{point_value, sum_of_points}
 use Rattle.tree.specs.Taking.{InUse}
+use Rattle.tree.proofs.Answered.{same_found}
 use Rattle.tree.proofs.ModelPages.{◌≈◌}
 use Rattle.tree.proofs.GrownStates.{Version, holds_used}
 use Rattle.tree.proofs.View.{view_table}
@@ -40,11 +41,11 @@ module _ (measure : Value → ℕ) (m : Measure measure) (tree : Tree) (points :
   read : Reads measure tree t k level 0 key_limit page version.tree
   read = reads measure m tree words.small t k tick level 0 key_limit page version.tree (omega arith) key version.held
 
-  read_lookup : lookup tree t k ≡ Found read.value (level + 1)
+  read_lookup : lookup tree t k ≡ found read.value (level + 1)
   unfolding lookup
   read_lookup =
       ap (lookup_root tree t k) (found_root tree words t)
-      ∙ ap (λ (b : Bool). cond b (lookup_from tree t k level 0 key_limit page) Spoiled)
+      ∙ ap (λ (b : Bool). cond b (lookup_from tree t k level 0 key_limit page) spoiled)
       ((and-eq-true_iff _ _).1 (is_in_use, le-leb level top_level (tells.levels t tick)))
       ∙ read.is
     where
@@ -58,15 +59,12 @@ module _ (measure : Value → ℕ) (m : Measure measure) (tree : Tree) (points :
           → measure (sum_of_points t k points) ≈ numbers measure t k points
       rest e = omega arith
 
-found_value : {v w : Value} {m n : ℕ} → Found v m ≡ Found w n → v ≡ w
-found_value e = cc
-
 -- Read by every measure
 pub lookup_sum_lem : (tree : Tree) (points : List Point) → TreeKept tree points → (t k : ℕ) → t < open_end → k < key_limit
-    → lookup tree t k ≡ Found (sum_of_points t k points) (level_of tree.table (page_of (root_at tree t)) + 1)
+    → lookup tree t k ≡ found (sum_of_points t k points) (level_of tree.table (page_of (root_at tree t)) + 1)
 lookup_sum_lem tree points kept t k tick key =
-    found count_of count_measure
-    ∙ ap (λ (v : Value). Found v (level_of tree.table (page_of (root_at tree t)) + 1))
+    total count_of count_measure
+    ∙ ap (λ (v : Value). found v (level_of tree.table (page_of (root_at tree t)) + 1))
     (by_measures (by count_of count_measure).value (sum_of_points t k points) (by count_of count_measure).stored
     (total_stored point_value (dominated t k) points) alike)
   where
@@ -74,12 +72,12 @@ lookup_sum_lem tree points kept t k tick key =
         (page_of (root_at tree t)) (version measure m tree points kept.words (kept.tells measure m) t k tick key).tree
     by measure m = read measure m tree points kept.words (kept.tells measure m) t k tick key
 
-    found : (measure : Value → ℕ) (m : Measure measure)
-        → lookup tree t k ≡ Found (by measure m).value (level_of tree.table (page_of (root_at tree t)) + 1)
-    found measure m = read_lookup measure m tree points kept.words (kept.tells measure m) t k tick key
+    total : (measure : Value → ℕ) (m : Measure measure)
+        → lookup tree t k ≡ found (by measure m).value (level_of tree.table (page_of (root_at tree t)) + 1)
+    total measure m = read_lookup measure m tree points kept.words (kept.tells measure m) t k tick key
 
     alike : (measure : Value → ℕ) (m : Measure measure)
         → measure (by count_of count_measure).value ≈ measure (sum_of_points t k points)
     alike measure m =
-        ap (λ (v : Value). measure v % 2 ^ 64) (found_value (sym (found count_of count_measure) ∙ found measure m))
+        ap (λ (v : Value). measure v % 2 ^ 64) (same_found (sym (total count_of count_measure) ∙ total measure m)).0
         ∙ read_sum measure m tree points kept.words (kept.tells measure m) t k tick key

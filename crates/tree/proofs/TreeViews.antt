@@ -8,13 +8,12 @@ use mathlib.Core.List.{List, [], ◌∷◌}
 use lib.Dec.{leb, eqb}
 use lib.ListN.{length, length-map}
 use borrow.Author.Tests.{eq-eqb, ne_eqb}
+use Rattle.std.specs.Prelude.{Option, Some, None}
 use Rattle.words.specs.Words.{key_limit, open_end}
 use Rattle.words.specs.declared.value.Value.{Value}
 use Rattle.words.proofs.Measure.{Measure}
 use Rattle.tree.specs.Row.{rows_of, row_limit, page_words}
 use Rattle.tree.specs.Fresh.{fresh_page, two_rows}
-use Rattle.tree.specs.declared.types.Root.{Root}
-use Rattle.tree.specs.declared.types.Root.TheVariants.{At, Missing}
 use Rattle.tree.specs.declared.types.RootChange.TheVariants.{Added}
 use Rattle.tree.specs.Tree as ours
 use Rattle.tree.specs.Use.{taken_page, use_after}
@@ -43,9 +42,9 @@ use Rattle.tree.proofs.TakenPages.{After, after_less}
 use Rattle.tree.proofs.UseLaws.{after_least, fewer, taken_inside, after_in, in_after}
 use Rattle.tree.proofs.AsPlanned.{root_done}
 
-abbrev pub page_of : Root → ℕ
-page_of Missing = 0
-page_of (At page) = page
+abbrev pub page_of : Option ℕ → ℕ
+page_of None = 0
+page_of (Some page) = page
 
 -- The page of the root for each tick
 abbrev pub roots_of : ours.Tree → ℕ → ℕ
@@ -107,7 +106,7 @@ module _ (measure : Value → ℕ) (m : Measure measure) (tree : ours.Tree) (tak
         r.list,
       )
     where
-      by_test : (b : Bool) (w : ℕ) → page_of (cond b (At page) (root_at tree w)) ≡ cond b page (page_of (root_at tree w))
+      by_test : (b : Bool) (w : ℕ) → page_of (cond b (Some page) (root_at tree w)) ≡ cond b page (page_of (root_at tree w))
       by_test true w = refl
       by_test false w = refl
 
@@ -207,7 +206,7 @@ module _ (tree : ours.Tree) (p : Point) (page : ℕ) where
 
 -- The whole entry, from the page of the root for the tick
 module _ (measure : Value → ℕ) (m : Measure measure) (tree : ours.Tree) (p : Point) (last : ℕ) (kept : WordsKept tree last)
-    (time : last ≤ p.tick) (now : p.tick < open_end) (key : p.key < key_limit) (page : ℕ) (is_root : root_at tree p.tick ≡ At page)
+    (time : last ≤ p.tick) (now : p.tick < open_end) (key : p.key < key_limit) (page : ℕ) (is_root : root_at tree p.tick ≡ Some page)
     (IsKnown : ℕ → Type 0) (known : IsKnown p.key) (tr : Tree (level_of tree.table page))
     (held : Holds (level_of tree.table page) (view_table measure tree.table) (InUse tree.used) p.tick 0 key_limit page tr)
     (full : Full IsKnown (level_of tree.table page) tr) where

@@ -4,10 +4,9 @@ use Rattle.words.specs.Words.{key_limit, open_end}
 use Rattle.tree.specs.Row.{page_words}
 use Rattle.tree.specs.declared.types.RootChange.{RootChange}
 use Rattle.tree.specs.declared.types.RootChange.TheVariants.{Added}
-use Rattle.tree.specs.declared.types.Plan.TheVariants.{Ready}
 use Rattle.tree.specs.Tree.{Tree, pages_left}
 use Rattle.tree.specs.RowSteps.{Point}
-use Rattle.tree.specs.Plan.{plan, enter}
+use Rattle.tree.specs.Plan.{ready, plan, enter}
 use Rattle.tree.specs.Opened.{opened_tree}
 
 -- Of a page table and a root list, the tree that they hold after opening and after these points. The newest point comes first.
@@ -36,7 +35,7 @@ InOrder (p ∷ points) = InTime (last_tick points) p × InOrder points
 pub record Room (tree : Tree) (p : Point) : Type 0 where
   pub made : ℕ
   pub root : RootChange
-  pub planned : plan tree p ≡ Ready made root
+  pub planned : plan tree p ≡ ready made root
   pub pages : made ≤ pages_left tree
   pub place : root ≡ Added → tree.used.roots < length tree.roots
 

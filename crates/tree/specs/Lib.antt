@@ -4,6 +4,7 @@
 pub mod Row
 pub mod KeyOrder
 pub mod PageTest
+pub mod Spoiled
 pub mod TrueValue
 pub mod Edit
 pub mod Fresh

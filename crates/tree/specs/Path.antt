@@ -1,10 +1,8 @@
 -- "The path of a lookup is the root for t, then from each page above level 0 the child of the row that is live at t and has low key ≤ k < high key."
-use Rattle.std.specs.Prelude.{ℕ, zero, suc, List, [], ◌∷◌}
+use Rattle.std.specs.Prelude.{ℕ, zero, suc, List, [], ◌∷◌, Option, Some, None}
 use Rattle.tree.specs.Row.{rows_of}
 use Rattle.tree.specs.KeyOrder.{Placed}
 use Rattle.tree.specs.TrueValue.{Search, none, one, holding_row}
-use Rattle.tree.specs.declared.types.Root.{Root}
-use Rattle.tree.specs.declared.types.Root.TheVariants.{At, Missing}
 use Rattle.tree.specs.Tree.{Tree, page_at, level_of, root_at}
 
 abbrev pub path_below : (ℕ → List ℕ) → Search Placed → List ℕ
@@ -16,9 +14,9 @@ unfoldable pub path_from : (table : List ℕ) → (t k level page : ℕ) → Lis
 path_from table t k zero page = page ∷ []
 path_from table t k (suc l) page = page ∷ path_below (λ (child : ℕ). path_from table t k l child) (holding_row t k (rows_of (page_at table page)))
 
-abbrev pub path_of_root : (table : List ℕ) → (t k : ℕ) → Root → List ℕ
-path_of_root table t k Missing = []
-path_of_root table t k (At page) = path_from table t k (level_of table page) page
+abbrev pub path_of_root : (table : List ℕ) → (t k : ℕ) → Option ℕ → List ℕ
+path_of_root table t k None = []
+path_of_root table t k (Some page) = path_from table t k (level_of table page) page
 
 -- The numbers of the pages on the path. "Pages opened is the number of pages on it" (PathLength)
 unfoldable pub path : Tree → ℕ → ℕ → List ℕ

@@ -1,15 +1,15 @@
 -- What is known of an entry before anything is written: 26, the pages that the splits make, "counted as if table and root list had room",
 -- and whether a root entry is added, replaced or neither.
-use Rattle.std.specs.Prelude.{ℕ, zero, suc, Bool, true, false, cond, ◌&&◌, not, eqb}
+use Rattle.std.specs.Prelude.{ℕ, zero, suc, Bool, true, false, cond, ◌&&◌, not, eqb, Option, Some, None, Result, Ok}
 use Rattle.words.specs.Words.{key_limit}
 use Rattle.tree.specs.declared.types.Row.{Row}
 use Rattle.tree.specs.Row.{rows_of}
 use Rattle.tree.specs.KeyOrder.{Placed}
 use Rattle.tree.specs.TrueValue.{Search, none, one}
-use Rattle.tree.specs.declared.types.Root.{Root}
-use Rattle.tree.specs.declared.types.Root.TheVariants.{At, Missing}
+use Rattle.tree.specs.declared.types.SpoiledPage.{SpoiledPage}
+use Rattle.tree.specs.Spoiled.{spoiled}
+use Rattle.tree.specs.declared.types.RootChange.{RootChange}
 use Rattle.tree.specs.declared.types.Plan.{Plan}
-use Rattle.tree.specs.declared.types.Plan.TheVariants.{Spoiled, Ready}
 use Rattle.tree.specs.Tree.{Tree, page_at, level_of, root_at, root_in_use, met_at, top_level}
 use Rattle.tree.specs.RowSteps.{Point, row_around}
 use Rattle.tree.specs.declared.types.Became.{Became}
@@ -37,20 +37,24 @@ abbrev pub top_must_split : Tree → Point → ℕ → Bool
 top_must_split tree p page =
     eqb (level_of tree.table page) top_level && is_halved (enter_from tree p (level_of tree.table page) page).became
 
-abbrev pub plan_root : Tree → Point → Root → Plan
-plan_root tree p Missing = Spoiled
-plan_root tree p (At page) =
-    cond (root_in_use tree page && (descent_sound tree p (level_of tree.table page) 0 key_limit page && not (top_must_split tree p page)))
-    (Ready (enter_root tree p page).made (enter_root tree p page).root)
-    Spoiled
+-- The pages that an entry makes, and what it does to the root list
+abbrev pub ready : ℕ → RootChange → Result Plan SpoiledPage
+ready made root = Ok (record { made = made; root = root })
 
-unfoldable pub plan : Tree → Point → Plan
+abbrev pub plan_root : Tree → Point → Option ℕ → Result Plan SpoiledPage
+plan_root tree p None = spoiled
+plan_root tree p (Some page) =
+    cond (root_in_use tree page && (descent_sound tree p (level_of tree.table page) 0 key_limit page && not (top_must_split tree p page)))
+    (ready (enter_root tree p page).made (enter_root tree p page).root)
+    spoiled
+
+unfoldable pub plan : Tree → Point → Result Plan SpoiledPage
 plan tree p = plan_root tree p (root_at tree p.tick)
 
--- The tree after the entry. Where there is no root, nothing is entered; the plan is then Spoiled.
-abbrev pub entered_root : Tree → Point → Root → Tree
-entered_root tree p Missing = tree
-entered_root tree p (At page) = (enter_root tree p page).tree
+-- The tree after the entry. Where there is no root, nothing is entered; the plan is then spoiled.
+abbrev pub entered_root : Tree → Point → Option ℕ → Tree
+entered_root tree p None = tree
+entered_root tree p (Some page) = (enter_root tree p page).tree
 
 unfoldable pub enter : Tree → Point → Tree
 enter tree p = entered_root tree p (root_at tree p.tick)

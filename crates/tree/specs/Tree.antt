@@ -1,13 +1,11 @@
 -- A tree as it is lent: its page table, its root list, and how much of each it uses.
-use Rattle.std.specs.Prelude.{ℕ, ◌+◌, ◌-◌, ◌*◌, ◌/◌, min, List, [], ◌∷◌, Bool, cond, ◌&&◌, length, take, drop, leb}
+use Rattle.std.specs.Prelude.{ℕ, ◌+◌, ◌-◌, ◌*◌, ◌/◌, min, List, [], ◌∷◌, Bool, cond, ◌&&◌, length, take, drop, leb, Option, Some, None}
 use Rattle.words.specs.Words.{root_birth, root_page}
 use Rattle.words.specs.Overwrite.{overwrite}
 use Rattle.tree.specs.Row.{word, page_words}
 use Rattle.tree.specs.PageTest.{sound_at}
 use Rattle.tree.specs.declared.types.TreeUse.{TreeUse}
 use Rattle.tree.specs.Use.{in_use, page_limit}
-use Rattle.tree.specs.declared.types.Root.{Root}
-use Rattle.tree.specs.declared.types.Root.TheVariants.{At, Missing}
 
 pub record Tree : Type 0 where
   pub table : List ℕ
@@ -38,16 +36,16 @@ abbrev pub pages_left : Tree → ℕ
 pages_left tree = min (whole_pages tree.table) page_limit - tree.used.pages
 
 -- "The root for tick t is the entry in the highest place with birth ≤ t."
-abbrev pub in_higher_place : Root → Root → Root
-in_higher_place (At page) lower = At page
-in_higher_place Missing lower = lower
+abbrev pub in_higher_place : Option ℕ → Option ℕ → Option ℕ
+in_higher_place (Some page) lower = Some page
+in_higher_place None lower = lower
 
-unfoldable pub root_for : ℕ → List ℕ → Root
-root_for t [] = Missing
-root_for t (w ∷ ws) = in_higher_place (root_for t ws) (cond (leb (root_birth w) t) (At (root_page w)) Missing)
+unfoldable pub root_for : ℕ → List ℕ → Option ℕ
+root_for t [] = None
+root_for t (w ∷ ws) = in_higher_place (root_for t ws) (cond (leb (root_birth w) t) (Some (root_page w)) None)
 
 -- Entries count that are in use
-abbrev pub root_at : Tree → ℕ → Root
+abbrev pub root_at : Tree → ℕ → Option ℕ
 root_at tree t = root_for t (take tree.used.roots tree.roots)
 
 -- The entry in the highest place in use

@@ -1,10 +1,11 @@
 -- True values: document 01, "A row's true value is its own plus that of all rows of its page live at t with a lower low key."
-use Rattle.std.specs.Prelude.{ℕ, List, [], ◌∷◌, Bool, cond, ◌&&◌, ltb}
+use Rattle.std.specs.Prelude.{ℕ, List, [], ◌∷◌, Bool, cond, ◌&&◌, ltb, Result, Ok}
 use Rattle.words.specs.declared.value.Value.{Value}
 use Rattle.words.specs.Value.{zero, plus}
 use Rattle.tree.specs.declared.types.Row.{Row}
 use Rattle.tree.specs.declared.types.Held.{Held}
-use Rattle.tree.specs.declared.types.Held.TheVariants.{Spoiled, Found}
+use Rattle.tree.specs.declared.types.SpoiledPage.{SpoiledPage}
+use Rattle.tree.specs.Spoiled.{spoiled}
 use Rattle.tree.specs.Row.{live, holds, rows_of}
 use Rattle.tree.specs.KeyOrder.{Placed, key_order}
 use Rattle.tree.specs.PageTest.{sound_at}
@@ -37,9 +38,9 @@ abbrev pub holding_row : ℕ → ℕ → List Row → Search Placed
 holding_row t k rows = first (λ (x : Placed). holds k x.row) (key_order t rows)
 
 -- What a lookup of (t, k) finds in one page of the expected level and key range: the row that holds (t, k) with its true value, or a spoiled page
-abbrev pub held_as : ℕ → List Row → Search Placed → Held
-held_as t rows none = Spoiled
-held_as t rows (one x) = Found x.row (true_value t rows x.row)
+abbrev pub held_as : ℕ → List Row → Search Placed → Result Held SpoiledPage
+held_as t rows none = spoiled
+held_as t rows (one x) = Ok (record { row = x.row; value = true_value t rows x.row })
 
-abbrev pub held_in : (t k level low high : ℕ) → (page : List ℕ) → Held
-held_in t k level low high page = cond (sound_at t level low high page) (held_as t (rows_of page) (holding_row t k (rows_of page))) Spoiled
+abbrev pub held_in : (t k level low high : ℕ) → (page : List ℕ) → Result Held SpoiledPage
+held_in t k level low high page = cond (sound_at t level low high page) (held_as t (rows_of page) (holding_row t k (rows_of page))) spoiled

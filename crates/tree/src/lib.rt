@@ -2,7 +2,9 @@
 #![tactic(auto)]
 
 mod geometry;
+mod pages;
 mod types;
 
 pub use geometry::{PAGE_HEADER_WORDS, PAGE_ROWS, PAGE_WORDS};
-pub use types::{Became, Child, Held, Lookup, Plan, Root, RootChange, Row, TreeUse};
+pub use pages::{ExpectedPage, TreePages};
+pub use types::{Became, Child, Held, Lookup, Plan, RootChange, Row, SpoiledPage, TreeUse};

@@ -20,11 +20,15 @@ impl Row {
     pub const WORDS: usize = Row::VALUE_START + Value::WORDS;
 }
 
-// What a lookup finds in a page: a spoiled page, or the row that holds (t, k) and its true value.
+// A call met a spoiled page, or no root for its tick: refusal 26.
 #[derive(Clone, Copy)]
-pub enum Held {
-    Spoiled,
-    Found { row: Row, value: Value },
+pub struct SpoiledPage;
+
+// What a lookup finds in a sound page: the row that holds (t, k), and its true value.
+#[derive(Clone, Copy)]
+pub struct Held {
+    pub row: Row,
+    pub value: Value,
 }
 
 // The pages and the roots that a tree uses.
@@ -42,18 +46,11 @@ impl TreeUse {
     pub const TOP_LEVEL: u64 = 3;
 }
 
-// The page of the root for a tick.
+// A lookup's answer: the total and the pages opened.
 #[derive(Clone, Copy)]
-pub enum Root {
-    At(u32),
-    Missing,
-}
-
-// A lookup's answer: the total and the pages opened, or a spoiled page (26).
-#[derive(Clone, Copy)]
-pub enum Lookup {
-    Spoiled,
-    Found { value: Value, pages: u32 },
+pub struct Lookup {
+    pub value: Value,
+    pub pages: u32,
 }
 
 // What entering a point does to the root list.
@@ -64,11 +61,11 @@ pub enum RootChange {
     Replaced,
 }
 
-// What entering a point would do: meet a spoiled page (26), or make so many pages and change the root list.
+// What entering a point would do: make so many pages, and change the root list.
 #[derive(Clone, Copy)]
-pub enum Plan {
-    Spoiled,
-    Ready { made: u32, root: RootChange },
+pub struct Plan {
+    pub made: u32,
+    pub root: RootChange,
 }
 
 // A page that a split made, and its key range.

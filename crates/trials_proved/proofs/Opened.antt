@@ -2,17 +2,15 @@
 use Prim.Native.Nat.{ℕ, zero, suc, ◌/◌, ◌≤◌, ◌<◌, zero-le}
 use native.Mathlib.Omega.{arith}
 use mathlib.Core.Path.{◌≡◌, refl, sym, ap, subst, ◌∙◌}
-use mathlib.Core.List.{List, [], ◌∷◌, ◌++◌}
+use mathlib.Core.List.{List, ◌∷◌, ◌++◌}
 use mathlib.Core.Bool.{true}
 use lib.ListN.{length, length-append, drop}
 use borrow.Author.Tests.{le-leb, lt-leb, lt-ltb, ne_eqb}
 use Rattle.words.specs.Words.{key_limit, open_end}
 use Rattle.words.specs.Value.{zero as nothing}
 use Rattle.tree.specs.Row.{page_words}
-use Rattle.tree.specs.declared.types.Lookup.{Lookup}
-use Rattle.tree.specs.declared.types.Lookup.TheVariants.{Found}
 use Rattle.tree.specs.Tree.{Tree}
-use Rattle.tree.specs.Lookup.{lookup}
+use Rattle.tree.specs.Lookup.{found, lookup}
 use Rattle.store.specs.declared.types.Answer.{Answer}
 use Rattle.store.specs.declared.types.Answer.TheVariants.{Refused, Opened, Started, Ended, Totals, BatTime}
 use Rattle.tree.specs.Opened.{first_page}
@@ -32,7 +30,7 @@ use Rattle.trials_proved.specs.Computing.{computing}
 abbrev first_tree : List ℕ → List ℕ → Tree
 first_tree rest roots = record { table = first_page ++ rest; roots = 0 ∷ roots; used = opened_use }
 
-nothing_found : (rest roots : List ℕ) (t k : ℕ) → t < open_end → k < key_limit → lookup (first_tree rest roots) t k ≡ Found nothing 1
+nothing_found : (rest roots : List ℕ) (t k : ℕ) → t < open_end → k < key_limit → lookup (first_tree rest roots) t k ≡ found nothing 1
 unfolding computing
 nothing_found rest roots t k ht hk = simp (le-leb 0 t zero-le, lt-ltb t open_end ht, le-leb 0 k zero-le, lt-ltb k key_limit hk)
 
@@ -52,7 +50,7 @@ unfolding computing
 opened_fits m name =
     ap use_fits (opened_tree_lem m name) ∙ use_fits_lem (drop page_words (lent_to m name).table) (drop 1 (lent_to m name).roots)
 
-opened_nothing : (m : Lent) (name : TreeName) (t k : ℕ) → t < open_end → k < key_limit → lookup (tree_in (opened_store m) name) t k ≡ Found nothing 1
+opened_nothing : (m : Lent) (name : TreeName) (t k : ℕ) → t < open_end → k < key_limit → lookup (tree_in (opened_store m) name) t k ≡ found nothing 1
 unfolding computing
 opened_nothing m name t k ht hk =
     ap (λ (x : Tree). lookup x t k) (opened_tree_lem m name)
@@ -63,7 +61,7 @@ unfolding computing
 head_fits_lem m = each_tree_lem (λ (name : TreeName). use_fits (tree_in (opened_store m) name)) (opened_fits m)
 
 -- A lookup that no refusal stops says what it found
-lookup_says : (s : Store) (tree : TreeName) (t k : ℕ) → t < open_end → k < key_limit → head_fits s ≡ true → lookup (tree_in s tree) t k ≡ Found nothing 1
+lookup_says : (s : Store) (tree : TreeName) (t k : ℕ) → t < open_end → k < key_limit → head_fits s ≡ true → lookup (tree_in s tree) t k ≡ found nothing 1
     → (perform s (lookup_in tree t k)).answer ≡ Totals 0 0 1
 unfolding refusal served first_met
 lookup_says s tree t k ht hk fits e = simp (e, lt-leb key_limit k hk, ne_eqb t open_end (λ (same : t ≡ open_end). omega arith), fits)

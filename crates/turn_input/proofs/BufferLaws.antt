@@ -1,13 +1,13 @@
 -- The program's buffer: what waits stands at its front.
-use Prim.Native.Nat.{ℕ, ◌+◌, ◌-◌, ◌≤◌, ◌<◌}
+use Prim.Native.Nat.{ℕ, ◌+◌, ◌-◌, ◌≤◌}
 use native.Mathlib.Omega.{arith}
 use mathlib.Core.Path.{◌≡◌, ap₂, sym, ◌∙◌}
-use mathlib.Core.List.{List}
-use lib.ListN.{length, get_or, set, take, drop, length-drop}
-use lib.Seq.{length-take-le, get_or-take, get_or-drop, take_at}
+use mathlib.Core.List.{List, ◌++◌}
+use lib.ListN.{length, take, drop, length-drop}
+use lib.Seq.{length-take-le, take_at}
+use Rattle.std.specs.List.{copy_within}
+use Rattle.std.proofs.lemmas.Slice.{between_is}
 use Rattle.words.specs.Overwrite.{overwrite}
-use Rattle.words.proofs.OverwriteLaws.{word_behind}
-use Rattle.codec.proofs.ByteLaws.{put_more}
 
 -- The bytes from a place on, up to where they end
 module _ (buffer : List ℕ) (taken end : ℕ) (order : taken ≤ end) (inside : end ≤ length buffer) where
@@ -17,17 +17,10 @@ module _ (buffer : List ℕ) (taken end : ℕ) (order : taken ≤ end) (inside :
   pub rest_length : length rest ≡ end - taken
   rest_length = omega (arith, length-drop taken (take end buffer), length-take-le end buffer inside)
 
-  -- moved to the front one after the other
-  pub move_more : (at : ℕ) → at < end - taken
-      → set (overwrite buffer 0 (take at rest)) at (get_or (overwrite buffer 0 (take at rest)) (taken + at) 0) ≡ overwrite buffer 0 (take (at + 1) rest)
-  move_more at h =
-      let short : length (take at rest) ≡ at = length-take-le at rest (omega (arith, rest_length)) in
-      let read : get_or (overwrite buffer 0 (take at rest)) (taken + at) 0 ≡ get_or rest at 0 =
-      word_behind buffer 0 (take at rest) (omega (arith, short)) (taken + at) (omega (arith, short))
-      ∙ sym (get_or-drop taken (take end buffer) at 0 ∙ get_or-take end buffer (taken + at) 0 (omega arith)) in
-      let here : at ≡ 0 + at = omega arith in
-      ap₂ (set (overwrite buffer 0 (take at rest))) here read
-      ∙ put_more buffer rest 0 at (omega (arith, rest_length)) (omega (arith, rest_length))
+  -- moved to the front
+  pub rest_moved : copy_within buffer taken end 0 ≡ overwrite buffer 0 rest
+  unfolding overwrite
+  rest_moved = ap₂ (λ (moved : List ℕ) (n : ℕ). moved ++ drop (0 + n) buffer) (between_is buffer taken end) (sym rest_length)
 
   -- so that they wait there
   pub rest_waits : (n : ℕ) → n ≡ end - taken → take n (overwrite buffer 0 rest) ≡ rest

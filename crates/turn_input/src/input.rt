@@ -23,9 +23,5 @@ pub fn keep_rest(buffer: &mut [u8], taken: usize, end: usize)
     requires end_in_bounds { end ≤ length buffer.old }
     ensures { buffer.new ≡ overwrite buffer.old 0 (drop taken (take end buffer.old)) }
 {
-    let mut at: usize = 0;
-    while at < end - taken {
-        buffer[at] = buffer[taken + at];
-        at += 1;
-    }
+    buffer.copy_within(taken..end, 0);
 }

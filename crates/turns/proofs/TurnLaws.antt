@@ -83,10 +83,7 @@ module _ (s : Store) (room : ℕ) (before : List ℕ) (waiting : ℕ) (read : Li
             goes_on = λ e. ap (λ (n : ℕ). eqb n 0) came_length ∙ (room_enough room (eqb came 0) s front_bytes enough (sym is.over ∙ e)).0;
           }
 
-      pub turned : Turned room (feed_of s before waiting false) (feed_of (record { head = r.head; lent = lent }) after left r.over)
-      turned = turned_here
-
-      -- and the bytes that came are those that were read, and what is said to them is what is written
+      -- One turn: the bytes that came are those that were read, and what is said to them is what is written
       pub turned_on : {unread unread_after held held_after : Option (List ℕ)} → Consumes unread unread_after (take came (drop waiting read))
           → Appends held held_after (take r.written out')
           → TurnedOn room (feed_of s before waiting false) (feed_of (record { head = r.head; lent = lent }) after left r.over) unread unread_after held held_after

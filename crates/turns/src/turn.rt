@@ -1,7 +1,8 @@
 // One turn of the program: read, run, write.
 ghost use Rattle.std.specs.Prelude.{◌≡◌, ◌+◌, ◌*◌, ◌≤◌, ◌<◌, false, length, take, IfOk, OnOk, OnErr};
 ghost use Rattle.std.specs.Io.KnownBytes.{Appends};
-ghost use Rattle.store.specs.Trees.{Lent, lent_of, Store, store_of};
+ghost use Rattle.store.specs.Trees.{Lent, Store};
+ghost use Rattle.store.specs.Lending.{words_of, lent_to_trees, store_with, SameSlices};
 ghost use Rattle.command.specs.Stream.{longest_answer};
 ghost use Rattle.command.specs.Pieces.{run_piece};
 ghost use Rattle.pieces.specs.Fed.{FedAs};
@@ -10,7 +11,7 @@ ghost use Rattle.turns.specs.Turns.{feed_of, most_waiting, Turned, TurnedOn, IsC
 use pieces::{Fed, run_piece};
 use std::io;
 use std::io::{Read, Write};
-use store::Head;
+use store::{Head, TreeMemory};
 use turn_input::{keep_rest, read_behind};
 
 // What a turn leaves: the head, how many bytes wait at the front of the buffer, and whether the run is over.
@@ -24,36 +25,25 @@ pub struct Left {
 // Runs the bytes at the front of the buffer.
 fn run_front(
     head: Head,
-    start_table: &mut [u64],
-    start_roots: &mut [u64],
-    end_table: &mut [u64],
-    end_roots: &mut [u64],
-    time_table: &mut [u64],
-    time_roots: &mut [u64],
+    starts: &mut TreeMemory,
+    ends: &mut TreeMemory,
+    time: &mut TreeMemory,
     buffer: &[u8],
     count: usize,
     ended: bool,
     out: &mut [u8],
 ) -> Fed
     requires { count ≤ length buffer.now }
-    ensures fed { let s : Store = store_of head start_table.old start_roots.old end_table.old end_roots.old time_table.old time_roots.old in
-        let left : Lent = lent_of start_table.new start_roots.new end_table.new end_roots.new time_table.new time_roots.new in
+    ensures same_starts { SameSlices starts.old starts.new }
+    ensures same_ends { SameSlices ends.old ends.new }
+    ensures same_time { SameSlices time.old time.new }
+    ensures fed { let s : Store = store_with head (words_of starts.old) (words_of ends.old) (words_of time.old) in
+        let left : Lent = lent_to_trees (words_of starts.new) (words_of ends.new) (words_of time.new) in
         FedAs (run_piece (length out.old) ended s (take count buffer.now)) result out.old out.new left }
     ensures taken_le_count { result.taken ≤ count }
     ensures written_in_bounds { result.written ≤ length out.new }
 {
-    run_piece(
-        head,
-        start_table,
-        start_roots,
-        end_table,
-        end_roots,
-        time_table,
-        time_roots,
-        &buffer[..count],
-        ended,
-        out,
-    )
+    run_piece(head, starts, ends, time, &buffer[..count], ended, out)
 }
 
 // Writes so many bytes from the front of the answers.
@@ -71,12 +61,9 @@ pub fn turn<R: Read, W: Write>(
     input: &mut R,
     output: &mut W,
     head: Head,
-    start_table: &mut [u64],
-    start_roots: &mut [u64],
-    end_table: &mut [u64],
-    end_roots: &mut [u64],
-    time_table: &mut [u64],
-    time_roots: &mut [u64],
+    starts: &mut TreeMemory,
+    ends: &mut TreeMemory,
+    time: &mut TreeMemory,
     buffer: &mut [u8],
     waiting: usize,
     out: &mut [u8],
@@ -84,36 +71,27 @@ pub fn turn<R: Read, W: Write>(
     requires waiting_le_most_waiting { waiting ≤ most_waiting }
     requires most_waiting_in_bounds { most_waiting < length buffer.old }
     requires longest_answer_in_bounds { 2 * length buffer.old + longest_answer ≤ length out.old }
-    ensures turned { let s : Store = store_of head start_table.old start_roots.old end_table.old end_roots.old time_table.old time_roots.old in
+    ensures same_starts { SameSlices starts.old starts.new }
+    ensures same_ends { SameSlices ends.old ends.new }
+    ensures same_time { SameSlices time.old time.new }
+    ensures turned { let s : Store = store_with head (words_of starts.old) (words_of ends.old) (words_of time.old) in
         IfOk result
         (λ left.
-        let after : Store = store_of left.head start_table.new start_roots.new end_table.new end_roots.new time_table.new time_roots.new in
+        let after : Store = store_with left.head (words_of starts.new) (words_of ends.new) (words_of time.new) in
         Turned (length out.old) (feed_of s buffer.old waiting false) (feed_of after buffer.new left.waiting left.over)) }
-    ensures moves { let s : Store = store_of head start_table.old start_roots.old end_table.old end_roots.old time_table.old time_roots.old in
+    ensures moves { let s : Store = store_with head (words_of starts.old) (words_of ends.old) (words_of time.old) in
         IfOk result
         (λ left.
-        let after : Store = store_of left.head start_table.new start_roots.new end_table.new end_roots.new time_table.new time_roots.new in
+        let after : Store = store_with left.head (words_of starts.new) (words_of ends.new) (words_of time.new) in
         TurnedOn (length out.old) (feed_of s buffer.old waiting false) (feed_of after buffer.new left.waiting left.over) (R.remaining input.old) (R.remaining input.new) (W.contents output.old) (W.contents output.new)) }
     ensures waiting_le_most_waiting_2 { IfOk result (λ left. left.over ≡ false → left.waiting ≤ most_waiting) }
-    ensures cut_short { let s : Store = store_of head start_table.old start_roots.old end_table.old end_roots.old time_table.old time_roots.old in
-        let lent : Lent = lent_of start_table.new start_roots.new end_table.new end_roots.new time_table.new time_roots.new in
+    ensures cut_short { let s : Store = store_with head (words_of starts.old) (words_of ends.old) (words_of time.old) in
+        let lent : Lent = lent_to_trees (words_of starts.new) (words_of ends.new) (words_of time.new) in
         OnErr result (IsCutTurn (length out.old) (feed_of s buffer.old waiting false) lent) }
 {
     let came = read_behind(input, buffer, waiting)?;
     let count = waiting + came;
-    let fed = run_front(
-        head,
-        start_table,
-        start_roots,
-        end_table,
-        end_roots,
-        time_table,
-        time_roots,
-        buffer,
-        count,
-        came == 0,
-        out,
-    );
+    let fed = run_front(head, starts, ends, time, buffer, count, came == 0, out);
     write_front(output, out, fed.written)?;
     keep_rest(buffer, fed.taken, count);
     let after = fed.head;

@@ -3,8 +3,9 @@ use Prim.Native.Nat.{ℕ}
 use native.Mathlib.Omega.{arith}
 use mathlib.Core.Path.{◌≡◌, refl, ap, sym, ◌∙◌}
 use mathlib.Core.Bool.{true≢false}
+use Rattle.std.specs.Prelude.{Result, Ok, Err}
 use Rattle.tree.specs.declared.types.Plan.{Plan}
-use Rattle.tree.specs.declared.types.Plan.TheVariants.{Spoiled, Ready}
+use Rattle.tree.specs.declared.types.SpoiledPage.{SpoiledPage}
 use Rattle.tree.specs.Tree.{Tree}
 use Rattle.tree.specs.RowSteps.{Point}
 use Rattle.tree.specs.Plan.{plan}
@@ -41,13 +42,13 @@ module _ (tree : Tree) (p : Point) (fit : UseFits tree) where
   pub planned : first_met (plan_grounds tree (plan tree p)) ≡ 0 → Planned tree p
   planned e = go (plan tree p) refl
     where
-      go : (x : Plan) → plan tree p ≡ x → Planned tree p
-      go Spoiled is =
+      go : (r : Result Plan SpoiledPage) → plan tree p ≡ r → Planned tree p
+      go (Err spoiled) is =
           let none = none_met (plan_grounds tree (plan tree p)) (omega arith, (omega arith, (omega arith, tt))) e in
           absurd (true≢false (sym (ap plan_spoiled is) ∙ none.0))
-      go (Ready made root) is =
+      go (Ok x) is =
           let none = none_met (plan_grounds tree (plan tree p)) (omega arith, (omega arith, (omega arith, tt))) e in
-          with_room (room_for tree p made root is none.1.0 none.1.1.0)
+          with_room (room_for tree p x.made x.root is none.1.0 none.1.1.0)
 
 -- Two points, and a refusal that is the lower one of theirs
 pub both_planned : (s : Store) → ((name : TreeName) → UseFits (tree_in s name)) → (one other : TreeName) (p q : Point) {r : ℕ} → r ≡ 0

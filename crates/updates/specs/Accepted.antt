@@ -1,5 +1,5 @@
 -- Starts and ends that are accepted: what is known of them once every refusal is ruled out.
-use Rattle.std.specs.Prelude.{ℕ, ◌≤◌, ◌<◌}
+use Rattle.std.specs.Prelude.{ℕ, ◌≤◌, ◌<◌, Option}
 use Rattle.words.specs.Words.{key_limit}
 use Rattle.enter.specs.EnterRoot.{Planned}
 use Rattle.store.specs.declared.types.OpenPass.{OpenPass}
@@ -28,7 +28,7 @@ pub record EndAccepted (s : Store) (tick place : ℕ) (pass : OpenPass) : Type 0
   pub time_planned : Planned (tree_in s Time) (time_at_end tick pass.key pass.weight)
 
 -- What an end of the pass that was found does
-abbrev pub ended_as : Store → ℕ → FoundPass → Answered
+abbrev pub ended_as : Store → ℕ → Option FoundPass → Answered
 ended_as s tick found =
     record {
       answer = Ended;

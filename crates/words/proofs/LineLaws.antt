@@ -1,4 +1,4 @@
--- Lines over ticks, modulo 2^64: a product from two halves, and a line less another.
+-- Lines over ticks, modulo 2^64: what fits a word, and a line less another.
 use Rattle.std.proofs.Common.{◌≡◌, ℕ, ◌+◌, ◌-◌, ◌*◌, ◌/◌, ◌%◌, ◌^◌, ◌<◌, ◌≤◌, sym, ap, ◌∙◌, mul-le-mul_left, arith}
 use Rattle.words.specs.declared.value.Value.{Value}
 use Rattle.words.specs.Value.{subtract_words, minus, line, factor_of, constant_of, line_at}
@@ -9,12 +9,6 @@ pub product_fits : (a b : ℕ) → a < 2 ^ 32 → b < 2 ^ 32 → a * b < 2 ^ 64
 product_fits a b h k =
     let near : a * b ≤ a * 4294967295 = mul-le-mul_left a (omega arith) in
     omega arith
-
--- The products of both halves, of the upper one what stays below 2^32
-pub by_halves : (factor t : ℕ) → (factor % 2 ^ 32 * t + factor / 2 ^ 32 * t % 2 ^ 32 * 2 ^ 32) % 2 ^ 64 ≡ factor * t % 2 ^ 64
-by_halves factor t =
-    let whole : factor ≡ 2 ^ 32 * (factor / 2 ^ 32) + factor % 2 ^ 32 = omega arith in
-    omega (arith, ap (λ (n : ℕ). n * t) whole)
 
 -- What a difference is, without a remainder
 record Whole (a b : ℕ) : Type 0 where

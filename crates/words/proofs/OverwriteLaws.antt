@@ -2,6 +2,7 @@
 use Rattle.std.proofs.Common.{◌≡◌, ℕ, ◌+◌, ◌-◌, ◌<◌, ◌≤◌, List, [], ◌∷◌, ◌++◌, length, get_or, take, drop, set, sym, ap, ◌∙◌, ap₂, append_assoc, append-nil, add-zero, arith, length-append, length-drop, take-append-drop, drop_of_length-le, length-take, length-take-le, get_or-drop, get_or-take, drop-drop, take_at, get_or-append-add}
 use lib.ListN.{get_or-append}
 use lib.Seq.{sets, sets-eq, drop-append-add}
+use borrow.Rule.Slice.PartMut.{put_mid, Post-is}
 use Rattle.words.specs.Overwrite.{overwrite}
 
 module _ (l : List ℕ) (at : ℕ) where
@@ -77,3 +78,11 @@ unfolding overwrite
 overwrite_all l new e =
     let rest : drop (0 + length new) l ≡ [] = drop_of_length-le l {i = 0 + length new} (omega arith) in
     ap (λ (b : List ℕ). new ++ b) rest ∙ append-nil new
+
+-- A part of the words that was lent comes back with others, as many as before: they were written over it
+pub put_part : (xs : List ℕ) (a e : ℕ) {back : List ℕ} (new : List ℕ) → a ≤ e → a + length new ≡ e → back ≡ new →
+    put_mid a (e - a) xs back ≡ overwrite xs a new
+unfolding overwrite
+put_part xs a e {back} new h long same =
+    ap₂ (λ (ys zs : List ℕ). take a xs ++ (ys ++ zs)) same (Post-is a e xs h ∙ ap (λ (n : ℕ). drop n xs) (sym long))
+    ∙ sym (append_assoc (take a xs) new (drop (a + length new) xs))

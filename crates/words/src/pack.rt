@@ -1,4 +1,6 @@
 // The words of document 01, "Pages and rows", taken apart and put together. Every word is legal input: a part is whatever its bits say.
+// A root's word is packed as a row's word 1 is. Each has its own functions, as each has its own sentence there and its own definitions: a function that both call
+// would hold one expression, and all six would still be here to name theirs.
 ghost use Rattle.std.specs.Prelude.{◌≡◌};
 ghost use Rattle.words.specs.Words.{low_key, high_key, child_page, key_range, row_keys, birth_of, end_of, life_word};
 ghost use Rattle.words.specs.Words.{root_entry, root_birth, root_page};

@@ -18,44 +18,36 @@ fn word_times(word: u64, factor: u64) -> u64
     word * factor
 }
 
-// A factor times a tick, modulo 2^64. No multiplication wraps here: the factor is taken in two halves of 32 bits, whose products with the tick are words. Of the product
-// of the upper half, which counts 2^32 times, only what is below 2^32 stays.
-fn product(factor: u64, t: u32) -> u64
-    ensures { result ≡ factor * t % 2 ^ 64 }
-{
-    let lower = factor % 4294967296 * (t as u64);
-    let upper = factor / 4294967296 * (t as u64) % 4294967296 * 4294967296;
-    std::num::wrapping_add_u64(lower, upper)
-}
-
 impl Value {
     // The words that a value takes.
     pub const WORDS: usize = 2;
 
-    // The value of nothing.
+    // The value of nothing. It has this name, and not the derived default's, since the definitions of sums begin at `zero`: the default would be a second name for it.
     pub fn zero() -> Value
         ensures { result ≡ zero }
     {
         Value { count: 0, sum: 0 }
     }
 
-    // Both values together.
+    // Both values together. It is not `+`, which on words says that nothing wraps, and the definitions of sums say `plus`.
+    #[tactic(auto, unfolding(crate::specs::Value::plus))]
     pub fn plus(self, other: Value) -> Value
         ensures { result ≡ plus self other }
     {
         Value {
-            count: std::num::wrapping_add_u64(self.count, other.count),
-            sum: std::num::wrapping_add_u64(self.sum, other.sum),
+            count: self.count.wrapping_add(other.count),
+            sum: self.sum.wrapping_add(other.sum),
         }
     }
 
     // This value without the other one: what is taken away from less wraps, so that adding it again gives this value back.
+    #[tactic(auto, unfolding(crate::specs::Value::minus))]
     pub fn minus(self, other: Value) -> Value
         ensures { result ≡ minus self other }
     {
         Value {
-            count: std::num::wrapping_sub_u64(self.count, other.count),
-            sum: std::num::wrapping_sub_u64(self.sum, other.sum),
+            count: self.count.wrapping_sub(other.count),
+            sum: self.sum.wrapping_sub(other.sum),
         }
     }
 
@@ -82,10 +74,11 @@ impl Value {
     }
 
     // This line at a tick: factor × t + constant.
+    #[tactic(auto, unfolding(crate::specs::Value::line_at))]
     pub fn at(self, t: u32) -> u64
         ensures { result ≡ line_at self t }
     {
-        std::num::wrapping_add_u64(product(self.count, t), self.sum)
+        self.count.wrapping_mul(t as u64).wrapping_add(self.sum)
     }
 
     // The value in the words from `at` on.

@@ -1,6 +1,6 @@
 use Rattle.std.proofs.Common.{IfOk, OnErr}
 use Rattle.std.proofs.lemmas.Result.{IfOk-weaker}
-use Rattle.store.specs.Trees.{lent_of, store_of}
+use Rattle.store.specs.Lending.{words_of, lent_to_trees, store_with}
 use Rattle.command.specs.Pieces.{Feed}
 use Rattle.turns.specs.Turns.{Served, ServedOn, CutShort}
 use Rattle.detector.proofs.ProgramLaws.{program_opened, from_opened, says}
@@ -10,11 +10,8 @@ pub returns-clause-served : goal.returns-clause-served
 returns-clause-served g c =
     let p = c.requires in
     let n = c.serve.new in
-    from_opened
-    (program_opened c.opened_head.ensures p.start_table_value p.start_roots_value p.end_table_value p.end_roots_value p.time_table_value p.time_roots_value)
-    c.open-reply.ensures
-    (λ (f : Feed).
-    IfOk c.serve.result (λ left. Served f (store_of left.head n.start_table n.start_roots n.end_table n.end_roots n.time_table n.time_roots) left.over))
+    from_opened (program_opened c.opened_head.ensures p.starts_value p.ends_value p.time_value) c.open-reply.ensures.replied
+    (λ (f : Feed). IfOk c.serve.result (λ left. Served f (store_with left.head (words_of n.starts) (words_of n.ends) (words_of n.time)) left.over))
     c.serve.ensures.served
 
 pub returns-clause-says_output : goal.returns-clause-says_output
@@ -25,13 +22,11 @@ returns-clause-says_output g c =
     let r = c.serve.result in
     IfOk-weaker r _ _
     (λ left. λ h. λ e. says h e)
-    (from_opened
-    (program_opened c.opened_head.ensures p.start_table_value p.start_roots_value p.end_table_value p.end_roots_value p.time_table_value p.time_roots_value)
-    c.open-reply.ensures
+    (from_opened (program_opened c.opened_head.ensures p.starts_value p.ends_value p.time_value) c.open-reply.ensures.replied
     (λ (f : Feed).
     IfOk r
     (λ left.
-    ServedOn f (store_of left.head n.start_table n.start_roots n.end_table n.end_roots n.time_table n.time_roots) left.over
+    ServedOn f (store_with left.head (words_of n.starts) (words_of n.ends) (words_of n.time)) left.over
     (g.R.Read.remaining a.input.now) (g.R.Read.remaining n.input) (g.W.Write.contents a.output.now) (g.W.Write.contents n.output)))
     c.serve.ensures.moves)
 
@@ -39,8 +34,6 @@ pub returns-clause-cut_short : goal.returns-clause-cut_short
 returns-clause-cut_short g c =
     let p = c.requires in
     let n = c.serve.new in
-    from_opened
-    (program_opened c.opened_head.ensures p.start_table_value p.start_roots_value p.end_table_value p.end_roots_value p.time_table_value p.time_roots_value)
-    c.open-reply.ensures
-    (λ (f : Feed). OnErr c.serve.result (CutShort f (lent_of n.start_table n.start_roots n.end_table n.end_roots n.time_table n.time_roots)))
+    from_opened (program_opened c.opened_head.ensures p.starts_value p.ends_value p.time_value) c.open-reply.ensures.replied
+    (λ (f : Feed). OnErr c.serve.result (CutShort f (lent_to_trees (words_of n.starts) (words_of n.ends) (words_of n.time))))
     c.serve.ensures.cut_short

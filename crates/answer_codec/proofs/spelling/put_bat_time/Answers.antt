@@ -1,4 +1,4 @@
-use Prim.Native.Nat.{ℕ, ◌+◌}
+use Prim.Native.Nat.{ℕ}
 use mathlib.Core.Path.{ap, ◌∙◌}
 use mathlib.Core.List.{List}
 use Rattle.words.specs.Overwrite.{overwrite}
@@ -11,7 +11,7 @@ pub returns : goal.returns
 returns c =
     let a = c.args in
     c.put_number-3.ensures
-    ∙ ap (λ (l : List ℕ). overwrite l (a.from + 9) (bytes_of 1 a.pages))
+    ∙ ap (λ (l : List ℕ). overwrite l 9 (bytes_of 1 a.pages))
     (c.put_number-2.ensures
-    ∙ ap (λ (l : List ℕ). overwrite l (a.from + 1) (bytes_of 8 a.total)) c.put_number.ensures)
-    ∙ bat_time_bytes a.out.now a.from c.requires a.total a.pages
+    ∙ ap (λ (l : List ℕ). overwrite l 1 (bytes_of 8 a.total)) c.put_number.ensures)
+    ∙ bat_time_bytes a.out.now (search rules) a.total a.pages

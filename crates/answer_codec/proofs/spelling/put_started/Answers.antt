@@ -1,4 +1,4 @@
-use Prim.Native.Nat.{ℕ, ◌+◌}
+use Prim.Native.Nat.{ℕ}
 use mathlib.Core.Path.{ap, ◌∙◌}
 use mathlib.Core.List.{List}
 use Rattle.words.specs.Overwrite.{overwrite}
@@ -11,5 +11,5 @@ pub returns : goal.returns
 returns c =
     let a = c.args in
     c.put_number-2.ensures
-    ∙ ap (λ (l : List ℕ). overwrite l (a.from + 1) (bytes_of 4 a.number)) c.put_number.ensures
-    ∙ started_bytes a.out.now a.from c.requires a.number
+    ∙ ap (λ (l : List ℕ). overwrite l 1 (bytes_of 4 a.number)) c.put_number.ensures
+    ∙ started_bytes a.out.now (search rules) a.number

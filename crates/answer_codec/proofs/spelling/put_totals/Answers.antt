@@ -1,4 +1,4 @@
-use Prim.Native.Nat.{ℕ, ◌+◌}
+use Prim.Native.Nat.{ℕ}
 use mathlib.Core.Path.{ap, ◌∙◌}
 use mathlib.Core.List.{List}
 use Rattle.words.specs.Overwrite.{overwrite}
@@ -11,9 +11,9 @@ pub returns : goal.returns
 returns c =
     let a = c.args in
     c.put_number-4.ensures
-    ∙ ap (λ (l : List ℕ). overwrite l (a.from + 17) (bytes_of 1 a.pages))
+    ∙ ap (λ (l : List ℕ). overwrite l 17 (bytes_of 1 a.pages))
     (c.put_number-3.ensures
-    ∙ ap (λ (l : List ℕ). overwrite l (a.from + 9) (bytes_of 8 a.sum))
+    ∙ ap (λ (l : List ℕ). overwrite l 9 (bytes_of 8 a.sum))
     (c.put_number-2.ensures
-    ∙ ap (λ (l : List ℕ). overwrite l (a.from + 1) (bytes_of 8 a.count)) c.put_number.ensures))
-    ∙ totals_bytes a.out.now a.from c.requires a.count a.sum a.pages
+    ∙ ap (λ (l : List ℕ). overwrite l 1 (bytes_of 8 a.count)) c.put_number.ensures))
+    ∙ totals_bytes a.out.now (search rules) a.count a.sum a.pages

@@ -1,31 +1,22 @@
-use Prim.Native.Nat.{◌-◌}
 use native.Mathlib.Omega.{arith}
-use mathlib.Core.Path.{◌≡◌, refl}
-use lib.ListN.{length}
-use Rattle.store.specs.Trees.{store_of}
-use Rattle.burst.proofs.BurstSteps.{Going, begin, all_entered, event_inside, words_inside, entered_on}
+use mathlib.Core.Path.{◌∙◌}
+use Rattle.burst.proofs.BurstSteps.{all_entered, entered_on}
 use borrow.Author.Rules.{rules}
 use Rattle.burst.proofs.entering.enter_events.Goals as goal
 
-pub loop-place-init : goal.loop-place-init
-loop-place-init c = (refl, refl, refl, refl, refl, refl, refl, begin _ _ _)
-
-pub enter_event-reply-requires : goal.enter_event-reply-requires
-enter_event-reply-requires c = event_inside _ _ _ c.loop-place.invariant.7 c.loop-place-test.true c.requires.bytes_in_bounds
-
-pub put_result-requires : goal.put_result-requires
-put_result-requires c = words_inside _ _ _ c.loop-place.invariant.7 c.loop-place-test.true c.requires.bytes_in_bounds
-
-pub overflow_add-place : goal.overflow_add-place
-overflow_add-place c = omega (arith, c.loop-place-test.true, c.requires.bytes_bound)
-
-pub loop-place-smaller : goal.loop-place-smaller
-loop-place-smaller c = omega (arith, c.loop-place-test.true)
-
 pub loop-place-preserved : goal.loop-place-preserved
 loop-place-preserved c =
-    let going = entered_on _ _ _ c.loop-place.invariant.7 c.loop-place-test.true c.requires.bytes_in_bounds c.enter_event-reply.ensures c.put_result.ensures in
-    (search rules, search rules, search rules, search rules, search rules, search rules, search rules, going)
+    let l = c.loop-place in
+    let cut = c.in-Some.ensures.steps in
+    record {
+      same_starts = search rules;
+      same_ends = search rules;
+      same_time = search rules;
+      size = search rules;
+      going = entered_on _ _ _ l.invariant.going c.requires.bytes_in_bounds c.in-Some.event.now cut.0.1.0 (cut.0.1.1 ∙ l.invariant.size) c.run_event-reply.ensures.replied cut.1 cut.2 c.put_result.ensures;
+    }
 
-pub returns : goal.returns
-returns c = all_entered _ _ _ c.loop-place.invariant.7 c.loop-place-test.false
+pub returns-clause-entered : goal.returns-clause-entered
+returns-clause-entered c =
+    let l = c.loop-place in
+    all_entered _ _ _ l.invariant.going (omega (arith, c.in-None.ensures.steps.0.1.0, l.invariant.size))

@@ -2,7 +2,6 @@ use Prim.Native.Nat.{◌*◌}
 use native.Mathlib.Omega.{arith}
 use lib.ListN.{length-set}
 use Rattle.burst_words.proofs.ResultLaws.{result_put}
-use borrow.Author.Rules.{rules}
 use Rattle.burst_words.proofs.results.put_result.Goals as goal
 
 pub bounds-results-first-2 : goal.bounds-results-first-2

@@ -1,40 +1,24 @@
-use Prim.Native.Nat.{ℕ, suc, ◌+◌, ◌-◌}
+use Prim.Native.Nat.{◌+◌, ◌-◌}
 use native.Mathlib.Omega.{arith}
-use mathlib.Core.Path.{◌≡◌, ap, ap₂, sym, ◌∙◌}
-use mathlib.Core.List.{List}
-use lib.ListN.{length, set, length-set}
+use mathlib.Core.Path.{◌≡◌, sym, ◌∙◌}
+use lib.ListN.{length}
+use borrow.Rule.Slice.PartMut.{mid_of, mid_len}
+use Rattle.words.proofs.OverwriteLaws.{put_part}
 use Rattle.codec.specs.Bytes.{bytes_of}
-use Rattle.codec.proofs.ByteLaws.{bytes_length, left_head, put_none, put_more, put_all}
-use borrow.Author.Rules.{rules}
+use Rattle.codec.proofs.ByteLaws.{bytes_length, byte_written, all_written}
 use Rattle.codec.proofs.numbers.put_number.Goals as goal
 
-pub loop-at-init : goal.loop-at-init
-loop-at-init c =
-    let a = c.args in (
-      search rules,
-      search rules,
-      ap (λ (n : ℕ). bytes_of n a.number) (omega arith),
-      put_none a.out.now a.from (bytes_of a.count a.number),
-    )
-
-pub loop-at-preserved : goal.loop-at-preserved
-loop-at-preserved c =
+pub loop-byte-preserved : goal.loop-byte-preserved
+loop-byte-preserved c =
     let a = c.args in
-    let l = c.loop-at in
-    let bytes : List ℕ = bytes_of a.count a.number in
-    let long : length bytes ≡ a.count = bytes_length a.count a.number in
-    let more : a.count - l.at ≡ suc (a.count - (l.at + 1)) = omega arith in
-    let head = left_head bytes (a.count - (l.at + 1)) l.rest l.at (l.invariant.2 ∙ ap (λ (n : ℕ). bytes_of n l.rest) more) (omega arith) in (
-      search rules,
-      simp length-set (search rules),
-      head.1,
-      ap₂ (λ (w : List ℕ) (b : ℕ). set w (a.from + l.at) b) l.invariant.3 (sym head.0)
-          ∙ put_more a.out.now bytes a.from l.at (omega (arith, c.requires)) (omega arith),
-    )
+    let l = c.loop-byte in
+    let long = mid_len a.from (a.from + a.count) a.out.now c.requires in
+    byte_written l.byte-items l.byte-index a.count l.rest (omega arith) (omega arith) ∙ l.invariant
 
 pub returns : goal.returns
 returns c =
     let a = c.args in
-    let l = c.loop-at in
-    l.invariant.3
-    ∙ put_all a.out.now a.from l.at (bytes_of a.count a.number) (omega (arith, bytes_length a.count a.number))
+    let l = c.loop-byte in
+    let long : length (mid_of a.from (a.from + a.count - a.from) a.out.now) ≡ a.count = mid_len a.from (a.from + a.count) a.out.now c.requires ∙ omega arith in
+    put_part a.out.now a.from (a.from + a.count) (bytes_of a.count a.number) (omega arith) (omega (arith, bytes_length a.count a.number))
+    (sym (all_written l.byte-items l.byte-index a.count l.rest (omega arith) (omega arith)) ∙ l.invariant)

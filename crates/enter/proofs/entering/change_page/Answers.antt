@@ -9,11 +9,10 @@ use Rattle.tree.specs.Tree.{page_at}
 use Rattle.tree.specs.Overflow.{Written}
 use Rattle.tree.proofs.TableLaws.{page_length}
 use Rattle.row_steps.specs.PageEdits.{change_words}
-use Rattle.enter.specs.EnterWords.{made_so, loaded, changed, roomy_rows}
+use Rattle.enter.specs.EnterWords.{made_so, changed, roomy_rows}
 use Rattle.enter.proofs.CopyLaws.{part_is, part_back, page_count, copy_is}
 use Rattle.enter.proofs.SettleLaws.{loaded_count, loaded_length}
 use Rattle.enter.proofs.InPlace.{in_place, in_place_size}
-use borrow.Author.Rules.{rules}
 use Rattle.enter.proofs.entering.change_page.Goals as goal
 
 pub change_words-requires : goal.change_words-requires
@@ -48,16 +47,15 @@ returns-then-table-from-le-ROOMY_ROWS c =
 pub page_at-requires : goal.page_at-requires
 page_at-requires c = c.requires.can_settle.inside
 
-pub copy_words-requires : goal.copy_words-requires
-copy_words-requires c =
+pub copy_from_slice-requires : goal.copy_from_slice-requires
+copy_from_slice-requires c =
     let a = c.args in
     omega (arith, ap length c.page_at.ensures ∙ page_length a.table.now a.page c.requires.can_settle.inside)
 
 pub change_words-requires-2 : goal.change_words-requires-2
 change_words-requires-2 c =
-    let copied : c.copy_words.new.to ≡ loaded c.args.table.now c.args.page =
-    copy_is c.args.table.now c.args.page _ _ c.requires.can_settle.inside c.page_at.ensures c.copy_words.ensures in
     let a = c.args in
+    let copied = copy_is a.table.now a.page c.copy_from_slice.new.self (c.copy_from_slice.ensures.after ∙ c.page_at.ensures) in
     let whole : length (page_at a.table.now a.page) ≡ page_words = page_length a.table.now a.page c.requires.can_settle.inside in
     let count = loaded_count a.table.now a.page whole in
     let size = loaded_length a.table.now a.page whole in rw copied (record {
@@ -67,16 +65,16 @@ change_words-requires-2 c =
 
 pub settle_page-requires : goal.settle_page-requires
 settle_page-requires c =
-    let copied : c.copy_words.new.to ≡ loaded c.args.table.now c.args.page =
-    copy_is c.args.table.now c.args.page _ _ c.requires.can_settle.inside c.page_at.ensures c.copy_words.ensures in
-    let edited : c.change_words-2.new.page ≡ changed c.args.t c.args.value c.args.table.now c.args.page c.args.change =
-    c.change_words-2.ensures ∙ ap (λ (w : List ℕ). change_words c.args.t c.args.value w c.args.change) copied in
+    let a = c.args in
+    let copied = copy_is a.table.now a.page c.copy_from_slice.new.self (c.copy_from_slice.ensures.after ∙ c.page_at.ensures) in
+    let edited : c.change_words-2.new.page ≡ changed a.t a.value a.table.now a.page a.change =
+    c.change_words-2.ensures ∙ ap (λ (w : List ℕ). change_words a.t a.value w a.change) copied in
     rw edited c.requires.can_settle
 
 pub returns : goal.returns
 returns c =
-    let copied : c.copy_words.new.to ≡ loaded c.args.table.now c.args.page =
-    copy_is c.args.table.now c.args.page _ _ c.requires.can_settle.inside c.page_at.ensures c.copy_words.ensures in
-    let edited : c.change_words-2.new.page ≡ changed c.args.t c.args.value c.args.table.now c.args.page c.args.change =
-    c.change_words-2.ensures ∙ ap (λ (w : List ℕ). change_words c.args.t c.args.value w c.args.change) copied in
+    let a = c.args in
+    let copied = copy_is a.table.now a.page c.copy_from_slice.new.self (c.copy_from_slice.ensures.after ∙ c.page_at.ensures) in
+    let edited : c.change_words-2.new.page ≡ changed a.t a.value a.table.now a.page a.change =
+    c.change_words-2.ensures ∙ ap (λ (w : List ℕ). change_words a.t a.value w a.change) copied in
     rw edited at c.settle_page.ensures

@@ -6,7 +6,6 @@ use Rattle.tree.specs.Tree.{page_at}
 use Rattle.live.specs.Survey.{survey_of, is_around, starts_from}
 use Rattle.tree.proofs.TableLaws.{page_length}
 use Rattle.enter.proofs.StepRows.{found_within}
-use borrow.Author.Rules.{rules}
 use Rattle.enter.proofs.entering.enter_leaf.Goals as goal
 
 pub page_at-requires : goal.page_at-requires

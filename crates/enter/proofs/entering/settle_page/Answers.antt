@@ -2,7 +2,6 @@ use mathlib.Core.Path.{ap, sym, ◌∙◌}
 use Rattle.tree.specs.Overflow.{Written}
 use Rattle.enter.specs.EnterWords.{made_so}
 use Rattle.enter.proofs.SettleLaws.{settled_stays, settled_splits}
-use borrow.Author.Rules.{rules}
 use Rattle.enter.proofs.entering.settle_page.Goals as goal
 
 pub store_page-requires : goal.store_page-requires

@@ -5,7 +5,6 @@ use native.Mathlib.Omega.{arith}
 use Rattle.words.specs.Words.{root_birth, root_entry}
 use Rattle.words.proofs.OverwriteLaws.{overwrite_one}
 use Rattle.tree.specs.Row.{word}
-use borrow.Author.Rules.{rules}
 use Rattle.enter.proofs.growing.put_root.Goals as goal
 
 pub use_after-requires : goal.use_after-requires

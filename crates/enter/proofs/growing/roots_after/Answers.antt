@@ -1,9 +1,7 @@
 use Prim.Native.Nat.{ℕ}
-use native.Mathlib.Omega.{arith}
 use mathlib.Core.Path.{◌≡◌, ap, sym}
 use Rattle.tree.specs.declared.types.RootChange.{RootChange}
 use Rattle.tree.specs.Use.{roots_after}
-use borrow.Author.Rules.{rules}
 use Rattle.enter.proofs.growing.roots_after.Goals as goal
 
 -- The answer for the change that was told

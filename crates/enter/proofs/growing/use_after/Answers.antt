@@ -3,7 +3,6 @@ use native.Mathlib.Omega.{arith}
 use mathlib.Core.Path.{ap₂, sym}
 use Rattle.tree.specs.declared.types.TreeUse.{TreeUse}
 use Rattle.tree.proofs.UseLaws.{after_is}
-use borrow.Author.Rules.{rules}
 use Rattle.enter.proofs.growing.use_after.Goals as goal
 
 uses : ℕ → ℕ → TreeUse

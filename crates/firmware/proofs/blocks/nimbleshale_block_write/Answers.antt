@@ -11,11 +11,7 @@ pub returns-then-offset-ne0 : goal.returns-then-offset-ne0
 returns-then-offset-ne0 c = register_leaves _ _ _ _ c.if-offset-ne0.true c.write_register.ensures
 
 pub write_query-requires : goal.write_query-requires
-write_query-requires c =
-    record {
-      head_len = search rules;
-      code_value = sym c.is_query.ensures ∙ c.if-is_query.true;
-    }
+write_query-requires c = sym c.is_query.ensures ∙ c.if-is_query.true
 
 pub returns-then-is_query : goal.returns-then-is_query
 returns-then-is_query c = at_command _ _ _ _ c.if-offset-ne0.false c.write_query.ensures

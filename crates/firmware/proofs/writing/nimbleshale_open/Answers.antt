@@ -2,8 +2,9 @@ use mathlib.Core.Path.{◌≡◌}
 use lib.ListN.{length}
 use Rattle.c_heads.specs.Heads.{head_numbers}
 use Rattle.store.specs.Calls.{opening}
-use Rattle.firmware.specs.Exported.{handed_of}
-use Rattle.firmware.proofs.ExportedLaws.{replied_in, leaves}
+use Rattle.store.specs.Performing.{perform}
+use Rattle.firmware.specs.Exported.{Handed, handed_of, store_in, Leaves}
+use Rattle.firmware.proofs.ExportedLaws.{handed_on, replied_in, leaves}
 use Rattle.firmware.proofs.KeptPlaces.{after_opening}
 use borrow.Author.Rules.{rules}
 use Rattle.firmware.proofs.writing.nimbleshale_open.Goals as goal
@@ -13,5 +14,7 @@ returns c =
     let a = c.args in
     let before = handed_of a.head.now a.start_table.now a.start_roots.now a.end_table.now a.end_roots.now a.time_table.now a.time_roots.now in
     let long : length a.head.now ≡ head_numbers = search rules in
-    let is = replied_in opening before c.head_of.ensures c.open-reply.ensures in
-    leaves opening before is long c.refusal_of.ensures (after_opening before) c.put_head.ensures
+    let is = replied_in opening before c.head_of.ensures c.open-reply.ensures.replied in
+    handed_on (λ (after : Handed). Leaves (perform (store_in before) opening) c.refusal_of.result before after)
+    (leaves opening before is long c.refusal_of.ensures (after_opening before) c.put_head.ensures)
+    (search rules) (search rules) (search rules) (search rules) (search rules) (search rules)

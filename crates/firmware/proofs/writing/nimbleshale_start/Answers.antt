@@ -2,8 +2,9 @@ use mathlib.Core.Path.{◌≡◌}
 use lib.ListN.{length}
 use Rattle.c_heads.specs.Heads.{head_numbers}
 use Rattle.store.specs.Calls.{start}
-use Rattle.firmware.specs.Exported.{handed_of}
-use Rattle.firmware.proofs.ExportedLaws.{replied_in, leaves, number_said_lem}
+use Rattle.store.specs.Performing.{perform}
+use Rattle.firmware.specs.Exported.{Handed, handed_of, store_in, Leaves}
+use Rattle.firmware.proofs.ExportedLaws.{handed_on, replied_in, leaves, number_said_lem}
 use Rattle.firmware.proofs.KeptPlaces.{after_start}
 use borrow.Author.Rules.{rules}
 use Rattle.firmware.proofs.writing.nimbleshale_start.Goals as goal
@@ -14,8 +15,11 @@ returns c =
     let before = handed_of a.head.now a.start_table.now a.start_roots.now a.end_table.now a.end_roots.now a.time_table.now a.time_roots.now in
     let long : length a.head.now ≡ head_numbers = search rules in
     let call = start a.tick a.key a.weight in
-    let is = replied_in call before c.head_of.ensures c.start-reply.ensures in
+    let is = replied_in call before c.head_of.ensures c.start-reply.ensures.replied in
     record {
-      leaves = leaves call before is long c.refusal_of.ensures (after_start before a.tick a.key a.weight is) c.put_head.ensures;
+      leaves =
+          handed_on (λ (after : Handed). Leaves (perform (store_in before) call) c.refusal_of.result before after)
+          (leaves call before is long c.refusal_of.ensures (after_start before a.tick a.key a.weight is) c.put_head.ensures)
+          (search rules) (search rules) (search rules) (search rules) (search rules) (search rules);
       number_after = number_said_lem call before is a.number.now c.number_of.ensures;
     }

@@ -6,10 +6,10 @@ pub returns-then-tick-last : goal.returns-then-tick-last
 unfolding first_met
 returns-then-tick-last c = rw (lt-ltb _ _ c.if-tick-last.true)
 
-pub returns-in-Missing : goal.returns-in-Missing
+pub returns-in-None : goal.returns-in-None
 unfolding first_met
-returns-in-Missing c = rw (le-ltb _ _ c.if-tick-last.false, c.in-Missing.is)
+returns-in-None c = rw (le-ltb _ _ c.if-tick-last.false, c.in-None.is)
 
-pub returns-in-At : goal.returns-in-At
+pub returns-in-Some : goal.returns-in-Some
 unfolding first_met
-returns-in-At c = rw (le-ltb _ _ c.if-tick-last.false, c.in-At.is)
+returns-in-Some c = rw (le-ltb _ _ c.if-tick-last.false, c.in-Some.is)

@@ -1,39 +1,22 @@
-use mathlib.Core.Path.{◌≡◌, sym, ◌∙◌}
-use lib.ListN.{length, get_or}
+use mathlib.Core.Path.{sym, ◌∙◌}
 use native.Mathlib.Omega.{arith}
-use Rattle.tree.proofs.Lists.{length_mapped}
-use Rattle.store.specs.Head.{open_limit, no_pass, open_passes}
-use Rattle.head.proofs.FitLaws.{fit_all, fits_below, fit_next, fit_low, fit_not, fit_none}
-use borrow.Author.Rules.{rules}
+use Rattle.store.specs.Head.{no_pass, open_passes}
+use Rattle.head.proofs.FitLaws.{fit_all, fit_next, fit_low, fit_not, fit_none}
 use Rattle.head.proofs.fits.passes_fit.Goals as goal
 
-pub loop-place-init : goal.loop-place-init
-loop-place-init c = let h = c.args.head in
-    let full : length h.passes ≡ open_limit = search (rules, length_mapped) in
-    (search rules, search rules, fit_all h.started h.last (open_passes h))
+pub loop-pass-init : goal.loop-pass-init
+loop-pass-init c = let h = c.args.head.now in fit_all h.started h.last (open_passes h)
 
 pub returns-then-pass-least : goal.returns-then-pass-least
-returns-then-pass-least c = let h = c.args.head in
-    let l = c.loop-place in
-    sym (fit_low h.started h.last h.passes h.count l.invariant.1 l.least l.place no_pass (omega arith) c.if-pass-least.true) ∙ l.invariant.2
+returns-then-pass-least c = let l = c.loop-pass in sym (fit_low _ _ _ l.least l.pass-index no_pass c.loop-pass-test.true c.if-pass-least.true) ∙ l.invariant
 
-pub overflow_add-least : goal.overflow_add-least
-overflow_add-least c = let h = c.args.head in
-    let l = c.loop-place in
-    omega (arith, fits_below h.started h.last (get_or h.passes l.place no_pass) (sym c.pass_fits.ensures ∙ c.if-pass_fits.true))
+pub returns-then-not-pass_fits : goal.returns-then-not-pass_fits
+returns-then-not-pass_fits c = let l = c.loop-pass in
+    sym (fit_not _ _ _ l.least l.pass-index no_pass c.loop-pass-test.true (sym c.pass_fits.ensures ∙ c.if-not-pass_fits.true)) ∙ l.invariant
 
-pub loop-place-preserved : goal.loop-place-preserved
-loop-place-preserved c = let h = c.args.head in
-    let l = c.loop-place in
-    let on = fit_next h.started h.last h.passes h.count l.invariant.1 l.least l.place no_pass (omega arith) (sym c.pass_fits.ensures ∙ c.if-pass_fits.true) c.if-pass-least.false in
-    (search rules, search rules, sym on ∙ l.invariant.2)
-
-pub returns-else-pass_fits : goal.returns-else-pass_fits
-returns-else-pass_fits c = let h = c.args.head in
-    let l = c.loop-place in
-    sym (fit_not h.started h.last h.passes h.count l.invariant.1 l.least l.place no_pass (omega arith) (sym c.pass_fits.ensures ∙ c.if-pass_fits.false)) ∙ l.invariant.2
+pub loop-pass-preserved : goal.loop-pass-preserved
+loop-pass-preserved c = let l = c.loop-pass in
+    sym (fit_next _ _ _ l.least l.pass-index no_pass c.loop-pass-test.true (sym c.pass_fits.ensures ∙ c.if-not-pass_fits.false) c.if-pass-least.false) ∙ l.invariant
 
 pub returns : goal.returns
-returns c = let h = c.args.head in
-    let l = c.loop-place in
-    sym (fit_none h.started h.last h.passes h.count l.invariant.1 l.least l.place (omega arith)) ∙ l.invariant.2
+returns c = let l = c.loop-pass in sym (fit_none _ _ (open_passes c.args.head.now) l.least l.pass-index (omega arith)) ∙ l.invariant

@@ -1,17 +1,10 @@
 use mathlib.Core.Path.{◌≡◌}
 use mathlib.Core.Bool.{◌&&◌}
-use Prim.Native.Nat.{◌≤◌, ◌-◌}
-use lib.ListN.{length}
-use lib.Seq.{slice}
+use lib.ListN.{drop}
 use Rattle.store.specs.Head.{open_passes, passes_fit, numbers_rise}
 use Rattle.head.proofs.FitLaws.{fit_from}
 use Rattle.head.proofs.fits.passes_fit.Given as goal
 
-abbrev pub invariant-loop-place : goal.invariant-loop-place
-invariant-loop-place l =
-    (l.place ≤ l.count) × (l.count ≤ length l.head.passes)
-    × (fit_from l.head.started l.head.last l.least (slice l.place l.count l.head.passes)
-    ≡ (passes_fit l.head.started l.head.last (open_passes l.head) && numbers_rise (open_passes l.head)))
-
-abbrev pub decreases-loop-place : goal.decreases-loop-place
-decreases-loop-place l = l.count - l.place
+abbrev pub invariant-loop-pass : goal.invariant-loop-pass
+invariant-loop-pass l = let h = l.fn.head in
+    fit_from h.started h.last l.least (drop l.pass-index (open_passes h)) ≡ (passes_fit h.started h.last (open_passes h) && numbers_rise (open_passes h))

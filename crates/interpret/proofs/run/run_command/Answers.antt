@@ -1,18 +1,16 @@
-use Rattle.command.proofs.KindLaws.{kind_query, kind_event}
-use Rattle.interpret.proofs.RunLaws.{query_replies, of_kind}
-use Rattle.store.specs.Trees.{Store, store_of}
 use mathlib.Core.Path.{sym, ◌∙◌}
-use borrow.Author.Rules.{rules}
+use Rattle.store.specs.Lending.{words_of, store_with}
+use Rattle.command.specs.Stream.{query_kind, answered}
+use Rattle.command.proofs.KindLaws.{kind_query}
+use Rattle.interpret.proofs.RunLaws.{query_replies, of_kind}
 use Rattle.interpret.proofs.run.run_command.Goals as goal
 
-pub returns-then-is_query : goal.returns-then-is_query
-returns-then-is_query c =
+pub returns-then-is_query-clause-replied : goal.returns-then-is_query-clause-replied
+returns-then-is_query-clause-replied c =
     let a = c.args in
-    let s : Store = store_of a.head a.start_table.now a.start_roots.now a.end_table.now a.end_roots.now a.time_table.now a.time_roots.now in
-    of_kind s a.operands.now (kind_query a.code (sym c.is_query.ensures ∙ c.if-is_query.true)) (query_replies s a.operands.now a.code c.answer_query-answer.ensures)
-
-pub returns : goal.returns
-returns c =
-    let a = c.args in
-    let s : Store = store_of a.head a.start_table.now a.start_roots.now a.end_table.now a.end_roots.now a.time_table.now a.time_roots.now in
-    of_kind s a.operands.now (kind_event a.code (sym c.is_query.ensures ∙ c.if-is_query.false)) c.run_event.ensures
+    let s = store_with a.head (words_of a.starts.now) (words_of a.ends.now) (words_of a.time.now) in
+    of_kind s a.operands.now (kind_query a.code (sym c.is_query.ensures ∙ c.if-is_query.true))
+    (query_replies s a.operands.now a.code
+    (c.answer_query-answer.ensures
+    ∙ (λ i.
+    (answered (store_with a.head (c.view.ensures i) (c.view-then-is_query.ensures i) (c.view-then-is_query-2.ensures i)) a.operands.now (query_kind a.code)).answer)))

@@ -6,7 +6,6 @@ use mathlib.Core.Bool.{cond}
 use lib.Dec.{ltb}
 use borrow.Author.Tests.{lt-ltb, le-ltb}
 use Rattle.ranges.specs.KeyRanges.{range_low}
-use borrow.Author.Rules.{rules}
 use Rattle.live.proofs.held.one_if_below.Goals as goal
 
 -- Of keys below 65,536 and a limit of at most that

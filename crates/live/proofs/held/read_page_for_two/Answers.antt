@@ -1,22 +1,21 @@
 use mathlib.Core.Path.{◌∙◌}
 use Rattle.live.proofs.LiveReadings.{opened_fits, opened_held}
-use borrow.Author.Rules.{rules}
 use Rattle.live.proofs.held.read_page_for_two.Goals as goal
 
 pub held_tested-lower-requires : goal.held_tested-lower-requires
 held_tested-lower-requires c =
     let a = c.args in
-    opened_fits a.table.now a.used a.t a.level a.low a.high a.page (search rules) c.open_page-tested.new.ranges c.open_page-tested.new.places c.open_page-tested.result c.open_page-tested.ensures
+    opened_fits a.tree a.t a.expected _ _ _ c.open_page-tested.ensures
 
 pub held_tested-upper-requires : goal.held_tested-upper-requires
 held_tested-upper-requires c =
     let a = c.args in
-    opened_fits a.table.now a.used a.t a.level a.low a.high a.page (search rules) c.open_page-tested.new.ranges c.open_page-tested.new.places c.open_page-tested.result c.open_page-tested.ensures
+    opened_fits a.tree a.t a.expected _ _ _ c.open_page-tested.ensures
 
 pub returns : goal.returns
 returns c =
     let a = c.args in
     record {
-      lower_value = c.held_tested-lower.ensures ∙ opened_held a.table.now a.used a.t a.level a.low a.high a.page (search rules) c.open_page-tested.new.ranges c.open_page-tested.new.places a.lower_key c.open_page-tested.result c.open_page-tested.ensures;
-      upper_value = c.held_tested-upper.ensures ∙ opened_held a.table.now a.used a.t a.level a.low a.high a.page (search rules) c.open_page-tested.new.ranges c.open_page-tested.new.places a.upper_key c.open_page-tested.result c.open_page-tested.ensures;
+      lower_value = c.held_tested-lower.ensures ∙ opened_held a.tree a.t a.expected _ _ a.lower_key _ c.open_page-tested.ensures;
+      upper_value = c.held_tested-upper.ensures ∙ opened_held a.tree a.t a.expected _ _ a.upper_key _ c.open_page-tested.ensures;
     }

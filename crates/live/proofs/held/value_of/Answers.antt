@@ -2,7 +2,6 @@ use Prim.Native.Nat.{ℕ, ◌+◌}
 use mathlib.Core.Path.{ap, ◌∙◌}
 use Rattle.words.specs.Value.{value_at}
 use Rattle.tree.specs.Row.{value_start}
-use borrow.Author.Rules.{rules}
 use Rattle.live.proofs.held.value_of.Goals as goal
 
 pub returns : goal.returns

@@ -1,4 +1,3 @@
-use borrow.Author.Rules.{rules}
 use Rattle.live.proofs.survey.survey_live.Goals as goal
 
 pub returns : goal.returns

@@ -18,11 +18,10 @@ put_page-requires c =
       count_le_row_limit = rw (c.with_row.ensures, c.empty.ensures) (omega arith);
     }
 
-pub returns : goal.returns
-returns c =
-    let a = c.args in
+pub returns-clause-table_after : goal.returns-clause-table_after
+returns-clause-table_after c =
     let page : encode_page c.with_row.result ≡ first_page = rw (c.with_row.ensures, c.empty.ensures, c.new_row-row.ensures, c.zero.ensures) first_page_lem in
-    record {
-      table_after = c.put_page.ensures ∙ ap (put_page a.table.now 0) page;
-      roots_after = rw c.root_entry.ensures (overwrite_one a.roots.now 0 0 (omega arith));
-    }
+    c.put_page.ensures ∙ ap (put_page c.args.tree.now.table.now 0) page
+
+pub returns-clause-roots_after : goal.returns-clause-roots_after
+returns-clause-roots_after c = rw c.root_entry.ensures (overwrite_one c.args.tree.now.roots.now 0 0 (omega arith))

@@ -1,25 +1,18 @@
-use Prim.Native.Nat.{ℕ}
-use mathlib.Core.List.{List}
-use lib.ListN.{length-set, set}
-use mathlib.Core.Path.{ap, ◌∙◌}
+use Prim.Native.Nat.{ℕ, ◌-◌}
 use native.Mathlib.Omega.{arith}
-use Rattle.page.proofs.FreshLaws.{clear_none, clear_more, clear_done}
-use borrow.Author.Rules.{rules}
+use mathlib.Core.Path.{ap, ◌∙◌}
+use lib.ListN.{length, replicate}
+use borrow.Rule.Slice.PartMut.{mid_len}
+use Rattle.words.proofs.OverwriteLaws.{put_part}
+use Rattle.tree.specs.Fresh.{zeros}
+use Rattle.page.proofs.FreshLaws.{zeros_length}
 use Rattle.page.proofs.fresh.clear_from.Goals as goal
 
-pub loop-at-init : goal.loop-at-init
-loop-at-init c = (search rules, search rules, search rules, clear_none c.args.words.now c.args.from)
-
-pub loop-at-preserved : goal.loop-at-preserved
-loop-at-preserved c = let a = c.args in
-    let l = c.loop-at in (
-      search rules,
-      search rules,
-      simp length-set (search rules),
-      ap (λ (w : List ℕ). set w l.at 0) l.invariant.3 ∙ clear_more a.words.now a.from l.at l.invariant.0 (omega arith),
-    )
-
 pub returns : goal.returns
-returns c = let a = c.args in
-    let l = c.loop-at in
-    l.invariant.3 ∙ clear_done a.words.now a.from l.at l.invariant.1 (omega arith)
+unfolding zeros
+returns c =
+    let a = c.args in
+    let words = a.words.now in
+    let left : ℕ = length words - a.from in
+    put_part words a.from (length words) (zeros left) c.requires (omega (arith, zeros_length left))
+    (c.fill.ensures.after (λ y e. e) ∙ ap (λ (n : ℕ). replicate n 0) (mid_len a.from (length words) words (omega arith)))

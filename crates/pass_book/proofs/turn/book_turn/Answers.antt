@@ -1,25 +1,14 @@
-use mathlib.Core.Path.{sym, ◌∙◌}
-use Rattle.pass_book.proofs.TurnLaws.{stays_as, turn_refused, turn_lacks, turn_does}
-use borrow.Author.Rules.{rules}
+use Rattle.store.proofs.RefusedNumbers.{numbered}
+use Rattle.pass_book.proofs.TurnLaws.{stays_as, turn_refused, turn_does}
 use Rattle.pass_book.proofs.turn.book_turn.Goals as goal
 
-pub returns-then-refused-ne0 : goal.returns-then-refused-ne0
-returns-then-refused-ne0 c =
+pub does-requires-clause-call_value : goal.does-requires-clause-call_value
+does-requires-clause-call_value c = (turn_does _ _ _ c.in-Ok.ensures).0
+
+pub returns-in-Ok : goal.returns-in-Ok
+returns-in-Ok c = rw (turn_does _ _ _ c.in-Ok.ensures).1 c.does.ensures
+
+pub returns-in-Err : goal.returns-in-Err
+returns-in-Err c =
     let a = c.args in
-    stays_as a.passes.now a.book _ _ (turn_refused _ _ _ _ c.refusal-refused.ensures c.if-refused-ne0.true)
-
-pub returns-then-lack-ne0 : goal.returns-then-lack-ne0
-returns-then-lack-ne0 c =
-    let a = c.args in
-    stays_as a.passes.now a.book _ _ (turn_lacks _ _ _ _ c.refusal-refused.ensures c.if-refused-ne0.false _ c.lacking-lack.ensures c.if-lack-ne0.true)
-
-pub does-requires : goal.does-requires
-does-requires c =
-    record {
-      started_in_bounds = search rules;
-      call_value = sym c.refusal-refused.ensures ∙ c.if-refused-ne0.false;
-    }
-
-pub returns : goal.returns
-returns c =
-    rw (turn_does _ _ _ _ c.refusal-refused.ensures c.if-refused-ne0.false _ c.lacking-lack.ensures c.if-lack-ne0.false) c.does.ensures
+    rw c.from.ensures (stays_as a.passes.now a.book _ _ (turn_refused _ _ _ _ c.in-Err.ensures (numbered c.in-Err.refusal)))

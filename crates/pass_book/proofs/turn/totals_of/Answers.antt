@@ -10,4 +10,4 @@ pub returns : goal.returns
 returns c =
     let a = c.args in
     ap book_part c.answer_of.ensures
-    ∙ said_as (book_in a.passes.now a.book) (omega (arith, passes_length a.passes.now a.book.started)) c.totals.ensures.all a.asked c.totals.ensures.value
+    ∙ said_as (book_in a.passes.now a.book) (omega (arith, passes_length a.passes.now a.book.started c.requires)) c.totals.ensures.all a.asked c.totals.ensures.value

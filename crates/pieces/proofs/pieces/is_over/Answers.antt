@@ -1,5 +1,4 @@
 use Rattle.pieces.proofs.PieceRuns.{over_off, over_waiting, over_taken}
-use borrow.Author.Tests.{not-true, not-false}
 use Rattle.pieces.proofs.pieces.is_over.Goals as goal
 
 pub returns-then-not-on : goal.returns-then-not-on

@@ -3,8 +3,6 @@ use native.Mathlib.Omega.{arith}
 use lib.ListN.{length, drop, length-drop}
 use lib.Seq.{take_all}
 use Rattle.pieces.proofs.PieceRuns.{over_rests, none_rests, one_runs}
-use borrow.Author.Rules.{rules}
-use borrow.Author.Tests.{not-true, not-false}
 use Rattle.pieces.proofs.pieces.runs_at.Goals as goal
 
 pub returns-then-not-on : goal.returns-then-not-on

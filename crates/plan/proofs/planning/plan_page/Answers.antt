@@ -1,7 +1,6 @@
 use native.Mathlib.Omega.{arith}
 use Rattle.plan.specs.PlanSteps.{plan_page}
 use Rattle.plan.proofs.PlanBounds.{parts_few}
-use borrow.Author.Rules.{rules}
 use Rattle.plan.proofs.planning.plan_page.Goals as goal
 
 pub overflow_add-result : goal.overflow_add-result

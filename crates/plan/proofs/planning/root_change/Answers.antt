@@ -1,5 +1,4 @@
 use borrow.Author.Tests.{eq-eqb, ne_eqb}
-use borrow.Author.Rules.{rules}
 use Rattle.plan.proofs.planning.root_change.Goals as goal
 
 pub returns-then-root_birth-t : goal.returns-then-root_birth-t

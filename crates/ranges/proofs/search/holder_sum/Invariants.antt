@@ -1,12 +1,9 @@
-use Prim.Native.Nat.{◌+◌, ◌-◌, ◌*◌, ◌≤◌}
+use Prim.Native.Nat.{◌+◌, ◌*◌, ◌≤◌}
 use mathlib.Core.Path.{◌≡◌}
-use lib.ListN.{length, drop}
+use lib.ListN.{drop}
 use Rattle.ranges.specs.Nearest.{holder_sum}
 use Rattle.ranges.proofs.search.holder_sum.Given as goal
 
 abbrev pub invariant-loop-at : goal.invariant-loop-at
 invariant-loop-at l =
-    (l.at ≤ length l.ranges) × (l.sum ≤ 512 * l.at) × (l.sum + holder_sum l.key l.at (drop l.at l.ranges) ≡ holder_sum l.key 0 l.ranges)
-
-abbrev pub decreases-loop-at : goal.decreases-loop-at
-decreases-loop-at l = length l.ranges - l.at
+    (l.sum ≤ 512 * l.at) × (l.sum + holder_sum l.key l.at (drop l.at l.ranges) ≡ holder_sum l.key 0 l.ranges)

@@ -1,7 +1,6 @@
 use mathlib.Core.Path.{sym, ◌∙◌}
 use Rattle.store.specs.declared.types.TreeName.TheVariants.{Starts, Ends, Time}
 use Rattle.refusals.proofs.OpeningParts.{one_small, none_small}
-use borrow.Author.Rules.{rules}
 use Rattle.refusals.proofs.refusals.opening_refusal.Goals as goal
 
 pub returns-then-too_small : goal.returns-then-too_small

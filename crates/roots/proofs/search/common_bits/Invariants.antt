@@ -1,10 +1,7 @@
-use Prim.Native.Nat.{ℕ, ◌+◌, ◌-◌, ◌≤◌, ◌<◌}
+use Prim.Native.Nat.{ℕ, ◌≤◌, ◌<◌}
 use lib.ListN.{get_or}
 use Rattle.words.specs.Words.{root_birth}
 use Rattle.roots.proofs.search.common_bits.Given as goal
 
-abbrev pub invariant-loop-at : goal.invariant-loop-at
-invariant-loop-at l = (l.at ≤ 32) × ((i : ℕ) → i < l.at → l.common ≤ root_birth (get_or l.roots (l.from + i) 0))
-
-abbrev pub decreases-loop-at : goal.decreases-loop-at
-decreases-loop-at l = 32 - l.at
+abbrev pub invariant-loop-entry : goal.invariant-loop-entry
+invariant-loop-entry l = (i : ℕ) → i < l.entry-index → l.common ≤ root_birth (get_or l.block i 0)

@@ -1,13 +1,14 @@
 use mathlib.Core.Path.{ap, sym, ◌∙◌}
 use native.Mathlib.Omega.{arith}
 use Rattle.row_steps.specs.PageEdits.{leaf_words}
-use Rattle.ranges.specs.declared.search.Place.{Place}
+use Rattle.std.specs.declared.option.Option.{Option}
+use Prim.Native.Nat.{ℕ}
 use Rattle.row_steps.proofs.steps.edit_leaf.Goals as goal
 
 pub cut_at-requires : goal.cut_at-requires
 cut_at-requires c =
     record {
-      place_bound = rw c.in-At.is at c.requires.within;
+      place_bound = rw c.in-Some.is at c.requires.within;
       page_in_bounds = c.requires.page_in_bounds;
     }
 
@@ -18,8 +19,8 @@ gain_row-requires c =
       page_in_bounds = omega arith;
     }
 
-pub returns-in-At : goal.returns-in-At
-returns-in-At c = c.cut_at.ensures ∙ ap (λ (i : Place). leaf_words c.args.t c.args.k c.args.value c.args.page.now i c.args.gain) (sym c.in-At.is)
+pub returns-in-Some : goal.returns-in-Some
+returns-in-Some c = c.cut_at.ensures ∙ ap (λ (i : Option ℕ). leaf_words c.args.t c.args.k c.args.value c.args.page.now i c.args.gain) (sym c.in-Some.is)
 
-pub returns-in-Missing : goal.returns-in-Missing
-returns-in-Missing c = c.gain_row.ensures ∙ ap (λ (i : Place). leaf_words c.args.t c.args.k c.args.value c.args.page.now i c.args.gain) (sym c.in-Missing.is)
+pub returns-in-None : goal.returns-in-None
+returns-in-None c = c.gain_row.ensures ∙ ap (λ (i : Option ℕ). leaf_words c.args.t c.args.k c.args.value c.args.page.now i c.args.gain) (sym c.in-None.is)

@@ -14,101 +14,61 @@ use Rattle.words.proofs.LoopLaws.{all_here}
 use Rattle.tree.specs.Tree.{put_page}
 use Rattle.tree.specs.Overflow.{lower_half}
 use Rattle.split.specs.SplitWords.{between, fill_page, gain_page, middle_key}
-use Rattle.split.proofs.SplitRows.{in_words, in_words_from, middle_is, halve_table}
+use Rattle.split.proofs.SplitRows.{in_words_from, in_words_between, middle_is, halve_table}
+use borrow.Author.Rules.{rules}
 use Rattle.split.proofs.split.halve_rows.Goals as goal
 
 pub row_at-middle-requires : goal.row_at-middle-requires
 row_at-middle-requires c =
     let a = c.args in
-    let ws = a.words.now in
-    let os = a.order.now in
+    let ws = a.source.words.now in
+    let os = a.source.order.now in
     let cut : ℕ = c.lower_end-cut.result in
-    let where_cut : cut ≡ a.start + lower_half (most_rows - a.start) = c.lower_end-cut.ensures in
-    let many : a.start + copy_limit < most_rows = c.requires.copy_limit_bound in
-    let above : a.start ≤ cut = omega arith in
+    let where_cut : cut ≡ a.source.start + lower_half (most_rows - a.source.start) = c.lower_end-cut.ensures in
+    let many : a.source.start + copy_limit < most_rows = c.requires.copy_limit_bound in
+    let above : a.source.start ≤ cut = omega arith in
     let inside : cut < most_rows = omega arith in
     rw c.entry_place.ensures
-    (all_here os cut (λ (e : ℕ). row_start (entry_place e) + row_words ≤ length ws) (omega (arith, c.requires.sourced.long)) (in_words_from a.t ws os a.start c.requires.sourced cut above)).0
+    (all_here os cut (λ (e : ℕ). row_start (entry_place e) + row_words ≤ length ws) (omega (arith, c.requires.sourced.long)) (in_words_from a.source.t ws os a.source.start c.requires.sourced cut above)).0
 
 pub total_of-below-requires : goal.total_of-below-requires
 total_of-below-requires c =
     let a = c.args in
-    let ws = a.words.now in
-    let os = a.order.now in
-    let cut : ℕ = c.lower_end-cut.result in
-    let where_cut : cut ≡ a.start + lower_half (most_rows - a.start) = c.lower_end-cut.ensures in
-    let many : a.start + copy_limit < most_rows = c.requires.copy_limit_bound in
-    let above : a.start ≤ cut = omega arith in
-    let inside : cut < most_rows = omega arith in
-    record {
-      order_len = c.requires.sourced.long;
-      from_le_to = omega arith;
-      to_le_most_rows = omega arith;
-      in_page = in_words a.t ws os a.start c.requires.sourced;
-    }
+    in_words_between a.source.t a.source.words.now a.source.order.now a.source.start c.requires.sourced a.source.start c.lower_end-cut.result (omega arith)
 
-pub put_rows-requires : goal.put_rows-requires
-put_rows-requires c =
+pub put_rows-requires-clause-in_page : goal.put_rows-requires-clause-in_page
+put_rows-requires-clause-in_page c =
     let a = c.args in
-    let ws = a.words.now in
-    let os = a.order.now in
-    let cut : ℕ = c.lower_end-cut.result in
-    let where_cut : cut ≡ a.start + lower_half (most_rows - a.start) = c.lower_end-cut.ensures in
-    let many : a.start + copy_limit < most_rows = c.requires.copy_limit_bound in
-    let above : a.start ≤ cut = omega arith in
-    let inside : cut < most_rows = omega arith in
-    record {
-      header_words_in_bounds = omega (arith, c.requires.sourced.room);
-      order_len = c.requires.sourced.long;
-      from_le_to = above;
-      to_le_most_rows = omega arith;
-      from_bound = omega arith;
-      in_page = in_words a.t ws os a.start c.requires.sourced;
-      page_words_in_bounds = c.requires.page_words_in_bounds;
-    }
+    in_words_between a.source.t a.source.words.now a.source.order.now a.source.start c.requires.sourced a.source.start c.lower_end-cut.result (omega arith)
 
-pub put_rows-requires-2 : goal.put_rows-requires-2
-put_rows-requires-2 c =
+pub put_rows-requires-2-clause-in_page : goal.put_rows-requires-2-clause-in_page
+put_rows-requires-2-clause-in_page c =
     let a = c.args in
-    let ws = a.words.now in
-    let os = a.order.now in
-    let cut : ℕ = c.lower_end-cut.result in
-    let where_cut : cut ≡ a.start + lower_half (most_rows - a.start) = c.lower_end-cut.ensures in
-    let many : a.start + copy_limit < most_rows = c.requires.copy_limit_bound in
-    let above : a.start ≤ cut = omega arith in
-    let inside : cut < most_rows = omega arith in
-    record {
-      header_words_in_bounds = omega (arith, c.requires.sourced.room);
-      order_len = c.requires.sourced.long;
-      from_le_to = omega arith;
-      to_le_most_rows = omega arith;
-      from_bound = omega arith;
-      in_page = in_words_from a.t ws os a.start c.requires.sourced cut above;
-      page_words_in_bounds = omega (arith, c.put_rows.auto.table, c.requires.page_words_in_bounds_2);
-    }
+    let where_cut : c.lower_end-cut.result ≡ a.source.start + lower_half (most_rows - a.source.start) = c.lower_end-cut.ensures in
+    in_words_between a.source.t a.source.words.now a.source.order.now a.source.start c.requires.sourced c.lower_end-cut.result most_rows (omega arith)
 
 pub returns : goal.returns
 returns c =
     let a = c.args in
-    let ws = a.words.now in
-    let os = a.order.now in
+    let ws = a.source.words.now in
+    let os = a.source.order.now in
     let cut : ℕ = c.lower_end-cut.result in
-    let where_cut : cut ≡ a.start + lower_half (most_rows - a.start) = c.lower_end-cut.ensures in
-    let many : a.start + copy_limit < most_rows = c.requires.copy_limit_bound in
-    let above : a.start ≤ cut = omega arith in
+    let where_cut : cut ≡ a.source.start + lower_half (most_rows - a.source.start) = c.lower_end-cut.ensures in
+    let many : a.source.start + copy_limit < most_rows = c.requires.copy_limit_bound in
+    let above : a.source.start ≤ cut = omega arith in
     let inside : cut < most_rows = omega arith in
-    let small : (i : ℕ) → word ws i < 2 ^ 64 = λ i. omega (arith, c.shared_slice_known-1.given i) in
+    let small : (i : ℕ) → word ws i < 2 ^ 64 = λ i. search rules in
     let key = c.row_at-middle.result.low in
-    let middle : key ≡ middle_key ws a.t =
-    ap (λ (r : Row). r.low) (c.row_at-middle.ensures ∙ ap (row_in ws) c.entry_place.ensures) ∙ middle_is a.t ws os a.start c.requires.sourced cut where_cut inside in
+    let middle : key ≡ middle_key ws a.source.t =
+    ap (λ (r : Row). r.low) (c.row_at-middle.ensures ∙ ap (row_in ws) c.entry_place.ensures) ∙ middle_is a.source.t ws os a.source.start c.requires.sourced cut where_cut inside in
     let made : Value → ℕ → ℕ → List ℕ → List ℕ =
-    λ (v : Value) (l h : ℕ) (es : List ℕ). encode_page (gain_page v (fill_page ws a.t (empty_page (word ws 0) l h a.t) es)) in
+    λ (v : Value) (l h : ℕ) (es : List ℕ). encode_page (gain_page v (fill_page ws a.source.t (empty_page (word ws 0) l h a.source.t) es)) in
     record {
       value = middle;
       table_after = c.put_rows-2.ensures
           ∙ ap₂ (λ (l p : List ℕ). put_page l a.second p)
           (c.put_rows.ensures
-          ∙ ap₂ (λ (v : Value) (l : ℕ). put_page a.table.now a.first (made v l key (between a.start cut os))) c.zero-nothing.ensures c.low_key-low.ensures)
-          (ap₂ (λ (v : Value) (h : ℕ). made v key h (between cut most_rows os)) c.total_of-below.ensures c.high_key-high.ensures)
-          ∙ halve_table a.t ws os a.start c.requires.sourced cut where_cut small a.table.now a.first a.second key middle;
+          ∙ ap₂ (λ (v : Value) (l : ℕ). put_page a.table.now a.first (made v l key (between a.source.start cut os))) c.zero.ensures c.low_key.ensures)
+          (ap₂ (λ (v : Value) (h : ℕ). made v key h (between cut most_rows os)) c.total_of-below.ensures c.high_key.ensures)
+          ∙ halve_table a.source.t ws os a.source.start c.requires.sourced cut where_cut small a.table.now a.first a.second key middle;
     }

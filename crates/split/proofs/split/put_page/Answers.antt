@@ -5,7 +5,7 @@ use lib.ListN.{length}
 use borrow.Rule.Slice.PartMut.{mid_of, mid_len}
 use Rattle.tree.specs.Row.{page_words}
 use Rattle.page.specs.PageValue.{encode_page}
-use Rattle.split.proofs.SplitLaws.{put_part}
+use Rattle.words.proofs.OverwriteLaws.{put_part}
 use Rattle.split.proofs.split.put_page.Goals as goal
 
 pub returns : goal.returns

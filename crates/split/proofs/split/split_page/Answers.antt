@@ -13,8 +13,8 @@ use Rattle.split.proofs.SplitRows.{live_count, sourced, split_copied, split_halv
 use Rattle.tree.proofs.UseLaws.{taken_inside}
 use Rattle.split.proofs.split.split_page.Goals as goal
 
-pub copy_rows-requires : goal.copy_rows-requires
-copy_rows-requires c = let a = c.args in
+pub copy_rows-requires-clause-page_words_in_bounds : goal.copy_rows-requires-clause-page_words_in_bounds
+copy_rows-requires-clause-page_words_in_bounds c = let a = c.args in
     let ws = a.words.now in
     let from = sourced a.t ws _ c.key_order-start.new.order c.key_order-start.result c.requires.words_len c.requires.words_bound refl
     c.key_order-start.ensures.rows_value c.key_order-start.ensures.order_after in
@@ -27,11 +27,7 @@ copy_rows-requires c = let a = c.args in
     subst (HasPages a.table.now a.used) made c.requires.has_pages in
     let first : c.taken_page-number.result ≡ taken_page a.used a.made = c.taken_page-number.ensures in
     let inside = taken_inside a.used c.requires.takes a.made (a.made + 1) a.table.now has (omega arith) in
-    record {
-      sourced = from;
-      most_rows_bound = omega (arith, live, few);
-      page_words_in_bounds = omega (arith, inside, first);
-    }
+    omega (arith, inside, first)
 
 pub returns-then-start-le-COPIED : goal.returns-then-start-le-COPIED
 returns-then-start-le-COPIED c = let a = c.args in

@@ -25,7 +25,6 @@ is_held-requires c =
     let noted = c.note_lows-noted.result in
     record {
       ranges_len_bound = search rules;
-      noted_len = search rules;
       ranges_nonzero = λ e. may_hold a.high a.ranges.now a.low (omega arith)
           (noted_may_stop a.high a.ranges.now noted a.low (search rules) c.note_lows-noted.ensures e);
     }
@@ -35,7 +34,7 @@ returns-then-is_held c =
     let a = c.args in
     rw (tiles_by_spans a.low a.high a.ranges.now (omega arith), ← c.spanned_total.ensures, eq-eqb _ _ c.if-spanned_total-past.false, sym c.is_held.ensures ∙ c.if-is_held.true, c.each_goes_on.ensures)
 
-pub returns : goal.returns
-returns c =
+pub returns-else-is_held : goal.returns-else-is_held
+returns-else-is_held c =
     let a = c.args in
-    rw (tiles_by_spans a.low a.high a.ranges.now (omega arith), ← c.spanned_total.ensures, eq-eqb _ _ c.if-spanned_total-past.false, sym c.is_held.ensures ∙ c.if-is_held.false)
+    rw (tiles_by_spans a.low a.high a.ranges.now (omega arith), ← c.spanned_total.ensures, eq-eqb _ _ c.if-spanned_total-past.false, sym c.is_held.ensures ∙ c.if-is_held.false) c.if-is_held.false

@@ -1,12 +1,11 @@
 use native.Mathlib.Omega.{arith}
 use mathlib.Core.Path.{refl, ap₂, ◌∙◌}
 use Rattle.tree.specs.declared.types.TreeUse.{TreeUse}
-use Rattle.store.specs.declared.types.FoundPass.TheVariants.{At}
+use Rattle.store.specs.Head.{found_at}
 use Rattle.store.specs.declared.types.TreeName.TheVariants.{Ends, Time}
 use Rattle.store.specs.Trees.{with_use}
 use Rattle.store.specs.Writing.{ended_head}
 use Rattle.store.proofs.TreeLaws.{same_lent}
-use borrow.Author.Rules.{rules}
 use Rattle.updates.proofs.writing.end_pass.Goals as goal
 
 pub overflow_cast-pass : goal.overflow_cast-pass
@@ -28,8 +27,8 @@ ended_head-requires c =
       count_le_open_limit = c.requires.count;
     }
 
-pub returns : goal.returns
-returns c = λ start_table start_roots.
+pub returns-clause-replied : goal.returns-clause-replied
+returns-clause-replied c = λ starts.
     let a = c.args in
     let entered = rw c.one_pass-value.ensures at c.enter-ends_after.ensures in
     let timed = rw c.time_at_end-line.ensures at c.enter-time_after.ensures in
@@ -37,6 +36,6 @@ returns c = λ start_table start_roots.
       answer = refl;
       head =
           c.ended_head.ensures a.pass
-          ∙ ap₂ (λ (used used' : TreeUse). ended_head (with_use (with_use a.head Ends used) Time used') a.tick (At a.place a.pass)) entered.use_is timed.use_is;
+          ∙ ap₂ (λ (used used' : TreeUse). ended_head (with_use (with_use a.head Ends used) Time used') a.tick (found_at a.place a.pass)) entered.use_is timed.use_is;
       lent_is = same_lent refl refl entered.table_is entered.roots_are timed.table_is timed.roots_are;
     }

@@ -1,28 +1,35 @@
 use native.Mathlib.Omega.{arith}
-use mathlib.Core.Path.{sym, ◌∙◌}
-use Rattle.store.specs.Trees.{Store, store_of}
+use mathlib.Core.Path.{refl, ap₂, sym, ◌∙◌}
+use Rattle.store.specs.Trees.{LentTree}
+use Rattle.store.specs.Lending.{words_of, words_in, store_with}
 use Rattle.store.specs.Calls.{start}
+use Rattle.store.specs.Performing.{refusal}
+use Rattle.store.proofs.RefusedNumbers.{numbered}
 use Rattle.refusals.proofs.Outcomes.{call_refused, call_served}
 use Rattle.replies.proofs.RepliesAs.{replied, refused_reply_lem}
 use Rattle.updates.proofs.StartReplies.{start_accepted}
-use borrow.Author.Rules.{rules}
 use Rattle.updates.proofs.writing.start.Goals as goal
 
-pub returns-then-refusal-ne0 : goal.returns-then-refusal-ne0
-returns-then-refusal-ne0 c =
+pub returns-in-Err-clause-replied : goal.returns-in-Err-clause-replied
+returns-in-Err-clause-replied c =
     let a = c.args in
-    let s : Store = store_of a.head a.start_table.now a.start_roots.now a.end_table.now a.end_roots.now a.time_table.now a.time_roots.now in
-    replied (call_refused s (start a.tick a.key a.weight) c.start_refusal-refusal.ensures c.if-refusal-ne0.true) (refused_reply_lem s c.start_refusal-refusal.result c.refused.ensures)
+    let call = start a.tick a.key a.weight in
+    let seen = ap₂ (λ (starts time : LentTree). refusal (store_with a.head starts (words_in a.ends) time) call) c.view.ensures c.view-2.ensures in
+    let s = store_with a.head (words_of a.starts.now) (words_in a.ends) (words_of a.time.now) in
+    replied (call_refused s call (c.in-Err.ensures ∙ seen) (numbered _)) (refused_reply_lem s _ c.refused.ensures)
 
 pub start_pass-requires : goal.start_pass-requires
 start_pass-requires c =
     let a = c.args in
-    let s : Store = store_of a.head a.start_table.now a.start_roots.now a.end_table.now a.end_roots.now a.time_table.now a.time_roots.now in
-    let taken = start_accepted s a.tick a.key a.weight (omega (arith, c.ranges.tick.fits)) (sym c.start_refusal-refusal.ensures ∙ c.if-refusal-ne0.false) in
+    let call = start a.tick a.key a.weight in
+    let seen = ap₂ (λ (starts time : LentTree). refusal (store_with a.head starts (words_in a.ends) time) call) c.view.ensures c.view-2.ensures in
+    let s = store_with a.head (words_of a.starts.now) (words_in a.ends) (words_of a.time.now) in
+    let taken = start_accepted s a.tick a.key a.weight (omega (arith, c.ranges.tick.fits)) (sym (c.in_default.ensures ∙ seen)) in
     record { key = taken.key; place = taken.place; number = taken.number; planned = taken.planned; time_planned = taken.time_planned }
 
-pub returns : goal.returns
-returns c =
+pub returns-clause-replied : goal.returns-clause-replied
+returns-clause-replied c =
     let a = c.args in
-    let s : Store = store_of a.head a.start_table.now a.start_roots.now a.end_table.now a.end_roots.now a.time_table.now a.time_roots.now in
-    replied (call_served s (start a.tick a.key a.weight) c.start_refusal-refusal.ensures c.if-refusal-ne0.false) (c.start_pass.ensures a.end_table.now a.end_roots.now)
+    let call = start a.tick a.key a.weight in
+    let seen = ap₂ (λ (starts time : LentTree). refusal (store_with a.head starts (words_in a.ends) time) call) c.view.ensures c.view-2.ensures in
+    replied (call_served _ call (c.in_default.ensures ∙ seen) refl) (c.start_pass.ensures.replied (words_in a.ends))

@@ -28,9 +28,9 @@ started_head-requires c =
       started_lt_pass_limit = c.requires.number;
     }
 
-pub returns : goal.returns
+pub returns-clause-replied : goal.returns-clause-replied
 unfolding served
-returns c = λ end_table end_roots.
+returns-clause-replied c = λ ends.
     let a = c.args in
     let entered = rw c.one_pass-value.ensures at c.enter-starts_after.ensures in
     let timed = rw c.time_at_start-line.ensures at c.enter-time_after.ensures in

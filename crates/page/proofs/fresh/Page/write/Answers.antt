@@ -7,6 +7,7 @@ use native.Mathlib.Omega.{arith}
 use Prim.Native.Nat.{ℕ}
 use mathlib.Core.List.{List}
 use lib.ListN.{length-set}
+use lib.Seq.{length-take-le}
 use Rattle.words.specs.Overwrite.{overwrite}
 use Rattle.tree.proofs.Lists.{length_mapped}
 use Rattle.page.proofs.FreshLaws.{up_to, header_words_lem, row_words_lem, whole_words}
@@ -26,7 +27,6 @@ pub loop-place-init : goal.loop-place-init
 loop-place-init c = let a = c.args in
     let full : length a.self.rows ≡ row_limit = search (rules, length_mapped) in (
       search rules,
-      search rules,
       simp length-set (search rules),
       (a.words.now, search rules, rw c.key_range.ensures (header_words_lem a.words.now a.self (search rules) full)),
     )
@@ -35,18 +35,17 @@ pub loop-place-preserved : goal.loop-place-preserved
 loop-place-preserved c = let a = c.args in
     let l = c.loop-place in
     let full : length a.self.rows ≡ row_limit = search (rules, length_mapped) in
-    let base = l.invariant.3 in (
+    let base = l.invariant.2 in (
       search rules,
       search rules,
-      search rules,
-      (base.0, base.1, rw (c.put_row.ensures, base.2) (row_words_lem base.0 a.self base.1 full _ l.place (omega arith))),
+      (base.0, base.1, rw (c.put_row.ensures, base.2) (row_words_lem base.0 a.self base.1 full _ l.place (omega (arith, length-take-le a.self.count a.self.rows (omega arith))) (search rules))),
     )
 
 pub returns : goal.returns
 returns c = let a = c.args in
     let l = c.loop-place in
     let full : length a.self.rows ≡ row_limit = search (rules, length_mapped) in
-    let base = l.invariant.3 in
+    let base = l.invariant.2 in
     let n = a.self.count in
     let here : l.place ≡ n = omega arith in
     c.clear_from.ensures

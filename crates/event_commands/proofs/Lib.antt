@@ -1,2 +1,0 @@
--- Laws of the commands that enter points.
-pub mod EventReplies

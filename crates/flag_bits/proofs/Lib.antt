@@ -1,2 +1,0 @@
--- Laws of flags.
-pub mod FlagLaws

@@ -1,2 +1,0 @@
--- Laws of commands in a piece.
-pub mod FramingLaws

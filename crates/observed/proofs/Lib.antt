@@ -1,2 +1,0 @@
--- Laws of the comparison of answers.
-pub mod SameNumbers

@@ -1,2 +1,0 @@
--- When two answers are the same, as definitions.
-pub mod Answers

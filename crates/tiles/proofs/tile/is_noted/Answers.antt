@@ -1,6 +1,0 @@
-use Prim.Native.Nat.{◌%◌}
-use native.Mathlib.Omega.{arith}
-use Rattle.tiles.proofs.tile.is_noted.Goals as goal
-
-pub overflow_cast-result : goal.overflow_cast-result
-overflow_cast-result c = omega (arith, c.shared_slice_known-1.given (c.args.key % 512))
