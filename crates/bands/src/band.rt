@@ -5,8 +5,9 @@ ghost use Rattle.store.specs.Reading.{pages_of};
 ghost use Rattle.bands.specs.Bands.{without, in_band, band_before};
 
 use crate::keys::Band;
+use live::ForTwo;
 use lookup::lookup_at;
-use lookup_two::{Keys, lookup_two_at};
+use lookup_two::lookup_two_at;
 use roots::find_root;
 use tree::{Lookup, SpoiledPage, TreePages};
 use words::Value;
@@ -44,7 +45,7 @@ pub fn lookup_band(
     if band.k1 == 0 {
         return lookup_at(tree, root, t, last_key);
     }
-    let keys = Keys {
+    let keys = ForTwo {
         lower: (band.k1 - 1) as u16,
         upper: last_key,
     };

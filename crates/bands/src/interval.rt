@@ -6,7 +6,8 @@ ghost use Rattle.bands.specs.Bands.{without, in_band, band_before};
 
 use crate::band::{lookup_band, lookup_band_before, without};
 use crate::keys::Band;
-use lookup_two::{Keys, LookupTwo, lookup_ticks_at};
+use live::ForTwo;
+use lookup_two::lookup_ticks_at;
 use roots::{find_root, skip_later};
 use tree::{Lookup, SpoiledPage, TreePages, TreeUse};
 
@@ -18,7 +19,7 @@ pub struct TwoBands {
 }
 
 // The band between two keys that were looked up together.
-fn band_between(two: LookupTwo) -> Result<Lookup, SpoiledPage>
+fn band_between(two: ForTwo<Result<Lookup, SpoiledPage>>) -> Result<Lookup, SpoiledPage>
     requires upper_bound { pages_of two.upper ≤ 8 }
     requires lower_bound { pages_of two.lower ≤ 8 }
     ensures { result ≡ without two.upper two.lower }
@@ -51,7 +52,7 @@ fn lookup_together(tree: TreePages, roots: &[u64], band: Band, t1: u32, t2: u32)
     let entries = tree.used.roots as usize;
     let later = find_root(roots, entries, t2 - 1);
     let earlier = find_root(roots, entries, t1 - 1);
-    let keys = Keys {
+    let keys = ForTwo {
         lower: (band.k1 - 1) as u16,
         upper: (band.k2 - 1) as u16,
     };

@@ -5,7 +5,7 @@ ghost use Rattle.c_answers.specs.Said.{number_said};
 
 use store::Answer;
 
-// An answer's refusal, 0 for none.
+// An answer's refusal, 0 for none: C is given a number.
 pub fn refusal_of(answer: Answer) -> u8
     ensures { result ≡ refusal_of answer }
 {

@@ -24,7 +24,7 @@ pub fn tell(answer: Answer, count: &mut u64, sum: &mut u64, pages: &mut u32) -> 
     refusal_of(answer)
 }
 
-// Writes the total and the pages of an answer about bat-time, and returns its refusal, 0 for none.
+// Writes the total and the pages of an answer about bat-time, and returns its refusal, 0 for none: a function of its own, since C lends two numbers for it and not three.
 pub fn tell_time(answer: Answer, total: &mut u64, pages: &mut u32) -> u8
     ensures { let before : List ℕ = total.old ∷ (pages.old ∷ []) in
         let after : List ℕ = total.new ∷ (pages.new ∷ []) in

@@ -16,11 +16,11 @@ use rows::{page_at, row_at, row_start};
 use tree::{ExpectedPage, Held, Row, SpoiledPage, TreePages};
 use words::Value;
 
-// What a page has for two keys at one tick.
+// What belongs to each of two keys that are looked up together.
 #[derive(Clone, Copy)]
-pub struct HeldTwo {
-    pub lower: Result<Held, SpoiledPage>,
-    pub upper: Result<Held, SpoiledPage>,
+pub struct ForTwo<T> {
+    pub lower: T,
+    pub upper: T,
 }
 
 // The value of the row at a place.
@@ -113,7 +113,7 @@ pub fn read_page_for_two(
     t: u32,
     lower_key: u16,
     upper_key: u16,
-) -> HeldTwo
+) -> ForTwo<Result<Held, SpoiledPage>>
     ensures lower_value { result.lower ≡ opened (tree_of_pages tree.entry) t lower_key expected.level expected.low expected.high expected.page }
     ensures upper_value { result.upper ≡ opened (tree_of_pages tree.entry) t upper_key expected.level expected.low expected.high expected.page }
 {
@@ -136,5 +136,5 @@ pub fn read_page_for_two(
         &places,
         upper_key,
     );
-    HeldTwo { lower, upper }
+    ForTwo { lower, upper }
 }

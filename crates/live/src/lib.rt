@@ -7,5 +7,5 @@ mod live;
 mod survey;
 mod test;
 
-pub use held::{HeldTwo, read_page, read_page_for_two};
+pub use held::{ForTwo, read_page, read_page_for_two};
 pub use survey::{Survey, survey_page, survey_sound};

@@ -26,6 +26,7 @@ fn is_live_past(life: u64, t: u32, ended: u64) -> bool
 
 // Leaves the page's live rows at the front of both arrays and returns how many there are. Every row is written behind the live ones so far,
 // and the next is written over it unless it is live: no branch depends on a row.
+// The arrays are not one struct: that was tried and proves, but a plan takes some 3 in 100 longer.
 pub fn list_live(page: &[u64], rows: usize, t: u32, ranges: &mut [u32], places: &mut [u8]) -> usize
     requires rows_le_row_limit { rows ≤ row_limit }
     requires rows_in_bounds { row_start rows ≤ length page.now }

@@ -5,4 +5,4 @@ mod ticks;
 mod together;
 
 pub use ticks::{LookupTicks, lookup_ticks_at};
-pub use together::{Keys, LookupTwo, lookup_two_at};
+pub use together::lookup_two_at;

@@ -9,8 +9,8 @@ ghost use Rattle.roots.specs.TopPage.{TopFits};
 ghost use Rattle.lookup.specs.Descent.{Wide, lookup_held};
 ghost use Rattle.lookup_two.specs.Ahead.{FewPages, Begins, LeadsTo};
 
-use crate::together::{Keys, LookupTwo, descend_from_page, fork_of};
-use live::{HeldTwo, read_page_for_two};
+use crate::together::{descend_from_page, fork_of};
+use live::{ForTwo, read_page_for_two};
 use lookup::descend_from;
 use roots::{Top, find_top};
 use tree::{ExpectedPage, Held, Lookup, SpoiledPage, TreePages};
@@ -19,26 +19,26 @@ use words::Value;
 // What the lookups of two keys answer at each of two ticks.
 #[derive(Clone, Copy)]
 pub struct LookupTicks {
-    pub later: LookupTwo,
-    pub earlier: LookupTwo,
+    pub later: ForTwo<Result<Lookup, SpoiledPage>>,
+    pub earlier: ForTwo<Result<Lookup, SpoiledPage>>,
 }
 
 // The page of a root, opened for two keys: its level, and what it has for each.
 #[derive(Clone, Copy)]
 struct RootPage {
     level: u64,
-    held: HeldTwo,
+    held: ForTwo<Result<Held, SpoiledPage>>,
 }
 
 // Opens the page that both descents start at. Where there is none, both have met a spoiled page.
-fn open_root(tree: TreePages, top: Result<Top, SpoiledPage>, t: u32, keys: Keys) -> RootPage
+fn open_root(tree: TreePages, top: Result<Top, SpoiledPage>, t: u32, keys: ForTwo<u16>) -> RootPage
     requires top_fits { TopFits top }
     ensures level_le_top_level { result.level ≤ top_level }
     ensures begins { Begins (tree_of_pages tree.entry) t keys.lower top result.level result.held.lower }
     ensures begins_2 { Begins (tree_of_pages tree.entry) t keys.upper top result.level result.held.upper }
 {
     let Ok(top) = top else {
-        let spoiled = HeldTwo {
+        let spoiled = ForTwo {
             lower: Err(SpoiledPage),
             upper: Err(SpoiledPage),
         };
@@ -89,7 +89,7 @@ fn look_ahead_for_two(tree: TreePages, root: RootPage) -> RootPage
 {
     let level = root.level;
     let held = root.held;
-    let ahead = HeldTwo {
+    let ahead = ForTwo {
         lower: look_ahead(tree, level, held.lower),
         upper: look_ahead(tree, level, held.upper),
     };
@@ -109,7 +109,12 @@ fn add_page(value: Value, rest: Result<Lookup, SpoiledPage>) -> Result<Lookup, S
 }
 
 // From the page of a root down to the leaves: on with both keys together where it leads them to one page.
-fn descend_root(tree: TreePages, root: RootPage, t: u32, keys: Keys) -> LookupTwo
+fn descend_root(
+    tree: TreePages,
+    root: RootPage,
+    t: u32,
+    keys: ForTwo<u16>,
+) -> ForTwo<Result<Lookup, SpoiledPage>>
     requires level_le_top_level { root.level ≤ top_level }
     requires wide { Wide root.held.lower }
     requires wide_2 { Wide root.held.upper }
@@ -120,7 +125,7 @@ fn descend_root(tree: TreePages, root: RootPage, t: u32, keys: Keys) -> LookupTw
     let held = root.held;
     let Some(shared) = fork_of(level, held) else {
         let nothing = Value::zero();
-        return LookupTwo {
+        return ForTwo {
             lower: descend_from(tree, held.lower, level, nothing, 0, t, keys.lower),
             upper: descend_from(tree, held.upper, level, nothing, 0, t, keys.upper),
         };
@@ -133,7 +138,7 @@ fn descend_root(tree: TreePages, root: RootPage, t: u32, keys: Keys) -> LookupTw
         high: row.high,
     };
     let below = descend_from_page(tree, child, t, keys);
-    LookupTwo {
+    ForTwo {
         lower: add_page(shared.lower, below.lower),
         upper: add_page(shared.upper, below.upper),
     }
@@ -146,7 +151,7 @@ pub fn lookup_ticks_at(
     later_tick: u32,
     earlier: Option<u32>,
     earlier_tick: u32,
-    keys: Keys,
+    keys: ForTwo<u16>,
 ) -> LookupTicks
     ensures lower_value { result.later.lower ≡ lookup_root (tree_of_pages tree.entry) later_tick keys.lower later }
     ensures upper_value { result.later.upper ≡ lookup_root (tree_of_pages tree.entry) later_tick keys.upper later }

@@ -7,25 +7,11 @@ ghost use Rattle.tree.specs.Taking.{tree_of_pages};
 ghost use Rattle.tree.specs.Lookup.{lookup_from, lookup_root};
 ghost use Rattle.lookup_two.specs.Together.{ForkAs};
 
-use live::{HeldTwo, read_page_for_two};
+use live::{ForTwo, read_page_for_two};
 use lookup::descend_from;
 use roots::{Top, find_top};
-use tree::{ExpectedPage, Lookup, Row, SpoiledPage, TreePages};
+use tree::{ExpectedPage, Held, Lookup, Row, SpoiledPage, TreePages};
 use words::Value;
-
-// Two keys to look up together.
-#[derive(Clone, Copy)]
-pub struct Keys {
-    pub lower: u16,
-    pub upper: u16,
-}
-
-// What two lookups answer.
-#[derive(Clone, Copy)]
-pub struct LookupTwo {
-    pub lower: Result<Lookup, SpoiledPage>,
-    pub upper: Result<Lookup, SpoiledPage>,
-}
 
 // A row that two paths have in common, and the true value that each adds there.
 #[derive(Clone, Copy)]
@@ -36,7 +22,7 @@ pub struct Shared {
 }
 
 // Where two paths go from a page that both have: to one child page, which then must have one key range for both, or each on its own.
-pub fn fork_of(level: u64, held: HeldTwo) -> Option<Shared>
+pub fn fork_of(level: u64, held: ForTwo<Result<Held, SpoiledPage>>) -> Option<Shared>
     ensures { ForkAs level held.lower held.upper result }
 {
     if level == 0 {
@@ -67,7 +53,12 @@ pub fn fork_of(level: u64, held: HeldTwo) -> Option<Shared>
 }
 
 // From a page of a level and a key range down to the leaves: together as far as the paths have their pages in common, then each on its own.
-pub fn descend_from_page(tree: TreePages, first: ExpectedPage, t: u32, keys: Keys) -> LookupTwo
+pub fn descend_from_page(
+    tree: TreePages,
+    first: ExpectedPage,
+    t: u32,
+    keys: ForTwo<u16>,
+) -> ForTwo<Result<Lookup, SpoiledPage>>
     requires { first.level ≤ top_level }
     ensures lower_value { result.lower ≡ lookup_from (tree_of_pages tree.entry) t keys.lower first.level first.low first.high first.page }
     ensures upper_value { result.upper ≡ lookup_from (tree_of_pages tree.entry) t keys.upper first.level first.low first.high first.page }
@@ -79,7 +70,7 @@ pub fn descend_from_page(tree: TreePages, first: ExpectedPage, t: u32, keys: Key
     let mut pages: u32 = 0;
     loop {
         let Some(shared) = fork_of(level, held) else {
-            break LookupTwo {
+            break ForTwo {
                 lower: descend_from(tree, held.lower, level, lower_total, pages, t, keys.lower),
                 upper: descend_from(tree, held.upper, level, upper_total, pages, t, keys.upper),
             };
@@ -100,7 +91,12 @@ pub fn descend_from_page(tree: TreePages, first: ExpectedPage, t: u32, keys: Key
 }
 
 // From the page of a root down to the leaves.
-fn descend_together(tree: TreePages, top: Top, t: u32, keys: Keys) -> LookupTwo
+fn descend_together(
+    tree: TreePages,
+    top: Top,
+    t: u32,
+    keys: ForTwo<u16>,
+) -> ForTwo<Result<Lookup, SpoiledPage>>
     requires { top.level ≤ top_level }
     ensures lower_value { result.lower ≡ lookup_from (tree_of_pages tree.entry) t keys.lower top.level 0 key_limit top.page }
     ensures upper_value { result.upper ≡ lookup_from (tree_of_pages tree.entry) t keys.upper top.level 0 key_limit top.page }
@@ -115,12 +111,17 @@ fn descend_together(tree: TreePages, top: Top, t: u32, keys: Keys) -> LookupTwo
 }
 
 // The lookups of two keys from the root for t. The pages are counted for each path, also those that both have.
-pub fn lookup_two_at(tree: TreePages, root: Option<u32>, t: u32, keys: Keys) -> LookupTwo
+pub fn lookup_two_at(
+    tree: TreePages,
+    root: Option<u32>,
+    t: u32,
+    keys: ForTwo<u16>,
+) -> ForTwo<Result<Lookup, SpoiledPage>>
     ensures lower_value { result.lower ≡ lookup_root (tree_of_pages tree.entry) t keys.lower root }
     ensures upper_value { result.upper ≡ lookup_root (tree_of_pages tree.entry) t keys.upper root }
 {
     let Ok(top) = find_top(tree, root) else {
-        return LookupTwo {
+        return ForTwo {
             lower: Err(SpoiledPage),
             upper: Err(SpoiledPage),
         };

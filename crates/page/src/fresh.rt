@@ -9,7 +9,7 @@ use rows::{new_row, put_row, row_start};
 use tree::Row;
 use words::Value;
 
-// A page: its header, and the rows in its first `count` places.
+// A page: its header, and the rows in its first `count` places, since nothing is allocated.
 #[derive(Clone, Copy)]
 pub struct Page {
     pub level: u64,

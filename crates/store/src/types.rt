@@ -42,7 +42,7 @@ pub struct FoundPass {
     pub pass: OpenPass,
 }
 
-// The head: the last tick, the number of passes started, the open passes (the first `count` places), and what each tree uses.
+// The head: the last tick, the number of passes started, the open passes (the first `count` places, since nothing is allocated), and what each tree uses.
 #[derive(Clone, Copy)]
 pub struct Head {
     pub last: u32,
@@ -83,7 +83,7 @@ impl Head {
     }
 }
 
-// What a call answers.
+// What a call answers. A refusal is its number here and no `Refusal`: the theorems on whole lists of calls (`Demand`), the stream, the register block and C speak of it.
 #[derive(Clone, Copy, PartialEq, Eq)]
 pub enum Answer {
     Refused(u8),

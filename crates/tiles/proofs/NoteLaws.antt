@@ -1,16 +1,16 @@
 -- The notes of the tile test: in every slot stands a key at which a range may stop.
-use Prim.Native.Nat.{ℕ, zero, suc, ◌%◌, ◌<◌}
+use Prim.Native.Nat.{ℕ, zero, suc, ◌<◌}
 use native.Mathlib.Omega.{arith}
-use mathlib.Core.Path.{◌≡◌, refl, sym, ap, ◌∙◌}
+use mathlib.Core.Path.{◌≡◌, refl}
 use mathlib.Core.Bool.{Bool, true, false, ◌||◌}
 use mathlib.Core.List.{List}
-use lib.Dec.{eqb, leb, ltb}
+use lib.Dec.{eqb, ltb}
 use lib.ListN.{length, get_or, replicate}
-use borrow.Author.Tests.{leb-false, ltb-true, eqb-true, le-leb, lt-ltb, eq-eqb, ne_eqb}
-use Rattle.tree.proofs.Lists.{All, all_at, count_at}
+use borrow.Author.Tests.{leb-false, le-leb, lt-ltb, eq-eqb}
+use Rattle.tree.proofs.Lists.{All, count_at}
 use Rattle.words.specs.Sums.{count}
 use Rattle.ranges.specs.KeyRanges.{range_low, range_high, holds_key}
-use Rattle.tiles.specs.TileTest.{is_empty, goes_on, slots, may_stop, Noted}
+use Rattle.tiles.specs.TileTest.{is_empty, may_stop}
 use Rattle.tiles.proofs.TileLaws.{some_holder}
 
 or_second : (a b : Bool) → b ≡ true → (a || b) ≡ true
@@ -44,23 +44,3 @@ module _ (ranges : List ℕ) (at : ℕ) (inside : at < length ranges) (none : co
 module _ (high : ℕ) (ranges : List ℕ) where
   pub high_may_stop : may_stop high ranges high ≡ true
   high_may_stop = rw (eq-eqb high high refl)
-
-  pub may_hold : (q : ℕ) → q < high → may_stop high ranges q ≡ true → 0 < count (holds_key q) ranges
-  may_hold q h e =
-      let below : ltb 0 (count (holds_key q) ranges) ≡ true = rw (ne_eqb q high (λ s. absurd (omega arith))) at e in
-      ltb-true 0 (count (holds_key q) ranges) below
-
-  pub may_go_on : (low q : ℕ) → may_stop high ranges q ≡ true → goes_on low high ranges q ≡ true
-  may_go_on low q e = go (eqb q high) refl
-    where
-      go : (b : Bool) → eqb q high ≡ b → goes_on low high ranges q ≡ true
-      go true s = rw (le-leb high q (omega (arith, eqb-true q high s))) (or_second (leb q low) true refl)
-      go false s =
-          let held : ltb 0 (count (holds_key q) ranges) ≡ true = rw s at e in
-          or_second (leb q low) (leb high q || ltb 0 (count (holds_key q) ranges)) (or_second (leb high q) (ltb 0 (count (holds_key q) ranges)) held)
-
-  -- What is noted of a key is true
-  pub noted_may_stop : (noted : List ℕ) (key : ℕ) → length noted ≡ slots → Noted high ranges noted → get_or noted (key % slots) 0 ≡ key
-      → may_stop high ranges key ≡ true
-  noted_may_stop noted key l all e =
-      ap (may_stop high ranges) (sym e) ∙ all_at (λ (q : ℕ). may_stop high ranges q ≡ true) noted (key % slots) 0 all (omega arith)

@@ -10,7 +10,6 @@ use Rattle.words.specs.Sums.{sum_by, count}
 use Rattle.ranges.specs.KeyRanges.{range_low, range_high, holds_key}
 use Rattle.tiles.specs.TileTest.{larger, is_empty, clipped, spanned, stops_well, every, tiles}
 use Rattle.ranges.proofs.LesserLaws.{lesser_still}
-use Rattle.tiles.proofs.TileLaws.{clipped_small}
 
 -- The larger of two numbers is at least the first
 larger_least : (a b : ℕ) → a ≤ larger a b
@@ -25,13 +24,6 @@ empty_none : (low high e : ℕ) → is_empty e ≡ true → clipped low high e �
 empty_none low high e h =
     let none : range_high e ≤ range_low e = leb-true (range_high e) (range_low e) h in
     omega (arith, lesser_still (range_high e) high (range_high e) (omega arith), larger_least (range_low e) low)
-
-pub spanned_small : (low high e : ℕ) → high < 65536 → spanned low high e ≤ 65536
-spanned_small low high e h = go (is_empty e)
-  where
-    go : (b : Bool) → cond b 65536 (clipped low high e) ≤ 65536
-    go true = omega arith
-    go false = omega (arith, clipped_small low high e)
 
 module _ (low high : ℕ) where
   spans_are : (ranges : List ℕ) → sum_by (spanned low high) ranges ≡ sum_by (clipped low high) ranges + 65536 * count is_empty ranges

@@ -1,19 +1,14 @@
 -- The parts of the tile test on key ranges, one law for each way through the code.
 use Prim.Native.Nat.{ℕ, ◌+◌, ◌≤◌, ◌<◌}
-use native.Mathlib.Omega.{arith}
 use mathlib.Core.Path.{◌≡◌}
 use mathlib.Core.Bool.{Bool, true, false}
 use mathlib.Core.List.{List}
 use lib.ListN.{length, get_or, drop}
 use Rattle.words.specs.Sums.{count}
-use Rattle.ranges.specs.KeyRanges.{range_high, holds_key}
-use Rattle.tiles.specs.TileTest.{clipped, every}
+use Rattle.ranges.specs.KeyRanges.{holds_key}
+use Rattle.tiles.specs.TileTest.{every}
 use Rattle.tree.proofs.Lists.{count_at}
-use Rattle.ranges.proofs.LesserLaws.{lesser_most}
 use Rattle.words.proofs.LoopLaws.{drop_here, drop_none}
-
-pub clipped_small : (low high e : ℕ) → clipped low high e ≤ high
-clipped_small low high e = omega (arith, lesser_most (range_high e) high high (omega arith))
 
 -- A range that holds a key is counted
 pub some_holder : (q : ℕ) (ranges : List ℕ) (at : ℕ) → at < length ranges → holds_key q (get_or ranges at 0) ≡ true → 0 < count (holds_key q) ranges

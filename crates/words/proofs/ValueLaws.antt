@@ -1,5 +1,5 @@
 -- The laws of adding values: the order and the grouping do not matter, and the zero adds nothing to a value of two 64-bit words.
-use Rattle.std.proofs.Common.{◌≡◌, ℕ, zero, suc, ◌+◌, ◌-◌, ◌^◌, ◌<◌, ◌≤◌, Bool, true, false, cond, List, length, get_or, sym, refl, ap, ◌∙◌, arith, ext_get_or}
+use Rattle.std.proofs.Common.{◌≡◌, ℕ, zero, suc, ◌+◌, ◌-◌, ◌^◌, ◌<◌, ◌≤◌, List, length, get_or, sym, refl, ap, ◌∙◌, arith, ext_get_or}
 use native.Mathlib.Decide.{dec_lt}
 use Rattle.words.specs.declared.value.Value.{Value}
 use Rattle.words.specs.Value.{plus, value_words, value_at, encode_value}
@@ -89,8 +89,3 @@ pub plus_cancel : (a x y : Value) → Stored x → Stored y → plus a x ≡ plu
 unfolding plus
 plus_cancel a x y h k e =
     value_path (omega (arith, h.0, k.0, ap (λ (v : Value). v.count) e)) (omega (arith, h.1, k.1, ap (λ (v : Value). v.sum) e))
-
--- A value of which each word counts or not
-pub only_if : (b : Bool) (v : Value) → ◌≡◌ {A = Value} (record { count = cond b v.count 0; sum = cond b v.sum 0 }) (cond b v value.zero)
-only_if true v = refl
-only_if false v = refl

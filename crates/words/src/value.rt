@@ -10,14 +10,6 @@ pub struct Value {
     pub sum: u64,
 }
 
-// The word once, or no times.
-fn word_times(word: u64, factor: u64) -> u64
-    requires { factor ≤ 1 }
-    ensures { result ≡ (if nat_eq factor 1 then word else 0) }
-{
-    word * factor
-}
-
 impl Value {
     // The words that a value takes.
     pub const WORDS: usize = 2;
@@ -58,8 +50,8 @@ impl Value {
         ensures { result ≡ (if nat_eq factor 1 then self else zero) }
     {
         Value {
-            count: word_times(self.count, factor),
-            sum: word_times(self.sum, factor),
+            count: self.count * factor,
+            sum: self.sum * factor,
         }
     }
 

@@ -2,7 +2,6 @@ use native.Mathlib.Omega.{arith}
 use mathlib.Core.Path.{sym, ◌∙◌}
 use borrow.Author.Tests.{eq-eqb, ne_eqb}
 use Rattle.tiles.proofs.SpanLaws.{none_empty, tiles_by_spans}
-use Rattle.tiles.proofs.NoteLaws.{may_hold, noted_may_stop}
 use borrow.Author.Rules.{rules}
 use Rattle.tiles.proofs.tile.tiles.Goals as goal
 
@@ -17,16 +16,6 @@ note_lows-noted-requires c =
     record {
       ranges_len_bound = search rules;
       ranges_value = none_empty a.low a.high a.ranges.now (omega arith) (sym c.spanned_total.ensures ∙ c.if-spanned_total-past.false);
-    }
-
-pub is_held-requires : goal.is_held-requires
-is_held-requires c =
-    let a = c.args in
-    let noted = c.note_lows-noted.result in
-    record {
-      ranges_len_bound = search rules;
-      ranges_nonzero = λ e. may_hold a.high a.ranges.now a.low (omega arith)
-          (noted_may_stop a.high a.ranges.now noted a.low (search rules) c.note_lows-noted.ensures e);
     }
 
 pub returns-then-is_held : goal.returns-then-is_held
