@@ -1,6 +1,6 @@
--- The passes of the lent list: how many they are, the one of a number, one more, one ended.
+-- The passes of the lent list: how many they are, and one ended.
 use Rattle.std.proofs.Common.{◌≡◌, ℕ, zero, suc, ◌<◌, ◌≤◌, Bool, true, false, cond, eqb, List, [], ◌∷◌, map, take, length, get_or, set, sym, refl, ap, ◌∙◌, arith, ne_eqb}
-use Rattle.std.proofs.lemmas.List.{length-map, length-take-le, get_or-map, get_or-take}
+use Rattle.std.proofs.lemmas.List.{length-map, length-take-le, get_or-take}
 use Rattle.std.proofs.Math.Seq.{take-set-lt}
 use Rattle.words.specs.Words.{open_end}
 use Rattle.store.specs.Passes.{still_open, ended_at, Pass}
@@ -18,11 +18,6 @@ end_open e = go (eqb e open_end)
 
 pub passes_length : (ps : List ListedPass) (n : ℕ) → n ≤ length ps → length (passes_in ps n) ≡ n
 passes_length ps n room = length-map (take n ps) pass_of ∙ length-take-le n ps room
-
--- The pass of a number
-pub pass_numbered_lem : (ps : List ListedPass) (n i : ℕ) (d : Pass) (e : ListedPass) → i < n → n ≤ length ps → get_or (passes_in ps n) i d ≡ pass_of (get_or ps i e)
-pass_numbered_lem ps n i d e below room =
-    get_or-map pass_of (take n ps) i e d (omega (arith, length-take-le n ps room)) ∙ ap pass_of (get_or-take n ps i e below)
 
 -- One pass ended
 abbrev pub ended_pass : ℕ → ListedPass → ListedPass
