@@ -2,7 +2,7 @@
 ghost use Rattle.std.specs.Prelude.{◌≡◌, ◌+◌, ◌≤◌, length, take};
 ghost use Rattle.store.specs.Head.{open_limit};
 ghost use Rattle.words.specs.Overwrite.{overwrite};
-ghost use Rattle.c_heads.specs.Heads.{field_numbers, numbers_of_pass, numbers_of_one, numbers_of_passes, head_over};
+ghost use Rattle.c_heads.specs.Heads.{field_numbers, numbers_of_pass, head_numbers, numbers_of_one, numbers_of_passes, head_over};
 
 use store::{Head, OpenPass};
 
@@ -18,8 +18,9 @@ fn write_pass(numbers: &mut [u32], at: usize, pass: OpenPass)
 }
 
 // Writes the passes of the first places over their numbers.
-fn write_passes(numbers: &mut [u32; Head::NUMBERS], head: Head, places: usize)
-    requires { places ≤ open_limit }
+fn write_passes(numbers: &mut [u32], head: Head, places: usize)
+    requires numbers_len { length numbers.old ≡ head_numbers }
+    requires places_le_open_limit { places ≤ open_limit }
     ensures { numbers.new ≡ overwrite numbers.old field_numbers (numbers_of_passes (take places head.passes)) }
 {
     for (place, pass) in head.passes[..places].iter().enumerate() {
@@ -29,7 +30,8 @@ fn write_passes(numbers: &mut [u32; Head::NUMBERS], head: Head, places: usize)
 
 // Writes a head into its lent numbers. Of its open passes only those of the first places are written: the caller knows which places a call may have changed, and they
 // are few.
-pub fn put_head(head: Head, places: usize, numbers: &mut [u32; Head::NUMBERS])
+pub fn put_head(head: Head, places: usize, numbers: &mut [u32])
+    requires { length numbers.old ≡ head_numbers }
     ensures { numbers.new ≡ head_over numbers.old places head }
 {
     numbers[0] = head.last;

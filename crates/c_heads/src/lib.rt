@@ -4,5 +4,5 @@
 mod head_read;
 mod head_written;
 
-pub use head_read::{head_of, open_count};
+pub use head_read::{UNREAD, head_of, open_count, read_head};
 pub use head_written::put_head;

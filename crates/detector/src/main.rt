@@ -2,7 +2,7 @@
 #![tactic(auto)]
 
 ghost use Rattle.std.specs.Prelude.{◌≡◌, true, IfOk, OnErr};
-ghost use Rattle.store.specs.Trees.{Lent, Store};
+ghost use Rattle.store.specs.Trees.{Lent, lent_of, Store, store_of};
 ghost use Rattle.store.specs.Lending.{words_of, lent_to_trees, store_with, SameSlices};
 ghost use Rattle.command.specs.Stream.{program_tree};
 ghost use Rattle.command.specs.Pieces.{program_feed};
@@ -21,8 +21,8 @@ const ROOTS: usize = 10;
 
 const TABLE_WORDS: usize = PAGES * tree::PAGE_WORDS;
 
-// Opens the store in the program's tables and runs the input on it.
-fn run_program<R: Read, W: Write>(
+// Opens the store in the memory of three trees and runs the input on it.
+fn open_and_serve<R: Read, W: Write>(
     input: &mut R,
     output: &mut W,
     starts: &mut TreeMemory,
@@ -48,6 +48,49 @@ fn run_program<R: Read, W: Write>(
     serve(input, output, opened, starts, ends, time)
 }
 
+// Opens the store in the program's tables and runs the input on it.
+fn run_program<R: Read, W: Write>(
+    input: &mut R,
+    output: &mut W,
+    start_table: &mut [u64; TABLE_WORDS],
+    start_roots: &mut [u64; ROOTS],
+    end_table: &mut [u64; TABLE_WORDS],
+    end_roots: &mut [u64; ROOTS],
+    time_table: &mut [u64; TABLE_WORDS],
+    time_roots: &mut [u64; ROOTS],
+) -> io::Result<Left>
+    requires start_table_value { start_table.old ≡ program_tree.table }
+    requires start_roots_value { start_roots.old ≡ program_tree.roots }
+    requires end_table_value { end_table.old ≡ program_tree.table }
+    requires end_roots_value { end_roots.old ≡ program_tree.roots }
+    requires time_table_value { time_table.old ≡ program_tree.table }
+    requires time_roots_value { time_roots.old ≡ program_tree.roots }
+    ensures served { IfOk result
+        (λ left.
+        let after : Store = store_of left.head start_table.new start_roots.new end_table.new end_roots.new time_table.new time_roots.new in
+        Served program_feed after left.over) }
+    ensures says_output { IfOk result (λ left. left.over ≡ true → Says (R.remaining input.old) (R.remaining input.new) (W.contents output.old) (W.contents output.new)) }
+    ensures cut_short { let lent : Lent = lent_of start_table.new start_roots.new end_table.new end_roots.new time_table.new time_roots.new in
+        OnErr result (CutShort program_feed lent) }
+{
+    open_and_serve(
+        input,
+        output,
+        &mut TreeMemory {
+            table: start_table,
+            roots: start_roots,
+        },
+        &mut TreeMemory {
+            table: end_table,
+            roots: end_roots,
+        },
+        &mut TreeMemory {
+            table: time_table,
+            roots: time_roots,
+        },
+    )
+}
+
 fn main(rt: HostRuntime) -> io::Result<()> {
     let mut start_table = [0u64; TABLE_WORDS];
     let mut start_roots = [0u64; ROOTS];
@@ -58,18 +101,12 @@ fn main(rt: HostRuntime) -> io::Result<()> {
     run_program(
         &mut rt.stdin(),
         &mut rt.stdout(),
-        &mut TreeMemory {
-            table: &mut start_table,
-            roots: &mut start_roots,
-        },
-        &mut TreeMemory {
-            table: &mut end_table,
-            roots: &mut end_roots,
-        },
-        &mut TreeMemory {
-            table: &mut time_table,
-            roots: &mut time_roots,
-        },
+        &mut start_table,
+        &mut start_roots,
+        &mut end_table,
+        &mut end_roots,
+        &mut time_table,
+        &mut time_roots,
     )?;
     Ok(())
 }

@@ -10,7 +10,7 @@ use store::{Head, TreeMemory};
 
 // Runs a start or an end. It is a function of its own so that what a query is handed takes no stack while points are entered.
 pub fn run_event(
-    head: Head,
+    head: &Head,
     starts: &mut TreeMemory,
     ends: &mut TreeMemory,
     time: &mut TreeMemory,
@@ -20,7 +20,7 @@ pub fn run_event(
     ensures same_starts { SameSlices starts.old starts.new }
     ensures same_ends { SameSlices ends.old ends.new }
     ensures same_time { SameSlices time.old time.new }
-    ensures replied { let s : Store = store_with head (words_of starts.old) (words_of ends.old) (words_of time.old) in
+    ensures replied { let s : Store = store_with head.now (words_of starts.old) (words_of ends.old) (words_of time.old) in
         let left : Lent = lent_to_trees (words_of starts.new) (words_of ends.new) (words_of time.new) in
         RepliedAs (answered s operands.now (event_kind code)) result left }
 {
@@ -36,6 +36,6 @@ pub fn run_event(
             tick,
             number,
         ),
-        Err(refusal) => Reply::refused(refusal, head),
+        Err(refusal) => Reply::refused(refusal.number(), *head),
     }
 }

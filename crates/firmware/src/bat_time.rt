@@ -6,7 +6,7 @@ ghost use Rattle.c_answers.specs.Said.{Tells};
 ghost use Rattle.firmware.specs.Exported.{Handed, handed_of, store_in};
 
 use c_answers::tell_time;
-use c_heads::head_of;
+use c_heads::{UNREAD, read_head};
 use store::{Head, StoreView, TreeView};
 
 // Bat-time, of a question: the weight of each pass with such a key times the ticks in the window at which it lives, added up.
@@ -31,7 +31,8 @@ pub extern "C" fn nimbleshale_bat_time<'a>(
         let after : List ℕ = total.new ∷ (pages.new ∷ []) in
         Tells (perform (store_in handed) (bat_time k1 k2 t1 t2)).answer result before after }
 {
-    let own_head = head_of(head);
+    let mut own_head = UNREAD;
+    read_head(head, &mut own_head);
     let store = StoreView {
         head: &own_head,
         starts: TreeView {

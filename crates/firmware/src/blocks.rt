@@ -9,7 +9,7 @@ ghost use Rattle.firmware.specs.BlockCalls.{LeavesWrite};
 
 use crate::commands::nimbleshale_commands;
 use answer_codec::answer_bytes;
-use c_heads::{head_of, open_count};
+use c_heads::{UNREAD, open_count, read_head};
 use framing::LONGEST_ANSWER;
 use interpret::{answer_query, is_query};
 use registers::{
@@ -57,7 +57,8 @@ fn write_query(
 {
     put_command(block, code);
     let bytes = &block[..];
-    let own_head = head_of(head);
+    let mut own_head = UNREAD;
+    read_head(head, &mut own_head);
     let store = StoreView {
         head: &own_head,
         starts,
@@ -70,7 +71,7 @@ fn write_query(
 }
 
 // The radio side writes a byte at an offset. Byte 0 runs a command: head and slices are left as the stream's command leaves them. What every write looks at comes first
-// among the parameters, so that the processor has it at hand: a write that runs nothing, which a handler may make, needs no stack frame.
+// among the parameters, so that the processor has it at hand: a write that runs nothing, which a handler may make, returns at once.
 #[unsafe(no_mangle)]
 pub extern "C" fn nimbleshale_block_write<'a>(
     block: &mut [u8; BLOCK_BYTES],

@@ -7,9 +7,9 @@ ghost use Rattle.c_answers.specs.Said.{Tells};
 ghost use Rattle.firmware.specs.Exported.{Handed, handed_of, store_in};
 
 use c_answers::tell;
-use c_heads::head_of;
-use store::{Head, StoreView, TreeName, TreeView};
-use tree_lookups::lookup_in;
+use c_heads::{UNREAD, read_head};
+use store::{Head, StoreView, TreeView};
+use tree_lookups::{lookup_ends, lookup_starts, lookup_time};
 
 // The lookup of the tree of starts at (t, k).
 #[unsafe(no_mangle)]
@@ -32,7 +32,8 @@ pub extern "C" fn nimbleshale_lookup_starts<'a>(
         let after : List ℕ = count.new ∷ (sum.new ∷ (pages.new ∷ [])) in
         Tells (perform (store_in handed) (lookup_in Starts t k)).answer result before after }
 {
-    let own_head = head_of(head);
+    let mut own_head = UNREAD;
+    read_head(head, &mut own_head);
     let store = StoreView {
         head: &own_head,
         starts: TreeView {
@@ -48,7 +49,7 @@ pub extern "C" fn nimbleshale_lookup_starts<'a>(
             roots: time_roots,
         },
     };
-    let answer = lookup_in(&store, TreeName::Starts, t, k);
+    let answer = lookup_starts(&store, t, k);
     tell(answer, count, sum, pages)
 }
 
@@ -73,7 +74,8 @@ pub extern "C" fn nimbleshale_lookup_ends<'a>(
         let after : List ℕ = count.new ∷ (sum.new ∷ (pages.new ∷ [])) in
         Tells (perform (store_in handed) (lookup_in Ends t k)).answer result before after }
 {
-    let own_head = head_of(head);
+    let mut own_head = UNREAD;
+    read_head(head, &mut own_head);
     let store = StoreView {
         head: &own_head,
         starts: TreeView {
@@ -89,7 +91,7 @@ pub extern "C" fn nimbleshale_lookup_ends<'a>(
             roots: time_roots,
         },
     };
-    let answer = lookup_in(&store, TreeName::Ends, t, k);
+    let answer = lookup_ends(&store, t, k);
     tell(answer, count, sum, pages)
 }
 
@@ -115,7 +117,8 @@ pub extern "C" fn nimbleshale_lookup_time<'a>(
         let after : List ℕ = factor.new ∷ (constant.new ∷ (pages.new ∷ [])) in
         Tells (perform (store_in handed) (lookup_in Time t k)).answer result before after }
 {
-    let own_head = head_of(head);
+    let mut own_head = UNREAD;
+    read_head(head, &mut own_head);
     let store = StoreView {
         head: &own_head,
         starts: TreeView {
@@ -131,6 +134,6 @@ pub extern "C" fn nimbleshale_lookup_time<'a>(
             roots: time_roots,
         },
     };
-    let answer = lookup_in(&store, TreeName::Time, t, k);
+    let answer = lookup_time(&store, t, k);
     tell(answer, factor, constant, pages)
 }

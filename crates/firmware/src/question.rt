@@ -6,7 +6,7 @@ ghost use Rattle.c_answers.specs.Said.{Tells};
 ghost use Rattle.firmware.specs.Exported.{Handed, handed_of, store_in};
 
 use c_answers::tell;
-use c_heads::head_of;
+use c_heads::{UNREAD, read_head};
 use store::{Head, StoreView, TreeView};
 
 // "A question": passes with a key from k1 up to but not k2 that live at a tick from t1 up to but not t2.
@@ -32,7 +32,8 @@ pub extern "C" fn nimbleshale_question<'a>(
         let after : List ℕ = count.new ∷ (sum.new ∷ (pages.new ∷ [])) in
         Tells (perform (store_in handed) (question k1 k2 t1 t2)).answer result before after }
 {
-    let own_head = head_of(head);
+    let mut own_head = UNREAD;
+    read_head(head, &mut own_head);
     let store = StoreView {
         head: &own_head,
         starts: TreeView {

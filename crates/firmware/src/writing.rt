@@ -8,7 +8,7 @@ ghost use Rattle.c_answers.specs.Said.{number_said};
 ghost use Rattle.firmware.specs.Exported.{Handed, handed_of, store_in, Leaves};
 
 use c_answers::{number_of, refusal_of};
-use c_heads::{head_of, put_head};
+use c_heads::{UNREAD, head_of, put_head, read_head};
 use store::{Head, TreeMemory, TreeView};
 
 // A pass starts; its number goes into a lent number.
@@ -32,8 +32,10 @@ pub extern "C" fn nimbleshale_start<'a>(
     ensures number_after { let before : Handed = handed_of head.old start_table.old start_roots.old end_table.now end_roots.now time_table.old time_roots.old in
         number.new ≡ number_said number.old (values_of (perform (store_in before) (start tick key weight)).answer) }
 {
+    let mut own_head = UNREAD;
+    read_head(head, &mut own_head);
     let reply = updates::start(
-        head_of(head),
+        &own_head,
         &mut TreeMemory {
             table: start_table,
             roots: start_roots,
@@ -74,8 +76,10 @@ pub extern "C" fn nimbleshale_end<'a>(
         let after : Handed = handed_of head.new start_table.now start_roots.now end_table.new end_roots.new time_table.new time_roots.new in
         Leaves (perform (store_in before) (end tick number)) result before after }
 {
+    let mut own_head = UNREAD;
+    read_head(head, &mut own_head);
     let reply = updates::end(
-        head_of(head),
+        &own_head,
         TreeView {
             table: start_table,
             roots: start_roots,

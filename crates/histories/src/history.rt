@@ -2,7 +2,7 @@
 ghost use Rattle.std.specs.Prelude.{◌≤◌, ◌<◌};
 
 use made_calls::made;
-use observed::{Counts, Lives, head_agrees, height};
+use observed::{Counts, Lives, head_agrees, height, same};
 use outcomes::Outcome;
 use pass_book::{Call, book_turn};
 use pass_list::{ListedPass, PassBook};
@@ -65,7 +65,7 @@ fn words_kept(answer: Answer, unchanged: bool) -> bool {
 fn judged(counts: Counts, outcome: Outcome, said: Answer, agrees: bool) -> Counts {
     let found = outcome.answer;
     let called = counts.called(found, outcome.hints.for_time);
-    let answered = called.judged(found == said);
+    let answered = called.judged(same(found, said));
     answered
         .judged(agrees)
         .judged(words_kept(said, outcome.unchanged))
@@ -84,7 +84,8 @@ fn put_to_book(
 {
     let hints = outcome.hints;
     let call = run.call;
-    let turn = book_turn(passes, with_room(run.book), call, hints.lacking);
+    let lacking = hints.lacking.map_or(0, |refusal| refusal.number());
+    let turn = book_turn(passes, with_room(run.book), call, lacking);
     let book = turn.book;
     let answer = turn.answer;
     let said = with_pages(answer, hints.pages);

@@ -7,7 +7,6 @@ ghost use Rattle.command.specs.Stream.{is_query, query_kind, kind_of, answered};
 
 use codec::{number2, number4};
 use event_commands::run_event;
-use replies::Reply;
 use store::{Answer, Head, Refusal, StoreView, TreeMemory};
 
 // The command bytes of the queries, which only read the store.
@@ -39,31 +38,33 @@ pub fn answer_query(store: &StoreView, code: u8, operands: &[u8]) -> Answer
     )
 }
 
-// Runs a command, from its command byte and the bytes that follow it.
+// Runs a command, from its command byte and the bytes that follow it. The head stands in its place: most commands are queries, which leave it, and handed over and back it would
+// be copied for each of them.
 pub fn run_command(
-    head: Head,
+    head: &mut Head,
     starts: &mut TreeMemory,
     ends: &mut TreeMemory,
     time: &mut TreeMemory,
     code: u8,
     operands: &[u8],
-) -> Reply
+) -> Answer
     ensures same_starts { SameSlices starts.old starts.new }
     ensures same_ends { SameSlices ends.old ends.new }
     ensures same_time { SameSlices time.old time.new }
-    ensures replied { let s : Store = store_with head (words_of starts.old) (words_of ends.old) (words_of time.old) in
+    ensures replied { let s : Store = store_with head.old (words_of starts.old) (words_of ends.old) (words_of time.old) in
         let left : Lent = lent_to_trees (words_of starts.new) (words_of ends.new) (words_of time.new) in
-        RepliedAs (answered s operands.now (kind_of code)) result left }
+        RepliedAs (answered s operands.now (kind_of code)) (record { answer = result; head = head.new }) left }
 {
     if is_query(code) {
         let store = StoreView {
-            head: &head,
+            head: &*head,
             starts: starts.view(),
             ends: ends.view(),
             time: time.view(),
         };
-        let answer = answer_query(&store, code, operands);
-        return Reply { answer, head };
+        return answer_query(&store, code, operands);
     }
-    run_event(head, starts, ends, time, code, operands)
+    let reply = run_event(&*head, starts, ends, time, code, operands);
+    *head = reply.head;
+    reply.answer
 }

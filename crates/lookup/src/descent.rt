@@ -30,7 +30,7 @@ pub fn descend_from(
         total = total.plus(found.value);
         pages += 1;
         if level == 0 {
-            return Ok(Lookup {
+            break Ok(Lookup {
                 value: total,
                 pages,
             });

@@ -25,9 +25,9 @@ pub fn make(
     match call {
         Call::Open => opening::open(head, starts, ends, time),
         Call::Start { tick, key, weight } => {
-            updates::start(head, starts, ends.view(), time, tick, key, weight)
+            updates::start(&head, starts, ends.view(), time, tick, key, weight)
         }
-        Call::End { tick, number } => updates::end(head, starts.view(), ends, time, tick, number),
+        Call::End { tick, number } => updates::end(&head, starts.view(), ends, time, tick, number),
         Call::Ask(asked) => {
             let store = StoreView {
                 head: &head,

@@ -1,4 +1,6 @@
 // What was compared and what differed.
+ghost use Rattle.std.specs.Prelude.{◌≡◌, true};
+
 use crate::lives::Lives;
 use store::Answer;
 
@@ -20,6 +22,13 @@ pub struct Counts {
     pub most_ends: u64,
     // How many pages high the highest tree was at the end
     pub highest: u64,
+}
+
+// Whether two answers are the same.
+pub fn same(found: Answer, wanted: Answer) -> bool
+    ensures { result ≡ true → found ≡ wanted }
+{
+    found == wanted
 }
 
 // The number of a refusal.

@@ -4,6 +4,14 @@ use random_calls::PASSES;
 use store::{Head, OpenPass, StoreView, TreeView};
 use tree::TreeUse;
 
+// An unused place. It is written out here: the calls take theirs from `OpenPass`, and what looks at them shares no code with them.
+const UNUSED: OpenPass = OpenPass {
+    number: 0,
+    key: 0,
+    weight: 0,
+    start: 0,
+};
+
 // Whether a place of the head has an open pass of the list, with a number not below `least`.
 fn is_listed(open: OpenPass, least: u32, passes: &[ListedPass]) -> bool {
     let pass = ListedPass {
@@ -20,7 +28,7 @@ fn place_agrees(open: OpenPass, used: bool, least: u32, passes: &[ListedPass]) -
     if used {
         return is_listed(open, least, passes);
     }
-    open == OpenPass::default()
+    open == UNUSED
 }
 
 // Whether the head's places have the list's open passes, in order of opening. Their numbers rise and they are as many as the list has open,

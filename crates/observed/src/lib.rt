@@ -7,7 +7,7 @@ mod left_behind;
 mod lives;
 mod paths;
 
-pub use counts::{Counts, refusal_of};
+pub use counts::{Counts, refusal_of, same};
 pub use left_behind::{head_agrees, memory_sum};
 pub use lives::Lives;
 pub use paths::{height, pages_opened, word_at};

@@ -3,7 +3,7 @@ ghost use Rattle.std.specs.Prelude.{◌≤◌};
 ghost use Rattle.tree.specs.Row.{row_limit};
 
 use pass_list::{Asked, Window};
-use store::{StoreView, TreeView};
+use store::{StoreView, TreeName, TreeView};
 use tree::Row;
 
 // A word of a lent slice, and 0 beyond its end.
@@ -97,14 +97,22 @@ fn time_pages(store: &StoreView, window: Window) -> u32 {
     until.wrapping_add(before)
 }
 
+// The pages that a lookup of one of the trees opens. The calls find a tree's memory and use in `StoreView` and `Head`; what looks at them shares no code with them.
+fn lookup_pages(store: &StoreView, tree: TreeName, t: u32, k: u32) -> u32 {
+    let head = store.head;
+    match tree {
+        TreeName::Starts => path_length(store.starts, head.starts.roots, t, k),
+        TreeName::Ends => path_length(store.ends, head.ends.roots, t, k),
+        TreeName::Time => path_length(store.time, head.time.roots, t, k),
+    }
+}
+
 // The pages that a call opens that only reads, if it is not refused.
 pub fn pages_opened(store: &StoreView, asked: Asked) -> u32 {
     match asked {
         Asked::Question(window) => question_pages(store, window),
         Asked::BatTime(window) => time_pages(store, window),
-        Asked::Lookup { tree, t, k } => {
-            path_length(store.lent_to(tree), store.head.used_by(tree).roots, t, k)
-        }
+        Asked::Lookup { tree, t, k } => lookup_pages(store, tree, t, k),
     }
 }
 

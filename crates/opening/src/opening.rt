@@ -46,7 +46,7 @@ pub fn open(
         RepliedAs (perform s opening) result (lent_to_trees (words_of starts.new) (words_of ends.new) (words_of time.new)) }
 {
     if let Err(refusal) = opening_refusal(starts.view(), ends.view(), time.view()) {
-        return Reply::refused(refusal, head);
+        return Reply::refused(refusal.number(), head);
     }
     open_tree(starts);
     open_tree(ends);

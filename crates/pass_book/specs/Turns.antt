@@ -1,11 +1,9 @@
 -- The code's answers and what it leaves, as a turn of the book.
-use Rattle.std.specs.Prelude.{ℕ, ◌%◌, ◌^◌, ◌≡◌, List, map, Option, None, Some}
+use Rattle.std.specs.Prelude.{ℕ, ◌%◌, ◌^◌, ◌≡◌, List, map}
 use Rattle.store.specs.Calls.{Call, opening, start, end, question, bat_time, lookup_in}
 use Rattle.words.specs.declared.value.Value.{Value}
 use Rattle.store.specs.declared.types.Answer.{Answer}
 use Rattle.store.specs.declared.types.Answer.TheVariants.{BatTime}
-use Rattle.store.specs.declared.refusal.Refusal.{Refusal}
-use Rattle.store.specs.Refused.{number_of}
 use Rattle.store.specs.Performing.{totals}
 use Rattle.store.specs.Book.{Book, BookAnswer, BookTurn, Fed, neither, pages_lacked, root_lacked, book_part, book_says}
 use Rattle.pass_list.specs.declared.types.Asked.{Asked}
@@ -13,11 +11,6 @@ use Rattle.pass_list.specs.declared.types.Asked.TheVariants as ask
 use Rattle.pass_book.specs.declared.types.Turn.{Turn}
 use Rattle.pass_list.specs.declared.types.ListedPass.{ListedPass}
 use Rattle.pass_list.specs.PassList.{book_in}
-
--- The number of the refusal that the store gave, or 0
-abbrev pub given_number : Option Refusal → ℕ
-given_number None = 0
-given_number (Some refusal) = number_of refusal
 
 -- 27 or 28, or 0
 abbrev pub lacked : Fed → ℕ

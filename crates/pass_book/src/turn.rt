@@ -4,11 +4,12 @@ ghost use Rattle.words.specs.Words.{open_end};
 ghost use Rattle.store.specs.Head.{pass_limit};
 ghost use Rattle.store.specs.Calls.{start, end};
 ghost use Rattle.store.specs.Performing.{totals};
-ghost use Rattle.store.specs.Refused.{told};
+ghost use Rattle.store.specs.Refused.{told, number_of};
+ghost use Rattle.store.specs.declared.types.Answer.TheVariants.{Refused};
 ghost use Rattle.store.specs.Book.{fed_by, book_refusal, book_does, book_done, book_turn};
 ghost use Rattle.pass_list.specs.PassList.{book_in};
 ghost use Rattle.pass_book.specs.BookCalls.{call_of, asked_call};
-ghost use Rattle.pass_book.specs.Turns.{given_number, lacked, answer_of, SaysAs, TurnsAs};
+ghost use Rattle.pass_book.specs.Turns.{lacked, answer_of, SaysAs, TurnsAs};
 
 use crate::grounds::refusal;
 use crate::types::{Call, Turn};
@@ -17,25 +18,20 @@ use store::{Answer, Refusal};
 use words::Value;
 
 // 27 or 28, where the store's answer was one of them: of its answers the book is fed no more.
-fn lacking(given: Option<Refusal>) -> Result<(), Refusal>
-    ensures { told result ≡ lacked (fed_by (given_number given)) }
+fn lacking(given: u8) -> Result<(), Refusal>
+    ensures { told result ≡ lacked (fed_by given) }
 {
     match given {
-        Some(Refusal::LacksPages) => Err(Refusal::LacksPages),
-        Some(Refusal::LacksRoot) => Err(Refusal::LacksRoot),
+        27 => Err(Refusal::LacksPages),
+        28 => Err(Refusal::LacksRoot),
         _ => Ok(()),
     }
 }
 
 // Whether the book takes a call: no ground of its own is met, and the store lacked nothing for it.
-fn takes(
-    passes: &[ListedPass],
-    book: PassBook,
-    call: Call,
-    given: Option<Refusal>,
-) -> Result<(), Refusal>
+fn takes(passes: &[ListedPass], book: PassBook, call: Call, given: u8) -> Result<(), Refusal>
     requires { book.started ≤ length passes.now }
-    ensures { told result ≡ (book_turn (book_in passes.now book) (call_of call) (fed_by (given_number given))).answer.refusal }
+    ensures { told result ≡ (book_turn (book_in passes.now book) (call_of call) (fed_by given)).answer.refusal }
 {
     refusal(passes, book, call)?;
     lacking(given)
@@ -140,21 +136,42 @@ fn does(passes: &mut [ListedPass], book: PassBook, call: Call) -> Turn
     }
 }
 
-// A turn of the book: what it says to a call, and what it holds then. `given` is the refusal that the store gave to it. The list has room for
+// The book's answer to a call that it refuses. It has the numbers once more: what is compared with the store's answers shares no code with them.
+fn refused(refusal: Refusal) -> Answer
+    ensures { result ≡ Refused (number_of refusal) }
+{
+    let number = match refusal {
+        Refusal::KeyTooHigh => 1,
+        Refusal::NoBand => 2,
+        Refusal::WeightBeyond => 3,
+        Refusal::NoTick => 4,
+        Refusal::NoTime => 5,
+        Refusal::UnknownCommand => 6,
+        Refusal::OperandsMissing => 7,
+        Refusal::TooSmall => 8,
+        Refusal::HeadMisfits => 20,
+        Refusal::BeforeLast => 21,
+        Refusal::NotOpen => 22,
+        Refusal::AllOpen => 24,
+        Refusal::AllStarted => 25,
+        Refusal::Spoiled => 26,
+        Refusal::LacksPages => 27,
+        Refusal::LacksRoot => 28,
+        Refusal::NoBurst => 31,
+    };
+    Answer::Refused(number)
+}
+
+// A turn of the book: what it says to a call, and what it holds then. `given` is the number of the refusal that the store gave to it, 0 for none. The list has room for
 // one pass more.
-pub fn book_turn(
-    passes: &mut [ListedPass],
-    book: PassBook,
-    call: Call,
-    given: Option<Refusal>,
-) -> Turn
+pub fn book_turn(passes: &mut [ListedPass], book: PassBook, call: Call, given: u8) -> Turn
     requires { book.started < length passes.old }
-    ensures { TurnsAs (call_of call) (book_turn (book_in passes.old book) (call_of call) (fed_by (given_number given))) result passes.new }
+    ensures { TurnsAs (call_of call) (book_turn (book_in passes.old book) (call_of call) (fed_by given)) result passes.new }
 {
     match takes(passes, book, call, given) {
         Ok(()) => does(passes, book, call),
         Err(refusal) => Turn {
-            answer: Answer::from(refusal),
+            answer: refused(refusal),
             book,
         },
     }

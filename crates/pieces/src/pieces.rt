@@ -8,8 +8,7 @@ ghost use Rattle.pieces.specs.Fed.{runs_at, is_over, FedAs};
 use answer_codec::put_answer;
 use framing::{command_length, goes_on, must_wait};
 use interpret::run_command;
-use replies::Reply;
-use store::{Answer, Head, TreeMemory};
+use store::{Head, TreeMemory};
 
 // What a piece leaves: the head for the next one, how many bytes were taken and written, and whether the run is over.
 #[derive(Clone, Copy)]
@@ -50,7 +49,7 @@ fn is_over(on: bool, at: usize, count: usize, ended: bool) -> bool
 
 // Runs as much of a piece as it may. `ended` says that no byte comes after these: only then is a command that lacks operands cut short.
 pub fn run_piece(
-    head: Head,
+    mut head: Head,
     starts: &mut TreeMemory,
     ends: &mut TreeMemory,
     time: &mut TreeMemory,
@@ -65,13 +64,8 @@ pub fn run_piece(
         let left : Lent = lent_to_trees (words_of starts.new) (words_of ends.new) (words_of time.new) in
         FedAs (run_piece (length out.old) ended s input.now) result out.old out.new left }
 {
-    // A head is 1 KB, and each struct that holds one gets its own place on the stack. So the loop keeps the head in the reply alone, where a command
-    // leaves it for the next one, and has one way out. The answer set here is never written. A command is as long as its kind says: no iterator has their
-    // places, so `taken` is moved by hand.
-    let mut reply = Reply {
-        answer: Answer::Opened,
-        head,
-    };
+    // A head is 1 KB. So it stays in one place, where a command leaves it for the next one, and the loop has one way out. A command is as long as its kind says: no iterator
+    // has their places, so `taken` is moved by hand.
     let mut taken: usize = 0;
     let mut written: usize = 0;
     let mut on = true;
@@ -79,15 +73,13 @@ pub fn run_piece(
         let code = input[taken];
         let behind = taken + 1;
         let rest = &input[behind..];
-        reply = run_command(reply.head, starts, ends, time, code, rest);
-        let answer = reply.answer;
+        let answer = run_command(&mut head, starts, ends, time, code, rest);
         written = put_answer(out, written, answer);
         taken += command_length(code, rest);
         on = goes_on(code, rest);
     }
-    let after = reply.head;
     Fed {
-        head: after,
+        head,
         taken,
         written,
         over: is_over(on, taken, input.len(), ended),

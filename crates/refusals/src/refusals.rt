@@ -69,7 +69,7 @@ fn planned_refusal(lent: TreeView, used: TreeUse, tick: u32, key: u16) -> Result
         table: lent.table,
         used,
     };
-    let plan = plan::plan(tree, lent.roots, tick, key)?;
+    let plan = plan::plan(tree, lent.roots, tick, key);
     entry_refusal(lent, used, plan)
 }
 

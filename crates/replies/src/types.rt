@@ -1,9 +1,8 @@
 // What a call that writes hands back.
 ghost use Rattle.std.specs.Prelude.{◌≡◌};
-ghost use Rattle.store.specs.Refused.{number_of};
 ghost use Rattle.replies.specs.RefusedReplies.{refused_reply};
 
-use store::{Answer, Head, Refusal};
+use store::{Answer, Head};
 
 // The answer, and the head for the next call: refused, the head that was handed in.
 #[derive(Clone, Copy)]
@@ -14,11 +13,11 @@ pub struct Reply {
 
 impl Reply {
     // A refusal's number and no other field, with the head as it was.
-    pub fn refused(refusal: Refusal, head: Head) -> Reply
-        ensures { result ≡ refused_reply (number_of refusal) head }
+    pub fn refused(number: u8, head: Head) -> Reply
+        ensures { result ≡ refused_reply number head }
     {
         Reply {
-            answer: Answer::Refused(refusal.number()),
+            answer: Answer::Refused(number),
             head,
         }
     }

@@ -1,5 +1,5 @@
 // What the slices that are lent to a tree have room for: 8, a tree's part of 20, and 26 to 28 of an entry that is planned.
-ghost use Rattle.std.specs.Prelude.{Ok, ◌≡◌, [], ◌∷◌, leb, ◌≤◌};
+ghost use Rattle.std.specs.Prelude.{◌≡◌, [], ◌∷◌, leb, ◌≤◌};
 ghost use Rattle.tree.specs.Taking.{Takes};
 ghost use Rattle.tree.specs.Tree.{whole_pages, pages_left};
 ghost use Rattle.store.specs.Head.{use_fits_in};
@@ -10,7 +10,7 @@ ghost use Rattle.store.specs.Writing.{too_small};
 ghost use Rattle.room.specs.PlanGrounds.{plan_grounds};
 
 use store::{Refusal, TreeView};
-use tree::{Plan, RootChange, TreeUse};
+use tree::{Plan, RootChange, SpoiledPage, TreeUse};
 
 // Whether a table has no room for a page, or a list none for a root.
 pub fn too_small(lent: TreeView) -> bool
@@ -65,12 +65,19 @@ fn list_refusal(places: usize, used: u32) -> Result<(), Refusal>
     Ok(())
 }
 
-// 27 and 28: what the plan of an entry says of the pages left and of the root list.
-pub fn entry_refusal(lent: TreeView, used: TreeUse, plan: Plan) -> Result<(), Refusal>
+// 26, 27 and 28: what the plan of an entry says of the pages met, of the pages left and of the root list.
+pub fn entry_refusal(
+    lent: TreeView,
+    used: TreeUse,
+    plan: Result<Plan, SpoiledPage>,
+) -> Result<(), Refusal>
     requires pages_bound { used.pages ≤ whole_pages lent.table.now }
     requires takes { Takes used }
-    ensures { told result ≡ first_met (plan_grounds (tree_of (words_in lent.entry) used) (Ok plan)) }
+    ensures { told result ≡ first_met (plan_grounds (tree_of (words_in lent.entry) used) plan) }
 {
+    let Ok(plan) = plan else {
+        return Err(Refusal::Spoiled);
+    };
     if pages_left(lent.table, used) < plan.made as usize {
         return Err(Refusal::LacksPages);
     }

@@ -3,4 +3,4 @@
 
 mod lookups;
 
-pub use lookups::lookup_in;
+pub use lookups::{lookup_ends, lookup_in, lookup_starts, lookup_time};

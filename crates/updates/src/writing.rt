@@ -61,9 +61,9 @@ fn start_pass(
     }
 }
 
-// A pass starts. The answer is its number.
+// A pass starts. The answer is its number. The head is lent: handed over, it would be copied for the view that the refusals look at.
 pub fn start(
-    head: Head,
+    head: &Head,
     starts: &mut TreeMemory,
     ends: TreeView,
     time: &mut TreeMemory,
@@ -73,19 +73,19 @@ pub fn start(
 ) -> Reply
     ensures same_starts { SameSlices starts.old starts.new }
     ensures same_time { SameSlices time.old time.new }
-    ensures replied { let s : Store = store_with head (words_of starts.old) (words_in ends.entry) (words_of time.old) in
+    ensures replied { let s : Store = store_with head.now (words_of starts.old) (words_in ends.entry) (words_of time.old) in
         RepliedAs (perform s (start tick key weight)) result (lent_to_trees (words_of starts.new) (words_in ends.entry) (words_of time.new)) }
 {
     let store = StoreView {
-        head: &head,
+        head,
         starts: starts.view(),
         ends,
         time: time.view(),
     };
     if let Err(refusal) = start_refusal(&store, tick, key, weight) {
-        return Reply::refused(refusal, head);
+        return Reply::refused(refusal.number(), *head);
     }
-    start_pass(head, starts, time, tick, key, weight)
+    start_pass(*head, starts, time, tick, key, weight)
 }
 
 // An accepted end of the pass in a place of the head's list.
@@ -129,7 +129,7 @@ fn end_pass(
 
 // The pass of a number ends. It is looked for first, in whatever head: the refusals and the end itself need it.
 pub fn end(
-    head: Head,
+    head: &Head,
     starts: TreeView,
     ends: &mut TreeMemory,
     time: &mut TreeMemory,
@@ -138,22 +138,22 @@ pub fn end(
 ) -> Reply
     ensures same_ends { SameSlices ends.old ends.new }
     ensures same_time { SameSlices time.old time.new }
-    ensures replied { let s : Store = store_with head (words_in starts.entry) (words_of ends.old) (words_of time.old) in
+    ensures replied { let s : Store = store_with head.now (words_in starts.entry) (words_of ends.old) (words_of time.old) in
         RepliedAs (perform s (end tick number)) result (lent_to_trees (words_in starts.entry) (words_of ends.new) (words_of time.new)) }
 {
-    let found = find_pass(head, number);
+    let found = find_pass(*head, number);
     let store = StoreView {
-        head: &head,
+        head,
         starts,
         ends: ends.view(),
         time: time.view(),
     };
     if let Err(refusal) = end_refusal(&store, tick, found) {
-        return Reply::refused(refusal, head);
+        return Reply::refused(refusal.number(), *head);
     }
     let Some(found) = found else {
         // It was refused by now
-        return Reply::refused(Refusal::NotOpen, head);
+        return Reply::refused(Refusal::NotOpen.number(), *head);
     };
-    end_pass(head, ends, time, tick, found.place, found.pass)
+    end_pass(*head, ends, time, tick, found.place, found.pass)
 }

@@ -15,7 +15,7 @@ returns c =
     let before = handed_of a.head.now a.start_table.now a.start_roots.now a.end_table.now a.end_roots.now a.time_table.now a.time_roots.now in
     let long : length a.head.now ≡ head_numbers = search rules in
     let call = start a.tick a.key a.weight in
-    let is = replied_in call before c.head_of.ensures c.start-reply.ensures.replied in
+    let is = replied_in call before c.read_head.ensures c.start-reply.ensures.replied in
     record {
       leaves =
           handed_on (λ (after : Handed). Leaves (perform (store_in before) call) c.refusal_of.result before after)

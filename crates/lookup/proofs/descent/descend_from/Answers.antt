@@ -20,8 +20,8 @@ loop-found-preserved c =
           (sym (way_down tree a.t a.k l.total l.pages l.level c.if-level-eq0.false c.in_ok-found.was c.read_page-held.ensures) ∙ l.invariant.2),
     )
 
-pub returns-then-level-eq0 : goal.returns-then-level-eq0
-returns-then-level-eq0 c =
+pub returns : goal.returns
+returns c =
     let a = c.args in
     let tree : Tree = tree_of_pages a.tree in
     let l = c.loop-found in

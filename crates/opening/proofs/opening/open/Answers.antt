@@ -1,9 +1,8 @@
-use mathlib.Core.Path.{◌≡◌, refl, ap, sym, ◌∙◌}
+use mathlib.Core.Path.{refl, sym}
 use Rattle.store.specs.declared.types.TreeName.TheVariants.{Starts, Ends, Time}
-use Rattle.store.specs.Trees.{LentTree, Lent}
-use Rattle.store.specs.Lending.{words_of, lent_to_trees, store_with}
+use Rattle.store.specs.Lending.{words_of, store_with}
 use Rattle.store.specs.Calls.{opening}
-use Rattle.store.specs.Performing.{refusal, served}
+use Rattle.store.specs.Performing.{served}
 use Rattle.store.proofs.TreeLaws.{same_lent}
 use Rattle.store.proofs.OpeningReady.{takes_enough, each_enough}
 use Rattle.store.proofs.RefusedNumbers.{numbered}
@@ -16,7 +15,7 @@ returns-in-Err-clause-replied c =
     let a = c.args in
     let s = store_with a.head (words_of a.starts.now) (words_of a.ends.now) (words_of a.time.now) in
     let refused = rw (c.view.ensures, c.view-2.ensures, c.view-3.ensures) at (c.in-Err.ensures a.head) in
-    replied (call_refused s opening refused (numbered _)) (refused_reply_lem s _ c.refused.ensures)
+    replied (call_refused s opening refused (numbered _)) (refused_reply_lem s _ (rw c.number.ensures at c.refused.ensures))
 
 pub open_tree-requires : goal.open_tree-requires
 open_tree-requires c =

@@ -5,7 +5,6 @@ use Rattle.tree.specs.Opened.{first_page}
 use Rattle.page.specs.PageValue.{encode_page}
 use Rattle.tree.specs.Tree.{put_page}
 use Rattle.opening.proofs.OpeningPage.{first_page_lem}
-use borrow.Author.Rules.{rules}
 use Rattle.opening.proofs.opening.open_tree.Goals as goal
 
 pub with_row-requires : goal.with_row-requires

@@ -11,4 +11,4 @@ returns-in-Ok c = rw (turn_does _ _ _ c.in-Ok.ensures).1 c.does.ensures
 pub returns-in-Err : goal.returns-in-Err
 returns-in-Err c =
     let a = c.args in
-    rw c.from.ensures (stays_as a.passes.now a.book _ _ (turn_refused _ _ _ _ c.in-Err.ensures (numbered c.in-Err.refusal)))
+    rw c.refused.ensures (stays_as a.passes.now a.book _ _ (turn_refused _ _ _ _ c.in-Err.ensures (numbered c.in-Err.refusal)))

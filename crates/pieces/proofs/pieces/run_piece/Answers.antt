@@ -59,11 +59,11 @@ pub loop-on-preserved : goal.loop-on-preserved
 loop-on-preserved c =
     let a = c.args in
     let l = c.loop-on in
-    let s = store_with l.reply.head (words_of l.starts) (words_of l.ends) (words_of l.time) in
+    let s = store_with l.head (words_of l.starts) (words_of l.ends) (words_of l.time) in
     let all = take_all (length a.input.now - (l.taken + 1)) (drop (l.taken + 1) a.input.now) (omega (arith, length-drop (l.taken + 1) a.input.now)) in
     let same = ap (λ (n : ℕ). runs_at l.on (n - l.written) a.ended a.input.now l.taken) l.invariant.same_out in
     let now = ready l.on (length a.out.now - l.written) a.ended a.input.now l.taken (sym (c.runs_at.ensures ∙ same) ∙ c.loop-on-test.true) in
-    let run = c.run_command-reply in
+    let run = c.run_command-answer in
     let put = c.put_answer-written in
     let ran = ran_at s a.input.now l.taken now.more all run.ensures.replied put.ensures.out_after put.ensures.value c.command_length-taken.ensures.value c.command_length-taken.ensures.upper_bound c.goes_on-on.ensures in
     let next = moves_on a.out.now a.ended _ a.input.now s l.out l.taken l.written l.invariant.going now ran in
@@ -80,7 +80,7 @@ pub returns-clause-fed : goal.returns-clause-fed
 returns-clause-fed c =
     let a = c.args in
     let l = c.loop-on in
-    let s = store_with l.reply.head (words_of l.starts) (words_of l.ends) (words_of l.time) in
+    let s = store_with l.head (words_of l.starts) (words_of l.ends) (words_of l.time) in
     let same = ap (λ (n : ℕ). runs_at l.on (n - l.written) a.ended a.input.now l.taken) l.invariant.same_out in
     let end = ends a.out.now a.ended _ a.input.now s l.out l.taken l.written l.on l.invariant.going (sym (c.runs_at.ensures ∙ same) ∙ c.loop-on-test.false) in
     record { taken = end.taken; output = end.output; size = end.size; over = c.is_over.ensures ∙ end.over; head = end.head; lent_is = end.lent_is }

@@ -13,8 +13,8 @@ invariant-loop-on l = record {
   same_out : length l.out ≡ length l.initial.out;
   fits : l.written ≤ length l.initial.out;
   going : Going l.initial.out l.ended
-      (store_with l.initial.reply.head (words_of l.initial.starts) (words_of l.initial.ends) (words_of l.initial.time)) l.input
-      (store_with l.reply.head (words_of l.starts) (words_of l.ends) (words_of l.time)) l.out l.taken l.written l.on;
+      (store_with l.initial.head (words_of l.initial.starts) (words_of l.initial.ends) (words_of l.initial.time)) l.input
+      (store_with l.head (words_of l.starts) (words_of l.ends) (words_of l.time)) l.out l.taken l.written l.on;
 }
 
 abbrev pub decreases-loop-on : goal.decreases-loop-on

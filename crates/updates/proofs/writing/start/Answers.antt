@@ -14,16 +14,16 @@ pub returns-in-Err-clause-replied : goal.returns-in-Err-clause-replied
 returns-in-Err-clause-replied c =
     let a = c.args in
     let call = start a.tick a.key a.weight in
-    let seen = ap₂ (λ (starts time : LentTree). refusal (store_with a.head starts (words_in a.ends) time) call) c.view.ensures c.view-2.ensures in
-    let s = store_with a.head (words_of a.starts.now) (words_in a.ends) (words_of a.time.now) in
-    replied (call_refused s call (c.in-Err.ensures ∙ seen) (numbered _)) (refused_reply_lem s _ c.refused.ensures)
+    let seen = ap₂ (λ (starts time : LentTree). refusal (store_with a.head.now starts (words_in a.ends) time) call) c.view.ensures c.view-2.ensures in
+    let s = store_with a.head.now (words_of a.starts.now) (words_in a.ends) (words_of a.time.now) in
+    replied (call_refused s call (c.in-Err.ensures ∙ seen) (numbered _)) (refused_reply_lem s _ (rw c.number.ensures at c.refused.ensures))
 
 pub start_pass-requires : goal.start_pass-requires
 start_pass-requires c =
     let a = c.args in
     let call = start a.tick a.key a.weight in
-    let seen = ap₂ (λ (starts time : LentTree). refusal (store_with a.head starts (words_in a.ends) time) call) c.view.ensures c.view-2.ensures in
-    let s = store_with a.head (words_of a.starts.now) (words_in a.ends) (words_of a.time.now) in
+    let seen = ap₂ (λ (starts time : LentTree). refusal (store_with a.head.now starts (words_in a.ends) time) call) c.view.ensures c.view-2.ensures in
+    let s = store_with a.head.now (words_of a.starts.now) (words_in a.ends) (words_of a.time.now) in
     let taken = start_accepted s a.tick a.key a.weight (omega (arith, c.ranges.tick.fits)) (sym (c.in_default.ensures ∙ seen)) in
     record { key = taken.key; place = taken.place; number = taken.number; planned = taken.planned; time_planned = taken.time_planned }
 
@@ -31,5 +31,5 @@ pub returns-clause-replied : goal.returns-clause-replied
 returns-clause-replied c =
     let a = c.args in
     let call = start a.tick a.key a.weight in
-    let seen = ap₂ (λ (starts time : LentTree). refusal (store_with a.head starts (words_in a.ends) time) call) c.view.ensures c.view-2.ensures in
+    let seen = ap₂ (λ (starts time : LentTree). refusal (store_with a.head.now starts (words_in a.ends) time) call) c.view.ensures c.view-2.ensures in
     replied (call_served _ call (c.in_default.ensures ∙ seen) refl) (c.start_pass.ensures.replied (words_in a.ends))

@@ -6,7 +6,6 @@ use Rattle.store.specs.Trees.{with_use}
 use Rattle.store.specs.Writing.{started_head}
 use Rattle.store.specs.Performing.{served}
 use Rattle.store.proofs.TreeLaws.{same_lent}
-use borrow.Author.Rules.{rules}
 use Rattle.updates.proofs.writing.start_pass.Goals as goal
 
 pub overflow_cast-key : goal.overflow_cast-key

@@ -4,7 +4,7 @@ use lib.ListN.{length-set}
 use Rattle.c_heads.specs.Heads.{field_numbers, passes_from}
 use Rattle.c_heads.proofs.HeadNumbers.{read_more}
 use borrow.Author.Rules.{rules}
-use Rattle.c_heads.proofs.head_read.head_of.Goals as goal
+use Rattle.c_heads.proofs.head_read.read_head.Goals as goal
 
 pub loop-place-init : goal.loop-place-init
 unfolding passes_from

@@ -4,7 +4,7 @@ use Rattle.store.specs.Lending.{words_of, lent_to_trees, store_with}
 use Rattle.command.specs.Pieces.{Feed}
 use Rattle.turns.specs.Turns.{Served, ServedOn, CutShort}
 use Rattle.detector.proofs.ProgramLaws.{program_opened, from_opened, says}
-use Rattle.detector.proofs.run_program.Goals as goal
+use Rattle.detector.proofs.open_and_serve.Goals as goal
 
 pub returns-clause-served : goal.returns-clause-served
 returns-clause-served g c =
