@@ -49,7 +49,7 @@
  * the 128 bytes below the interrupted stack pointer (docs/FIRMWARE.md).
  *
  * Stack. What is said at each function are bytes below the caller, arguments included, at their deepest in trees four pages high, on x86-64
- * (host/bench/run measures them; these are of the archive that an older kit built).
+ * (host/bench/run measures them; these are of the archive that the gate builds).
  */
 #ifndef NIMBLESHALE_H
 #define NIMBLESHALE_H
@@ -173,7 +173,7 @@ extern "C" {
  * Refusals: 8, where any of the three trees has too little.
  * Accepted: the last tick, the number started and the number open become 0, pages and roots used of each tree 1, all of the open passes 0. Of each
  * table the first 260 words are written, of each root list the first word; every other word stays as it was.
- * Stack: 2,040 bytes.
+ * Stack: 2,024 bytes.
  */
 NIMBLESHALE_MUST_USE
 uint8_t nimbleshale_open(uint32_t head[NIMBLESHALE_HEAD_NUMBERS],
@@ -189,7 +189,7 @@ uint8_t nimbleshale_open(uint32_t head[NIMBLESHALE_HEAD_NUMBERS],
  * Accepted: *number becomes the pass's number, which is how many passes were started before it. The tick becomes the last tick, the numbers of passes
  * started and open grow by one, and the pass stands in the next place of the open passes. Words of start_table, start_roots, time_table and
  * time_roots may change, and the pages and roots used of both trees may grow. The tree of ends is as it was.
- * Stack: 13,848 bytes.
+ * Stack: 20,024 bytes.
  */
 NIMBLESHALE_MUST_USE
 uint8_t nimbleshale_start(uint32_t head[NIMBLESHALE_HEAD_NUMBERS],
@@ -206,7 +206,7 @@ uint8_t nimbleshale_start(uint32_t head[NIMBLESHALE_HEAD_NUMBERS],
  * Accepted: the tick becomes the last tick and the number of open passes falls by one; the later open passes move down by one place, and the place set
  * free is zeroed. Words of end_table, end_roots, time_table and time_roots may change, and the pages and roots used of both trees may grow. The tree
  * of starts is as it was.
- * Stack: 13,832 bytes.
+ * Stack: 21,080 bytes.
  */
 NIMBLESHALE_MUST_USE
 uint8_t nimbleshale_end(uint32_t head[NIMBLESHALE_HEAD_NUMBERS],
@@ -222,7 +222,7 @@ uint8_t nimbleshale_end(uint32_t head[NIMBLESHALE_HEAD_NUMBERS],
  * Accepted: *count becomes the number of passes with k1 <= key < k2 that started before t2 and are open or ended at t1 or later: those that live
  * at some tick of the question. *sum becomes the sum of their weights, *pages the pages opened, at most 16. Nothing else changes, accepted or not.
  * With t1 = 0 no page of the tree of ends is opened, be it spoiled or not: no pass ended before tick 0.
- * Stack: 5,200 bytes.
+ * Stack: 4,136 bytes.
  */
 NIMBLESHALE_MUST_USE
 uint8_t nimbleshale_question(const uint32_t head[NIMBLESHALE_HEAD_NUMBERS],
@@ -239,7 +239,7 @@ uint8_t nimbleshale_question(const uint32_t head[NIMBLESHALE_HEAD_NUMBERS],
  * Refusals: 1, 2, 5, 20, 26, as of a question. It looks at the tree of time alone; those of starts and of ends may be spoiled.
  * Accepted: *total becomes the sum of these products, *pages the pages opened, at most 16. Nothing else changes, accepted or not.
  * The total is exact: it is the sum itself, and not the sum modulo something. With t1 = 0 half as many lookups are made.
- * Stack: 5,200 bytes.
+ * Stack: 4,136 bytes.
  */
 NIMBLESHALE_MUST_USE
 uint8_t nimbleshale_bat_time(const uint32_t head[NIMBLESHALE_HEAD_NUMBERS],
@@ -254,7 +254,7 @@ uint8_t nimbleshale_bat_time(const uint32_t head[NIMBLESHALE_HEAD_NUMBERS],
  * Refusals: 1, 4, 20, 26.
  * Accepted: *count becomes the number of passes with start <= t and key <= k, *sum the sum of their weights, *pages the pages opened, at
  * most 4. Nothing else changes, accepted or not.
- * Stack: 3,072 bytes.
+ * Stack: 3,400 bytes.
  */
 NIMBLESHALE_MUST_USE
 uint8_t nimbleshale_lookup_starts(const uint32_t head[NIMBLESHALE_HEAD_NUMBERS],
@@ -279,7 +279,7 @@ uint8_t nimbleshale_lookup_ends(const uint32_t head[NIMBLESHALE_HEAD_NUMBERS],
  * Accepted: *factor and *constant become the sums of what the starts and ends with tick <= t and key <= k carry, modulo 2^64, and *pages the pages
  * opened, at most 4. Then *factor * t + *constant, modulo 2^64, is weight times ticks lived up to tick t, that tick included, by the passes with
  * key <= k: what bat-time is made of. Nothing else changes, accepted or not.
- * Stack: 3,072 bytes.
+ * Stack: 3,400 bytes.
  */
 NIMBLESHALE_MUST_USE
 uint8_t nimbleshale_lookup_time(const uint32_t head[NIMBLESHALE_HEAD_NUMBERS],
@@ -311,7 +311,7 @@ uint8_t nimbleshale_lookup_time(const uint32_t head[NIMBLESHALE_HEAD_NUMBERS],
  * Refusals: none of its own.
  * *taken becomes how many bytes of the front of input were taken, *written how many bytes of answers stand at the front of out. Bytes of out
  * behind them are as they were, and input is. Head and slices are left as the commands leave them, one after the other.
- * Stack: 13,144 bytes.
+ * Stack: 23,656 bytes.
  */
 NIMBLESHALE_MUST_USE
 uint8_t nimbleshale_commands(uint32_t head[NIMBLESHALE_HEAD_NUMBERS],
@@ -342,7 +342,7 @@ uint8_t nimbleshale_commands(uint32_t head[NIMBLESHALE_HEAD_NUMBERS],
  * Then no event is tried, and no result word is written.
  * Accepted: the result words of every event are written; those behind them stay as they were, and so do the events. Head and slices are left as
  * the starts and ends leave them, one after the other. A burst of no events is accepted and changes nothing.
- * Stack: 14,632 bytes.
+ * Stack: 21,976 bytes.
  */
 NIMBLESHALE_MUST_USE
 uint8_t nimbleshale_burst(uint32_t head[NIMBLESHALE_HEAD_NUMBERS],
@@ -412,7 +412,7 @@ uint8_t nimbleshale_block_line(const uint8_t block[NIMBLESHALE_BLOCK_BYTES]);
  * are left as the stream's command leaves them.
  *
  * Refusals: none of its own.
- * Stack: 14,344 bytes; a question and a bat-time take 5,152, and a write to another byte than 0 takes 104, which are its arguments.
+ * Stack: 24,920 bytes; a question and a bat-time take 4,280, and a write to another byte than 0 takes 1,456.
  */
 void nimbleshale_block_write(uint8_t block[NIMBLESHALE_BLOCK_BYTES], size_t offset, uint8_t value, uint32_t head[NIMBLESHALE_HEAD_NUMBERS],
                              uint64_t *start_table, size_t start_table_length, uint64_t *start_roots, size_t start_roots_length,
