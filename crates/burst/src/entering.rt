@@ -2,14 +2,11 @@
 ghost use Rattle.std.specs.Prelude.{◌*◌, ◌≤◌, length};
 ghost use Rattle.store.specs.Trees.{Lent, Store};
 ghost use Rattle.store.specs.Lending.{words_of, lent_to_trees, store_with, SameSlices};
-ghost use Rattle.replies.specs.Replies.{RepliedAs};
-ghost use Rattle.command.specs.Stream.{event_kind, answered};
 ghost use Rattle.demand.specs.Bursts.{most_events, event_words, event_count, events_of, enter_burst};
 ghost use Rattle.burst.specs.BurstReplies.{EventsEntered, BurstAs};
 
 use burst_words::{EVENT_BYTES, burst_refusal, put_result};
-use events::{Event, read_event};
-use replies::Reply;
+use event_commands::run_event;
 use store::{Head, Refusal, TreeMemory};
 
 // Whether the burst is refused as a whole, and the head for the next call: refused, the head that was handed in.
@@ -17,39 +14,6 @@ use store::{Head, Refusal, TreeMemory};
 pub struct BurstReply {
     pub refused: Result<(), Refusal>,
     pub head: Head,
-}
-
-// Enters an event. The stream's starts and ends are run by a function with the same match (`run_event` in `event_commands`): called from here it would be one more
-// function that is handed a head and hands one back, for which a burst takes 3 KB of stack.
-fn enter_event(
-    head: &Head,
-    starts: &mut TreeMemory,
-    ends: &mut TreeMemory,
-    time: &mut TreeMemory,
-    code: u8,
-    operands: &[u8],
-) -> Reply
-    ensures same_starts { SameSlices starts.old starts.new }
-    ensures same_ends { SameSlices ends.old ends.new }
-    ensures same_time { SameSlices time.old time.new }
-    ensures replied { let s : Store = store_with head.now (words_of starts.old) (words_of ends.old) (words_of time.old) in
-        let left : Lent = lent_to_trees (words_of starts.new) (words_of ends.new) (words_of time.new) in
-        RepliedAs (answered s operands.now (event_kind code)) result left }
-{
-    match read_event(code, operands) {
-        Ok(Event::Start { tick, key, weight }) => {
-            updates::start(head, starts, ends.view(), time, tick, key, weight)
-        }
-        Ok(Event::End { tick, number }) => updates::end(
-            head,
-            starts.view(),
-            ends,
-            time,
-            tick,
-            number,
-        ),
-        Err(refusal) => Reply::refused(refusal.number(), *head),
-    }
 }
 
 // Enters the events in their order; a refused one does not keep the next from being tried.
@@ -72,7 +36,7 @@ fn enter_events(
 {
     let mut after = head;
     for (place, event) in bytes.chunks_exact(EVENT_BYTES).enumerate() {
-        let reply = enter_event(&after, starts, ends, time, event[0], &event[1..]);
+        let reply = run_event(&after, starts, ends, time, event[0], &event[1..]);
         after = reply.head;
         put_result(results, place, reply.answer);
     }

@@ -62,7 +62,7 @@ pub fn read_head(numbers: &[u32], head: &mut Head)
     }
 }
 
-// The head that the numbers make.
+// The head that the numbers make. They may be part of a longer slice, as those of `open_count` and `put_head` may: an array would ask more of a caller.
 pub fn head_of(numbers: &[u32]) -> Head
     requires { length numbers.now ≡ head_numbers }
     ensures { result ≡ head_of numbers.now }

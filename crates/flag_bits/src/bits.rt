@@ -41,7 +41,7 @@ pub fn cleared(flags: Flags, ones: Flags) -> Flags
     }
 }
 
-// Whether "a flag and its mask bit are both set". By `&` and `|` it needs no branch: by `&&` and `||` it takes 1.8 times as long, and a chip may ask for its line at any time.
+// Whether "a flag and its mask bit are both set". By `&` and `|` it needs no branch: by `&&` and `||` it takes twice as long, and a chip may ask for its line at any time.
 pub fn any_of_both(flags: Flags, mask: Flags) -> bool
     ensures { result ≡ any_of_both flags mask }
 {

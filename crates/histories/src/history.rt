@@ -7,7 +7,7 @@ use outcomes::Outcome;
 use pass_book::{Call, book_turn};
 use pass_list::{ListedPass, PassBook};
 use random_calls::{PASSES, Shape, next_call};
-use store::{Answer, Head, TreeMemory};
+use store::{Answer, Head, Refusal, TreeMemory};
 
 // Where a history has come to: the head, the book, what was compared and reached, and the next call.
 #[derive(Clone, Copy)]
@@ -71,6 +71,15 @@ fn judged(counts: Counts, outcome: Outcome, said: Answer, agrees: bool) -> Count
         .judged(words_kept(said, outcome.unchanged))
 }
 
+// The number that the book is told, 0 for none. It is written out here: what is compared with the store shares no code with it.
+fn lacking_number(lacking: Option<Refusal>) -> u8 {
+    match lacking {
+        Some(Refusal::LacksPages) => 27,
+        Some(Refusal::LacksRoot) => 28,
+        _ => 0,
+    }
+}
+
 // A call that was made on the store is put to the book. Then the next one is drawn.
 fn put_to_book(
     run: Run,
@@ -84,8 +93,12 @@ fn put_to_book(
 {
     let hints = outcome.hints;
     let call = run.call;
-    let lacking = hints.lacking.map_or(0, |refusal| refusal.number());
-    let turn = book_turn(passes, with_room(run.book), call, lacking);
+    let turn = book_turn(
+        passes,
+        with_room(run.book),
+        call,
+        lacking_number(hints.lacking),
+    );
     let book = turn.book;
     let answer = turn.answer;
     let said = with_pages(answer, hints.pages);

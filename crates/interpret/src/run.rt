@@ -38,8 +38,8 @@ pub fn answer_query(store: &StoreView, code: u8, operands: &[u8]) -> Answer
     )
 }
 
-// Runs a command, from its command byte and the bytes that follow it. The head stands in its place: most commands are queries, which leave it, and handed over and back it would
-// be copied for each of them.
+// Runs a command, from its command byte and the bytes that follow it. The head stands in its place: a query leaves it, and handed over and back it
+// would be copied for each.
 pub fn run_command(
     head: &mut Head,
     starts: &mut TreeMemory,

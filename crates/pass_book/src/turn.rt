@@ -162,8 +162,8 @@ fn refused(refusal: Refusal) -> Answer
     Answer::Refused(number)
 }
 
-// A turn of the book: what it says to a call, and what it holds then. `given` is the number of the refusal that the store gave to it, 0 for none. The list has room for
-// one pass more.
+// A turn of the book: what it says to a call, and what it holds then. `given` is the number of the refusal that the store gave to it, 0 for none: any number, where a `Refusal`
+// would ask more of a caller. The list has room for one pass more.
 pub fn book_turn(passes: &mut [ListedPass], book: PassBook, call: Call, given: u8) -> Turn
     requires { book.started < length passes.old }
     ensures { TurnsAs (call_of call) (book_turn (book_in passes.old book) (call_of call) (fed_by given)) result passes.new }

@@ -12,7 +12,7 @@ pub struct Reply {
 }
 
 impl Reply {
-    // A refusal's number and no other field, with the head as it was.
+    // A refusal's number and no other field, with the head as it was. Any number may be handed in: a `Refusal` would ask more of a caller.
     pub fn refused(number: u8, head: Head) -> Reply
         ensures { result ≡ refused_reply number head }
     {

@@ -13,7 +13,7 @@ loop-place-preserved c =
       same_ends = search rules;
       same_time = search rules;
       size = search rules;
-      going = entered_on _ _ _ l.invariant.going c.requires.bytes_in_bounds c.in-Some.event.now cut.0.1.0 (cut.0.1.1 ∙ l.invariant.size) c.enter_event-reply.ensures.replied cut.1 cut.2 c.put_result.ensures;
+      going = entered_on _ _ _ l.invariant.going c.requires.bytes_in_bounds c.in-Some.event.now cut.0.1.0 (cut.0.1.1 ∙ l.invariant.size) c.run_event-reply.ensures.replied cut.1 cut.2 c.put_result.ensures;
     }
 
 pub returns-clause-entered : goal.returns-clause-entered
