@@ -311,7 +311,7 @@ uint8_t nimbleshale_lookup_time(const uint32_t head[NIMBLESHALE_HEAD_NUMBERS],
  * Refusals: none of its own.
  * *taken becomes how many bytes of the front of input were taken, *written how many bytes of answers stand at the front of out. Bytes of out
  * behind them are as they were, and input is. Head and slices are left as the commands leave them, one after the other.
- * Stack: 23,656 bytes.
+ * Stack: 23,832 bytes.
  */
 NIMBLESHALE_MUST_USE
 uint8_t nimbleshale_commands(uint32_t head[NIMBLESHALE_HEAD_NUMBERS],
@@ -342,7 +342,7 @@ uint8_t nimbleshale_commands(uint32_t head[NIMBLESHALE_HEAD_NUMBERS],
  * Then no event is tried, and no result word is written.
  * Accepted: the result words of every event are written; those behind them stay as they were, and so do the events. Head and slices are left as
  * the starts and ends leave them, one after the other. A burst of no events is accepted and changes nothing.
- * Stack: 21,976 bytes.
+ * Stack: 22,008 bytes.
  */
 NIMBLESHALE_MUST_USE
 uint8_t nimbleshale_burst(uint32_t head[NIMBLESHALE_HEAD_NUMBERS],
@@ -412,7 +412,7 @@ uint8_t nimbleshale_block_line(const uint8_t block[NIMBLESHALE_BLOCK_BYTES]);
  * are left as the stream's command leaves them.
  *
  * Refusals: none of its own.
- * Stack: 24,920 bytes; a question and a bat-time take 4,280, and a write to another byte than 0 takes 1,456.
+ * Stack: 25,096 bytes; a question and a bat-time take 4,280, and a write to another byte than 0 takes 1,456.
  */
 void nimbleshale_block_write(uint8_t block[NIMBLESHALE_BLOCK_BYTES], size_t offset, uint8_t value, uint32_t head[NIMBLESHALE_HEAD_NUMBERS],
                              uint64_t *start_table, size_t start_table_length, uint64_t *start_roots, size_t start_roots_length,
